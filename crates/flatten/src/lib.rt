@@ -1,0 +1,1 @@
+// Flattening: words judged, and applications of applications joined. Its definitions are in specs/.

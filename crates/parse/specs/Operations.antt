@@ -1,0 +1,47 @@
+-- The operations sort, expression and bind: what each makes of its text, and what it decides in the end.
+use Prim.Native.Nat.{ℕ}
+use mathlib.Core.Bool.{Bool, false}
+use mathlib.Core.List.{List}
+use lib.Dec.{leb}
+use lib.ListN.{length}
+use Rattle.text.specs.Tree.{Tree}
+use Rattle.text.specs.Reading.{readText, readWords}
+use Rattle.text.specs.Answer.{Ans, andThen, check, noRoom, M, _>>=_, chain, done, lifted, Final, finish, fitsIn}
+use Rattle.parse.specs.Sort.{Sort, sortWords}
+use Rattle.parse.specs.Item.{wordsOf}
+use Rattle.parse.specs.Expr.{Expr, exprItems, Bind, bindItems}
+use Rattle.parse.specs.ParseSort.{treeAt, parseSort}
+use Rattle.parse.specs.ParseExpr.{parseExpr}
+use Rattle.parse.specs.ParseBind.{parseBind}
+
+-- The tree that a text begins with; 7 where the tree slice, which has these words, lacks room for it.
+unfoldable pub theTree : List ℕ → List ℕ → Ans Tree
+theTree text tree =
+    andThen (readText false text) λ r.
+    andThen (check (fitsIn tree (readWords r)) noRoom) λ _.
+    treeAt (r .read) 0
+
+unfoldable pub makeSort : List ℕ → List ℕ → M Sort
+makeSort text tree = do
+  t ← lifted (theTree text tree)
+  lifted (parseSort text t)
+
+unfoldable pub makeExpr : List ℕ → List ℕ → M Expr
+makeExpr text tree = do
+  t ← lifted (theTree text tree)
+  parseExpr text t
+
+unfoldable pub makeBind : List ℕ → List ℕ → M Bind
+makeBind text tree = do
+  t ← lifted (theTree text tree)
+  parseBind text t
+
+-- With an output of these words, at the reader's count c; a sort takes no number.
+unfoldable pub sortFinal : List ℕ → List ℕ → List ℕ → Final Sort
+sortFinal text tree out = finish (λ s. fitsIn out (sortWords s)) 0 (makeSort text tree 0)
+
+unfoldable pub exprFinal : List ℕ → List ℕ → List ℕ → ℕ → Final Expr
+exprFinal text tree out c = finish (λ e. fitsIn out (wordsOf (exprItems e))) c (makeExpr text tree 0)
+
+unfoldable pub bindFinal : List ℕ → List ℕ → List ℕ → ℕ → Final Bind
+bindFinal text tree out c = finish (λ b. fitsIn out (wordsOf (bindItems b))) c (makeBind text tree 0)

@@ -1,0 +1,5 @@
+pub mod Session
+pub mod Demand3
+pub mod Compute
+pub mod Shown
+pub mod Table

@@ -1,0 +1,12 @@
+pub mod Limits
+pub mod Pick
+pub mod Bytes
+pub mod Answer
+pub mod Utf8
+pub mod Space
+pub mod Number
+pub mod Decimal
+pub mod Tree
+pub mod Token
+pub mod Reading
+pub mod Compute

@@ -1,0 +1,1 @@
+// The text reader: bytes to the words of trees. Its definitions are in specs/.
