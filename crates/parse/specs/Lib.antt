@@ -10,5 +10,6 @@ pub mod ParseSolution
 pub mod Numbers
 pub mod Scoped
 pub mod Shape
+pub mod Raise
 pub mod Operations
 pub mod Compute

@@ -17,10 +17,14 @@ abbrev pub AllIn : List ℕ → List ℕ → Type 0
 AllIn [] l = Unit {0}
 AllIn (k ∷ ks) l = In k l × AllIn ks l
 
+-- 1 for equal numbers, else 0.
+abbrev pub hit : ℕ → ℕ → ℕ
+hit k x = pick (eqb k x) 1 0
+
 -- How often a number stands in a list.
 unfoldable pub times : ℕ → List ℕ → ℕ
 times k [] = 0
-times k (x ∷ xs) = pick (eqb k x) 1 0 + times k xs
+times k (x ∷ xs) = hit k x + times k xs
 
 -- A list has each number from a up to b, b excluded, once, and no other.
 pub record Exactly (a : ℕ) (l : List ℕ) (b : ℕ) : Type 0 where

@@ -34,9 +34,10 @@ abbrev pub MaybeSortCoded : Maybe Sort → ℕ → Type 0
 MaybeSortCoded nothing limit = Unit {0}
 MaybeSortCoded (just s) limit = SortCoded s limit
 
-abbrev pub BindersCoded : List Binder → ℕ → Type 0
-BindersCoded [] limit = Unit {0}
-BindersCoded (b ∷ bs) limit = (b .var < 2 ^ 64) × SortCoded (b .sort) limit × BindersCoded bs limit
+-- Binders whose numbers are below a bound.
+abbrev pub BindersCoded : List Binder → ℕ → ℕ → Type 0
+BindersCoded [] limit numbers = Unit {0}
+BindersCoded (b ∷ bs) limit numbers = (b .var < numbers) × SortCoded (b .sort) limit × BindersCoded bs limit numbers
 
 -- So many operands are right for a kind.
 abbrev pub HasOperands : Kind → ℕ → Type 0
@@ -60,37 +61,37 @@ HasOperands (kTheory k) n = n ≡ 0
 HasOperands (kIsCtor x) n = n ≡ 1
 HasOperands (kExists bs) n = n ≡ 1
 
--- The fields of a kind are within their codes, and its spans end at most at a limit.
-abbrev pub KindCoded : Kind → ℕ → Type 0
-KindCoded (kNum v) limit = Unit {0}
-KindCoded (kBool b) limit = Unit {0}
-KindCoded (kStr s) limit = SpanWithin s limit
-KindCoded (kBitVec v width) limit = Unit {0}
-KindCoded (kFresh k) limit = k < 2 ^ 64
-KindCoded (kNamed x) limit = SpanWithin (x .span) limit
-KindCoded kNeg limit = Unit {0}
-KindCoded (kBin op) limit = Unit {0}
-KindCoded kIf limit = Unit {0}
-KindCoded kAnd limit = Unit {0}
-KindCoded kOr limit = Unit {0}
-KindCoded kNot limit = Unit {0}
-KindCoded kImp limit = Unit {0}
-KindCoded kIff limit = Unit {0}
-KindCoded (kAtom r) limit = Unit {0}
-KindCoded (kLet x) limit = SpanWithin (x .span) limit
-KindCoded (kTheory k) limit = k < 42
-KindCoded (kIsCtor x) limit = SpanWithin (x .span) limit
-KindCoded (kExists bs) limit = BindersCoded bs limit
+-- The fields of a kind are within their codes, its spans end at most at a limit, and its fresh numbers are below a bound.
+abbrev pub KindCoded : Kind → ℕ → ℕ → Type 0
+KindCoded (kNum v) limit numbers = Unit {0}
+KindCoded (kBool b) limit numbers = Unit {0}
+KindCoded (kStr s) limit numbers = SpanWithin s limit
+KindCoded (kBitVec v width) limit numbers = Unit {0}
+KindCoded (kFresh k) limit numbers = k < numbers
+KindCoded (kNamed x) limit numbers = SpanWithin (x .span) limit
+KindCoded kNeg limit numbers = Unit {0}
+KindCoded (kBin op) limit numbers = Unit {0}
+KindCoded kIf limit numbers = Unit {0}
+KindCoded kAnd limit numbers = Unit {0}
+KindCoded kOr limit numbers = Unit {0}
+KindCoded kNot limit numbers = Unit {0}
+KindCoded kImp limit numbers = Unit {0}
+KindCoded kIff limit numbers = Unit {0}
+KindCoded (kAtom r) limit numbers = Unit {0}
+KindCoded (kLet x) limit numbers = SpanWithin (x .span) limit
+KindCoded (kTheory k) limit numbers = k < 42
+KindCoded (kIsCtor x) limit numbers = SpanWithin (x .span) limit
+KindCoded (kExists bs) limit numbers = BindersCoded bs limit numbers
 
--- An expression that its words give back.
+-- An expression that its words give back, where its fresh numbers are below 2^64.
 abbrev mutual
-  pub Coded : Expr → ℕ → Type 0
-  Coded (node k es) limit = HasOperands k (exprs es) × KindCoded k limit × CodedAll es limit
-  Coded (app o es h) limit = CodedAll es limit × MaybeSortCoded o limit × Coded h limit
+  pub Coded : Expr → ℕ → ℕ → Type 0
+  Coded (node k es) limit numbers = HasOperands k (exprs es) × KindCoded k limit numbers × CodedAll es limit numbers
+  Coded (app o es h) limit numbers = CodedAll es limit numbers × MaybeSortCoded o limit × Coded h limit numbers
 
-  pub CodedAll : Exprs → ℕ → Type 0
-  CodedAll enil limit = Unit {0}
-  CodedAll (econs e es) limit = Coded e limit × CodedAll es limit
+  pub CodedAll : Exprs → ℕ → ℕ → Type 0
+  CodedAll enil limit numbers = Unit {0}
+  CodedAll (econs e es) limit numbers = Coded e limit numbers × CodedAll es limit numbers
 
 -- How many expressions stand inside one another.
 unfoldable mutual

@@ -1,5 +1,5 @@
 -- The trees of a text, and their words.
-use Prim.Native.Nat.{ℕ, suc, max}
+use Prim.Native.Nat.{ℕ, suc, _+_, max}
 use mathlib.Core.Bool.{Bool, true, false}
 use mathlib.Core.List.{List, [], _∷_, _++_}
 use lib.ListN.{length}
@@ -81,3 +81,20 @@ abbrev mutual
   pub AllWithin : Trees → ℕ → Type 0
   AllWithin tnil limit = Unit {0}
   AllWithin (tcons t ts) limit = Within t limit × AllWithin ts limit
+
+-- The fewest bytes that an atom and a tree take in a text.
+abbrev pub atomWeight : Atom → ℕ
+atomWeight (symbol s) = max 1 (s .len)
+atomWeight (quoted s) = 2
+atomWeight (integer w) = 1
+atomWeight (decimal s) = 1
+atomWeight (boolean b) = 4
+
+unfoldable mutual
+  pub weight : Tree → ℕ
+  weight (atom a) = atomWeight a
+  weight (list ts) = 2 + weights ts
+
+  pub weights : Trees → ℕ
+  weights tnil = 0
+  weights (tcons t ts) = weight t + weights ts

@@ -1,0 +1,69 @@
+-- What holds of items of a list, and of binders that are read from trees.
+use Prim.Native.Nat.{ℕ, zero, suc, _+_, _-_, _*_, _≤_}
+use mathlib.Core.Path.{_≡_, refl, ap}
+use mathlib.Core.List.{List}
+use native.Mathlib.Omega.{arith}
+use lib.ListN.{length, length-append}
+use Rattle.text.specs.Tree.{Tree, Trees, list, tnil, tcons, nesting, Within, AllWithin, weight, weights}
+use Rattle.parse.specs.Sort.{Sort, sortWords}
+use Rattle.parse.specs.ParseSort.{inList, treeAt, parseSort}
+use Rattle.parse.specs.Item.{wordsOf}
+use Rattle.parse.specs.Expr.{binderItems}
+use Rattle.parse.specs.Scope.{numbered}
+use Rattle.parse.specs.ParseExpr
+use Rattle.parse.specs.ParseExpr.{Binders, nameOf}
+use Rattle.parse.specs.Shape.{BindersCoded}
+use Rattle.parse.proofs.Items.{words-front}
+use Rattle.parse.proofs.Post.{Every, then-every, any-every, map-every}
+use Rattle.parse.proofs.SortOf.{SortOf, in-list, sort-of}
+use Rattle.parse.proofs.Kept.{BindersOf}
+
+-- A tree that stands among others.
+pub record TreeIn (ts : Trees) (t : Tree) : Type 0 where
+  pub within : (limit : ℕ) → AllWithin ts limit → Within t limit
+  pub weighs : weight t ≤ weights ts
+
+pub tree-at : (ts : Trees) (i : ℕ) → Every (treeAt ts i) (TreeIn ts)
+unfolding treeAt weight
+tree-at tnil i = tt
+tree-at (tcons t ts) zero = record { within = λ limit w. w .0; weighs = omega arith }
+tree-at (tcons t ts) (suc i) =
+    map-every (treeAt ts i) (TreeIn ts) (TreeIn (tcons t ts)) (λ u h. record { within = λ limit w. h .within limit (w .1); weighs = omega (arith, h .weighs) }) (tree-at ts i)
+
+-- A sort from an item of a list.
+pub sort-from : (ts : Trees) (t : Tree) (o : Sort) → TreeIn ts t → SortOf t o → SortOf (list ts) o
+unfolding weight
+sort-from ts t o i s = record { coded = λ limit w. s .coded limit (i .within limit w); size = omega (arith, i .weighs, s .size) }
+
+module _ (text : List ℕ) where
+  -- The sort of a `(name sort)`, and that the parentheses leave room for a number.
+  pub sort-in : (t : Tree) → Every (ParseExpr.sortIn text t) (λ o. SortOf t o × (length (sortWords o) + 31 ≤ 15 * weight t))
+  unfolding ParseExpr.sortIn weight
+  sort-in t =
+      then-every (inList t) _ (λ ts. t ≡ list ts) _ (in-list t) λ ts e.
+      then-every (treeAt ts 1) _ (TreeIn ts) _ (tree-at ts 1) λ u i.
+      map-every (parseSort text u) (SortOf u) _ (λ o s. rw e (sort-from ts u o i s, omega (arith, s .size, i .weighs))) (sort-of text u)
+
+  record BindersFrom (ts : Trees) (bs : Binders) : Type 0 where
+    pub even : length (bs .names) ≡ length (bs .sorts)
+    pub coded : (limit numbers k : ℕ) → AllWithin ts limit → k + length (bs .sorts) ≤ numbers → BindersCoded (numbered k (bs .sorts)) limit numbers
+    pub size : (k : ℕ) → length (wordsOf (binderItems (numbered k (bs .sorts)))) + length (bs .sorts) ≤ 15 * weights ts
+
+  binders-from : (ts : Trees) → Every (ParseExpr.binders text ts) (BindersFrom ts)
+  unfolding ParseExpr.binders numbered binderItems wordsOf weight
+  binders-from tnil = record { even = refl; coded = λ limit numbers k w h. tt; size = λ k. omega arith }
+  binders-from (tcons t ts) =
+      any-every (nameOf t) _ _ λ s.
+      then-every (ParseExpr.sortIn text t) _ (λ o. SortOf t o × (length (sortWords o) + 31 ≤ 15 * weight t)) _ (sort-in t) λ o p.
+      then-every (ParseExpr.binders text ts) _ (BindersFrom ts) _ (binders-from ts) λ bs h.
+      record {
+        even = ap suc (h .even);
+        coded = λ limit numbers k w le. (omega arith, p .0 .coded limit (w .0), h .coded limit numbers (suc k) (w .1) (omega arith));
+        size = λ k. omega (arith, p .1, h .size (suc k), ap length (words-front (sortWords o) (binderItems (numbered (suc k) (bs .sorts)))), length-append (sortWords o) (wordsOf (binderItems (numbered (suc k) (bs .sorts)))));
+      }
+
+  -- The binders of a list of binders.
+  pub binders-of : (ts : Trees) → Every (ParseExpr.binders text ts) (λ bs. BindersOf (list ts) (bs .names) (bs .sorts))
+  unfolding weight nesting
+  binders-of ts =
+      map-every (ParseExpr.binders text ts) (BindersFrom ts) _ (λ bs h. record { even = h .even; coded = h .coded; size = λ k. omega (arith, h .size k); nests = omega arith }) (binders-from ts)

@@ -1,0 +1,15 @@
+pub mod Items
+pub mod Same
+pub mod Raise
+pub mod Post
+pub mod SortOf
+pub mod Kept
+pub mod Forms
+pub mod BindersOf
+pub mod Walk
+pub mod Exact
+pub mod Good
+pub mod WalkPreds
+pub mod SolutionOf
+pub mod Small
+pub mod Size

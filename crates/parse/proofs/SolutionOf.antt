@@ -1,0 +1,95 @@
+-- What holds of the solution that a tree is read as, before flattening.
+use Prim.Native.Nat.{ℕ, suc, _+_, _*_, _≤_, max}
+use mathlib.Core.Path.{_≡_, refl, sym, ap, _∙_}
+use mathlib.Core.Bool.{Bool, true, false}
+use mathlib.Core.List.{List, [], _∷_}
+use native.Mathlib.Omega.{arith}
+use lib.Dec.{eqb}
+use lib.ListN.{length, length-append}
+use Rattle.text.specs.Bytes.{Span}
+use Rattle.text.specs.Tree.{Tree, Trees, atom, list, tnil, tcons, trees, nesting, nestings, Within, AllWithin, weight, weights}
+use Rattle.text.specs.Answer.{Ans, got, bad, andThen, check, malformed, chain, lifted, fresh}
+use Rattle.text.proofs.Weight.{weight-some}
+use Rattle.parse.specs.Sort.{Sort, sortWords}
+use Rattle.parse.specs.Item.{wordsOf}
+use Rattle.parse.specs.Expr.{Expr, Exprs, Solution, binderItems}
+use Rattle.parse.specs.ParseSort.{inList, treeAt}
+use Rattle.parse.specs.Scope.{Scope, numbered, distinct}
+use Rattle.parse.specs.ParseExpr
+use Rattle.parse.specs.ParseExpr.{nameOf}
+use Rattle.parse.specs.ParseSolution.{allNames, allSorts, parseSolution}
+use Rattle.parse.specs.Shape.{BindersCoded}
+use Rattle.parse.proofs.Items.{words-front}
+use Rattle.parse.proofs.Post.{Post, Every, chain-post, lifted-post, any-post, then-every, any-every, map-every}
+use Rattle.parse.proofs.SortOf.{SortOf, in-list}
+use Rattle.parse.proofs.Kept.{BindersOf, Kept}
+use Rattle.parse.proofs.BindersOf.{sort-in}
+use Rattle.parse.proofs.Walk.{ChildOf, child-of}
+
+all-names : (ts : Trees) → Every (allNames ts) (λ ss. length ss ≡ trees ts)
+unfolding allNames trees
+all-names tnil = refl
+all-names (tcons t ts) =
+    any-every (nameOf t) _ _ λ s.
+    then-every (allNames ts) _ (λ ss. length ss ≡ trees ts) _ (all-names ts) λ ss e.
+    ap suc e
+
+module _ (text : List ℕ) where
+  record SortsFrom (ts : Trees) (os : List Sort) : Type 0 where
+    pub even : length os ≡ trees ts
+    pub coded : (limit numbers k : ℕ) → AllWithin ts limit → k + length os ≤ numbers → BindersCoded (numbered k os) limit numbers
+    pub size : (k : ℕ) → length (wordsOf (binderItems (numbered k os))) + length os ≤ 15 * weights ts
+
+  all-sorts : (ts : Trees) → Every (allSorts text ts) (SortsFrom ts)
+  unfolding allSorts trees numbered binderItems wordsOf weight
+  all-sorts tnil = record { even = refl; coded = λ limit numbers k w h. tt; size = λ k. omega arith }
+  all-sorts (tcons t ts) =
+      then-every (ParseExpr.sortIn text t) _ (λ o. SortOf t o × (length (sortWords o) + 31 ≤ 15 * weight t)) _ (sort-in text t) λ o p.
+      then-every (allSorts text ts) _ (SortsFrom ts) _ (all-sorts ts) λ os h.
+      record {
+        even = ap suc (h .even);
+        coded = λ limit numbers k w le. (omega arith, p .0 .coded limit (w .0), h .coded limit numbers (suc k) (w .1) (omega arith));
+        size = λ k. omega (arith, p .1, h .size (suc k), ap length (words-front (sortWords o) (binderItems (numbered (suc k) os))), length-append (sortWords o) (wordsOf (binderItems (numbered (suc k) os))));
+      }
+
+  -- The trees of parameters and body, the parameters' names and sorts, and what is kept of the body.
+  pub record SolutionOf (Inv : Tree → List Scope → ℕ → Expr → ℕ → Type 0) (t : Tree) (n : ℕ) (s : Solution) (m : ℕ) : Type 0 where
+    pub names : List Span
+    pub sorts : List Sort
+    pub paramsTree : Tree
+    pub bodyTree : Tree
+    pub nests : suc (nesting bodyTree) ≤ nesting t
+    pub weighs : 2 + (weight paramsTree + weight bodyTree) ≤ weight t
+    pub within : (limit : ℕ) → Within t limit → Within paramsTree limit × Within bodyTree limit
+    pub params : s .params ≡ numbered n sorts
+    pub binders : BindersOf paramsTree names sorts
+    pub body : Inv bodyTree (record { names = names; first = n } ∷ []) (n + length sorts) (s .body) m
+
+  module _ (Inv : Tree → List Scope → ℕ → Expr → ℕ → Type 0) (InvAll : Trees → List Scope → ℕ → Exprs → ℕ → Type 0) (kept : Kept text Inv InvAll) where
+    pub solution-of : (t : Tree) (n : ℕ) → Post (parseSolution text t n) (SolutionOf Inv t n)
+    unfolding parseSolution inList treeAt trees nesting weight
+    solution-of (atom a) n = tt
+    solution-of (list tnil) n = tt
+    solution-of (list (tcons a tnil)) n = tt
+    solution-of (list (tcons a (tcons b tnil))) n = tt
+    solution-of (list (tcons a (tcons b (tcons c us)))) n =
+        any-post (check (eqb (suc (suc (suc (trees us)))) 3) malformed) n _ _ λ _.
+        lifted-post (inList b) n _ (λ ps. b ≡ list ps) _ (in-list b) λ ps be.
+        lifted-post (allNames ps) n _ (λ ss. length ss ≡ trees ps) _ (all-names ps) λ names en.
+        lifted-post (allSorts text ps) n _ (SortsFrom ps) _ (all-sorts ps) λ sorts so.
+        let sc : List Scope = record { names = names; first = n } ∷ [] in
+        let m₀ : ℕ = n + length sorts in
+        chain-post (ParseExpr.child text c .plainly sc m₀) _ (Inv c sc m₀) _ (child-of text Inv InvAll kept c .plainly sc m₀) λ e m h.
+        any-post (distinct text names) m _ _ λ _.
+        record {
+          names = names;
+          sorts = sorts;
+          paramsTree = b;
+          bodyTree = c;
+          nests = omega arith;
+          weighs = omega arith;
+          within = λ limit w. (w .1 .0, w .1 .1 .0);
+          params = refl;
+          binders = rw be (record { even = en ∙ sym (so .even); coded = so .coded; size = λ k. omega (arith, so .size k); nests = omega arith });
+          body = h;
+        }

@@ -1,0 +1,13 @@
+pub mod Picks
+pub mod Bytes
+pub mod Token
+pub mod Post
+pub mod Sound
+pub mod Walk
+pub mod Grammar
+pub mod Found
+pub mod One
+pub mod Read
+pub mod Over
+pub mod Weight
+pub mod ReadWeight
