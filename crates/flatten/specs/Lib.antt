@@ -1,4 +1,5 @@
 pub mod Uncurry
+pub mod Flat
 pub mod Judge
 pub mod Operations
 pub mod Compute

@@ -1,9 +1,10 @@
 -- What holds of items of a list, and of binders that are read from trees.
 use Prim.Native.Nat.{ℕ, zero, suc, _+_, _-_, _*_, _≤_}
 use mathlib.Core.Path.{_≡_, refl, ap}
-use mathlib.Core.List.{List}
+use mathlib.Core.List.{List, [], _∷_}
 use native.Mathlib.Omega.{arith}
 use lib.ListN.{length, length-append}
+use Rattle.text.specs.Bytes.{Span}
 use Rattle.text.specs.Tree.{Tree, Trees, list, tnil, tcons, nesting, Within, AllWithin, weight, weights}
 use Rattle.parse.specs.Sort.{Sort, sortWords}
 use Rattle.parse.specs.ParseSort.{inList, treeAt, parseSort}
@@ -13,6 +14,7 @@ use Rattle.parse.specs.Scope.{numbered}
 use Rattle.parse.specs.ParseExpr
 use Rattle.parse.specs.ParseExpr.{Binders, nameOf}
 use Rattle.parse.specs.Shape.{BindersCoded}
+use Rattle.text.proofs.Weight.{weight-some}
 use Rattle.parse.proofs.Items.{words-front}
 use Rattle.parse.proofs.Post.{Every, then-every, any-every, map-every}
 use Rattle.parse.proofs.SortOf.{SortOf, in-list, sort-of}
@@ -35,35 +37,54 @@ pub sort-from : (ts : Trees) (t : Tree) (o : Sort) → TreeIn ts t → SortOf t 
 unfolding weight
 sort-from ts t o i s = record { coded = λ limit w. s .coded limit (i .within limit w); size = omega (arith, i .weighs, s .size) }
 
+-- The sorts of binders, each read from one of these trees.
+pub record SortsFrom (ts : Trees) (os : List Sort) : Type 0 where
+  pub coded : (limit numbers k : ℕ) → AllWithin ts limit → k + length os ≤ numbers → BindersCoded (numbered k os) limit numbers
+  pub size : (k : ℕ) → length (wordsOf (binderItems (numbered k os))) + length os ≤ 15 * weights ts
+  pub few : length os ≤ weights ts
+
+pub sorts-none : SortsFrom tnil []
+unfolding numbered binderItems wordsOf weight
+sorts-none = record { coded = λ limit numbers k w h. tt; size = λ k. omega arith; few = omega arith }
+
+-- A binder's sort, with room for its number.
+abbrev pub BinderSort : Tree → Sort → Type 0
+BinderSort t o = SortOf t o × (length (sortWords o) + 31 ≤ 15 * weight t)
+
+pub sorts-more : (t : Tree) (ts : Trees) (o : Sort) (os : List Sort) → BinderSort t o → SortsFrom ts os → SortsFrom (tcons t ts) (o ∷ os)
+unfolding numbered binderItems wordsOf weight
+sorts-more t ts o os p h =
+    record {
+      coded = λ limit numbers k w le. (omega arith, p .0 .coded limit (w .0), h .coded limit numbers (suc k) (w .1) (omega arith));
+      size = λ k. omega (arith, p .1, h .size (suc k), ap length (words-front (sortWords o) (binderItems (numbered (suc k) os))), length-append (sortWords o) (wordsOf (binderItems (numbered (suc k) os))));
+      few = omega (arith, h .few, weight-some t);
+    }
+
+-- Names and sorts of a list of binders, as many of the one as of the other.
+pub binders-made : (ts : Trees) (names : List Span) (os : List Sort) → length names ≡ length os → SortsFrom ts os → BindersOf (list ts) names os
+unfolding weight nesting
+binders-made ts names os e h =
+    record { even = e; coded = h .coded; size = λ k. omega (arith, h .size k); few = omega (arith, h .few); nests = omega arith }
+
 module _ (text : List ℕ) where
   -- The sort of a `(name sort)`, and that the parentheses leave room for a number.
-  pub sort-in : (t : Tree) → Every (ParseExpr.sortIn text t) (λ o. SortOf t o × (length (sortWords o) + 31 ≤ 15 * weight t))
+  pub sort-in : (t : Tree) → Every (ParseExpr.sortIn text t) (BinderSort t)
   unfolding ParseExpr.sortIn weight
   sort-in t =
       then-every (inList t) _ (λ ts. t ≡ list ts) _ (in-list t) λ ts e.
       then-every (treeAt ts 1) _ (TreeIn ts) _ (tree-at ts 1) λ u i.
       map-every (parseSort text u) (SortOf u) _ (λ o s. rw e (sort-from ts u o i s, omega (arith, s .size, i .weighs))) (sort-of text u)
 
-  record BindersFrom (ts : Trees) (bs : Binders) : Type 0 where
-    pub even : length (bs .names) ≡ length (bs .sorts)
-    pub coded : (limit numbers k : ℕ) → AllWithin ts limit → k + length (bs .sorts) ≤ numbers → BindersCoded (numbered k (bs .sorts)) limit numbers
-    pub size : (k : ℕ) → length (wordsOf (binderItems (numbered k (bs .sorts)))) + length (bs .sorts) ≤ 15 * weights ts
-
-  binders-from : (ts : Trees) → Every (ParseExpr.binders text ts) (BindersFrom ts)
-  unfolding ParseExpr.binders numbered binderItems wordsOf weight
-  binders-from tnil = record { even = refl; coded = λ limit numbers k w h. tt; size = λ k. omega arith }
+  binders-from : (ts : Trees) → Every (ParseExpr.binders text ts) (λ bs. (length (bs .names) ≡ length (bs .sorts)) × SortsFrom ts (bs .sorts))
+  unfolding ParseExpr.binders
+  binders-from tnil = (refl, sorts-none)
   binders-from (tcons t ts) =
       any-every (nameOf t) _ _ λ s.
-      then-every (ParseExpr.sortIn text t) _ (λ o. SortOf t o × (length (sortWords o) + 31 ≤ 15 * weight t)) _ (sort-in t) λ o p.
-      then-every (ParseExpr.binders text ts) _ (BindersFrom ts) _ (binders-from ts) λ bs h.
-      record {
-        even = ap suc (h .even);
-        coded = λ limit numbers k w le. (omega arith, p .0 .coded limit (w .0), h .coded limit numbers (suc k) (w .1) (omega arith));
-        size = λ k. omega (arith, p .1, h .size (suc k), ap length (words-front (sortWords o) (binderItems (numbered (suc k) (bs .sorts)))), length-append (sortWords o) (wordsOf (binderItems (numbered (suc k) (bs .sorts)))));
-      }
+      then-every (ParseExpr.sortIn text t) _ (BinderSort t) _ (sort-in t) λ o p.
+      then-every (ParseExpr.binders text ts) _ (λ bs. (length (bs .names) ≡ length (bs .sorts)) × SortsFrom ts (bs .sorts)) _ (binders-from ts) λ bs h.
+      (ap suc (h .0), sorts-more t ts o (bs .sorts) p (h .1))
 
   -- The binders of a list of binders.
   pub binders-of : (ts : Trees) → Every (ParseExpr.binders text ts) (λ bs. BindersOf (list ts) (bs .names) (bs .sorts))
-  unfolding weight nesting
   binders-of ts =
-      map-every (ParseExpr.binders text ts) (BindersFrom ts) _ (λ bs h. record { even = h .even; coded = h .coded; size = λ k. omega (arith, h .size k); nests = omega arith }) (binders-from ts)
+      map-every (ParseExpr.binders text ts) (λ bs. (length (bs .names) ≡ length (bs .sorts)) × SortsFrom ts (bs .sorts)) _ (λ bs h. binders-made ts (bs .names) (bs .sorts) (h .0) (h .1)) (binders-from ts)

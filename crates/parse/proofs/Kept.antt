@@ -29,6 +29,7 @@ pub record BindersOf (t : Tree) (names : List Span) (sorts : List Sort) : Type 0
   pub even : length names ≡ length sorts
   pub coded : (limit numbers k : ℕ) → Within t limit → k + length sorts ≤ numbers → BindersCoded (numbered k sorts) limit numbers
   pub size : (k : ℕ) → length (wordsOf (binderItems (numbered k sorts))) + length sorts ≤ 15 * weight t
+  pub few : length sorts ≤ weight t
   pub nests : 1 ≤ nesting t
 
 -- What is to be kept: of an expression that is read from a tree under scopes, taking the numbers from n up to m; of several that are read

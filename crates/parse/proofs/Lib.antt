@@ -13,3 +13,5 @@ pub mod WalkPreds
 pub mod SolutionOf
 pub mod Small
 pub mod Size
+pub mod Lengths
+pub mod Raised

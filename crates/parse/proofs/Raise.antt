@@ -1,11 +1,10 @@
--- Raising the fresh numbers of an expression raises them in its items, and changes neither its size nor its shape. Assumes nothing.
+-- Raising the fresh numbers of an expression raises them in its items, and changes neither its size nor its shape.
 use Prim.Native.Nat.{ℕ, suc, _+_, max}
 use mathlib.Core.Path.{_≡_, refl, sym, ap, ap₂, _∙_}
 use mathlib.Core.List.{List, [], _∷_, _++_}
 use native.Mathlib.Nat.{zero-add}
 use lib.ListN.{length}
 use Rattle.text.specs.Bytes.{Maybe, nothing, just}
-use Rattle.text.specs.Tree.{spanWords, wideWords}
 use Rattle.parse.specs.Sort.{Sort, sortWords}
 use Rattle.parse.specs.Item.{Item, plain, uses, binds, plains, raise, wordsOf}
 use Rattle.parse.specs.Expr.{Binder, Kind, kNum, kBool, kStr, kBitVec, kFresh, kNamed, kNeg, kBin, kIf, kAnd, kOr, kNot, kImp, kIff, kAtom, kLet, kTheory, kIsCtor, kExists, Expr, Exprs, node, app, enil, econs, exprs, Solution, sortItems, binderItems, kindItems, flag, outSort, exprItems, exprsItems, solutionItems}
@@ -26,6 +25,7 @@ unfolding raise
 raise-plains c [] = refl
 raise-plains c (w ∷ ws) = ap (λ l. plain w ∷ l) (raise-plains c ws)
 
+-- Plain words in front of other items stay as they are.
 pub raise-front : (c : ℕ) (ws : List ℕ) (its : List Item) → raise c (plains ws ++ its) ≡ plains ws ++ raise c its
 unfolding raise
 raise-front c [] its = refl
@@ -51,23 +51,26 @@ words-raise c (binds k ∷ its) = ap (λ n. suc (suc n)) (words-raise c its)
 raise-two : (c : ℕ) (a b a′ b′ : List Item) → a′ ≡ raise c a → b′ ≡ raise c b → a′ ++ b′ ≡ raise c (a ++ b)
 raise-two c a b a′ b′ p q = ap₂ _++_ p q ∙ sym (raise-append c a b)
 
--- The items of raised binders, kinds, expressions and solutions are the items raised.
+-- The items of raised binders are the items raised.
 pub binders-raise : (c : ℕ) (bs : List Binder) → binderItems (raiseBinders c bs) ≡ raise c (binderItems bs)
 unfolding binderItems raiseBinders raise
 binders-raise c [] = refl
 binders-raise c (b ∷ bs) =
     ap (λ l. binds (c + b .var) ∷ l) (ap (λ l. sortItems (b .sort) ++ l) (binders-raise c bs) ∙ sym (raise-front c (sortWords (b .sort)) (binderItems bs)))
 
+-- As many binders.
 pub length-raise : (c : ℕ) (bs : List Binder) → length (raiseBinders c bs) ≡ length bs
 unfolding raiseBinders
 length-raise c [] = refl
 length-raise c (b ∷ bs) = ap suc (length-raise c bs)
 
+-- As many expressions.
 pub exprs-raise : (c : ℕ) (es : Exprs) → exprs (raiseExprs c es) ≡ exprs es
 unfolding raiseExpr exprs
 exprs-raise c enil = refl
 exprs-raise c (econs e es) = ap suc (exprs-raise c es)
 
+-- The items of a raised kind.
 pub kind-raise : (c : ℕ) (k : Kind) (n : ℕ) → kindItems (raiseKind c k) n ≡ raise c (kindItems k n)
 unfolding raiseKind kindItems raise
 kind-raise c (kNum v) n = refl
@@ -90,6 +93,7 @@ kind-raise c (kTheory k) n = refl
 kind-raise c (kIsCtor x) n = refl
 kind-raise c (kExists bs) n = ap₂ (λ m l. plain 51 ∷ plain m ∷ l) (length-raise c bs) (binders-raise c bs)
 
+-- An output sort has no fresh number.
 out-raise : (c : ℕ) (o : Maybe Sort) → outSort o ≡ raise c (outSort o)
 unfolding raise
 out-raise c nothing = refl
@@ -98,29 +102,33 @@ out-raise c (just s) = sym (raise-plains c (sortWords s))
 mutual
   unfolding raiseExpr exprItems raise
 
+  -- The items of a raised expression are its items raised.
   pub items-raise : (c : ℕ) (e : Expr) → exprItems (raiseExpr c e) ≡ raise c (exprItems e)
   items-raise c (node k es) =
       raise-two c (kindItems k (exprs es)) (exprsItems es) _ _ (ap (kindItems (raiseKind c k)) (exprs-raise c es) ∙ kind-raise c k (exprs es)) (all-items-raise c es)
   items-raise c (app o es h) =
       ap₂ (λ n l. plain 38 ∷ plain (flag o) ∷ plain n ∷ l) (exprs-raise c es) (raise-two c (exprsItems es) (outSort o ++ exprItems h) _ _ (all-items-raise c es) (raise-two c (outSort o) (exprItems h) _ _ (out-raise c o) (items-raise c h)))
 
+  -- The same for several expressions.
   pub all-items-raise : (c : ℕ) (es : Exprs) → exprsItems (raiseExprs c es) ≡ raise c (exprsItems es)
   all-items-raise c enil = refl
   all-items-raise c (econs e es) = raise-two c (exprItems e) (exprsItems es) _ _ (items-raise c e) (all-items-raise c es)
 
+-- The same for a solution.
 pub solution-raise : (c : ℕ) (s : Solution) → solutionItems (raiseSolution c s) ≡ raise c (solutionItems s)
 unfolding raiseSolution solutionItems raise
 solution-raise c s =
     ap₂ (λ n l. plain n ∷ l) (length-raise c (s .params)) (raise-two c (binderItems (s .params)) (exprItems (s .body)) _ _ (binders-raise c (s .params)) (items-raise c (s .body)))
 
--- Raised expressions nest as deep.
 mutual
   unfolding raiseExpr depth
 
+  -- A raised expression nests as deep.
   pub depth-raise : (c : ℕ) (e : Expr) → depth (raiseExpr c e) ≡ depth e
   depth-raise c (node k es) = ap suc (depths-raise c es)
   depth-raise c (app o es h) = ap₂ (λ m n. suc (max m n)) (depths-raise c es) (depth-raise c h)
 
+  -- The same for several expressions.
   pub depths-raise : (c : ℕ) (es : Exprs) → depths (raiseExprs c es) ≡ depths es
   depths-raise c enil = refl
   depths-raise c (econs e es) = ap₂ max (depth-raise c e) (depths-raise c es)

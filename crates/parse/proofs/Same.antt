@@ -1,4 +1,4 @@
--- Lists that have the same numbers, each as often. Assumes nothing.
+-- Lists that have the same numbers, each as often.
 use Prim.Native.Nat.{ℕ, _+_}
 use mathlib.Core.Path.{_≡_, refl, sym, ap, ap₂, _∙_}
 use mathlib.Core.List.{List, [], _∷_, _++_}
@@ -17,18 +17,23 @@ pub record Same (a b : List ℕ) : Type 0 where
   pub often : (k : ℕ) → times k a ≡ times k b
   pub long : length a ≡ length b
 
+-- A list is the same as itself.
 pub same-refl : (a : List ℕ) → Same a a
 same-refl a = record { often = λ k. refl; long = refl }
 
+-- Equal lists are the same.
 pub same-of : (a b : List ℕ) → a ≡ b → Same a b
 same-of a b e = record { often = λ k. ap (times k) e; long = ap length e }
 
+-- The other way round.
 pub same-sym : (a b : List ℕ) → Same a b → Same b a
 same-sym a b s = record { often = λ k. sym (s .often k); long = sym (s .long) }
 
+-- One after the other.
 pub same-trans : (a b c : List ℕ) → Same a b → Same b c → Same a c
 same-trans a b c s t = record { often = λ k. s .often k ∙ t .often k; long = s .long ∙ t .long }
 
+-- Two parts that are the same one by one.
 pub same-append : (a b c d : List ℕ) → Same a c → Same b d → Same (a ++ b) (c ++ d)
 same-append a b c d s t =
     record { often = λ k. simp times-append (ap₂ _+_ (s .often k) (t .often k)); long = simp length-append (ap₂ _+_ (s .long) (t .long)) }

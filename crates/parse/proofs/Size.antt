@@ -1,4 +1,4 @@
--- How many words the parser's answers have: at most 15 for each byte that the tree takes.
+-- How many words the parser's answers have, and how many numbers they take: at most 15 words and one number for each byte that the tree takes.
 use Prim.Native.Nat.{ℕ, suc, _+_, _*_, _^_, _≤_}
 use mathlib.Core.Path.{_≡_, refl, ap, _∙_}
 use mathlib.Core.Bool.{Bool}
@@ -18,20 +18,19 @@ use Rattle.parse.specs.Names.{theory}
 use Rattle.parse.specs.Scope
 use Rattle.parse.specs.Scope.{Scope, numbered}
 use Rattle.parse.specs.ParseExpr.{numeral}
-use Rattle.parse.proofs.Items.{words-append, words-front}
+use Rattle.parse.proofs.Items.{length-words, words-front}
 use Rattle.parse.proofs.SortOf.{SortOf}
 use Rattle.parse.proofs.Kept.{PlainKind, BindersOf, Kept}
 
 pub record Sized (t : Tree) (sc : List Scope) (n : ℕ) (e : Expr) (m : ℕ) : Type 0 where
   pub words : length (wordsOf (exprItems e)) ≤ 15 * weight t
+  pub numbers : m ≤ n + weight t
 
 pub record SizedAll (ts : Trees) (sc : List Scope) (n : ℕ) (es : Exprs) (m : ℕ) : Type 0 where
   pub words : length (wordsOf (exprsItems es)) ≤ 15 * weights ts
+  pub numbers : m ≤ n + weights ts
 
--- The words of two lists of items.
-both-long : (a b : List Item) → length (wordsOf (a ++ b)) ≡ length (wordsOf a) + length (wordsOf b)
-both-long a b = ap length (words-append a b) ∙ length-append (wordsOf a) (wordsOf b)
-
+-- The words of a sort in front of items.
 sort-long : (o : Sort) (its : List Item) → length (wordsOf (sortItems o ++ its)) ≡ length (sortWords o) + length (wordsOf its)
 sort-long o its = ap length (words-front (sortWords o) its) ∙ length-append (sortWords o) (wordsOf its)
 
@@ -40,7 +39,7 @@ unfolding exprItems
 lone-long e = ap (λ l. length (wordsOf l)) (append-nil (exprItems e))
 
 sized-leaf : (t : Tree) (sc : List Scope) (n : ℕ) (k : Kind) → length (wordsOf (exprItems (leaf k))) ≤ 15 → Sized t sc n (leaf k) n
-sized-leaf t sc n k h = record { words = omega (arith, h, weight-some t) }
+sized-leaf t sc n k h = record { words = omega (arith, h, weight-some t); numbers = omega arith }
 
 module _ (text : List ℕ) where
   on-symbol : (s : Span) (sc : List Scope) (n : ℕ) → Sized (atom (symbol s)) sc n (Scope.symbolExpr text s sc) n
@@ -60,7 +59,7 @@ module _ (text : List ℕ) where
   on-integer w sc n =
       pick-holds (ltb (valueOf w) (2 ^ 127)) (leaf (kNum w)) (node kNeg (oneOf (leaf (kNum (minusOf w))))) (λ e. Sized (atom (integer w)) sc n e n)
       (sized-leaf (atom (integer w)) sc n (kNum w) (omega arith))
-      (record { words = omega arith })
+      (record { words = omega arith; numbers = omega arith })
 
   -- Every expression that the parser builds is sized so.
   pub sized : Kept text Sized SizedAll
@@ -71,12 +70,12 @@ module _ (text : List ℕ) where
         onQuoted = λ s sc n. sized-leaf (atom (quoted s)) sc n (kStr s) (omega arith);
         onInteger = on-integer;
         onBoolean = λ b sc n. sized-leaf (atom (boolean b)) sc n (kBool b) (omega arith);
-        none = λ ts sc n. record { words = omega arith };
-        more = λ t ts sc n m p e es h k. record { words = omega (arith, both-long (exprItems e) (exprsItems es), h .words, k .words) };
-        skip = λ t ts sc n m es h. record { words = omega (arith, h .words) };
-        item = λ ts sc n m e h. record { words = omega (arith, lone-long e, h .words) };
-        onNode = λ ts sc n m k es p a h. record { words = omega (arith, both-long (kindItems k (exprs es)) (exprsItems es), p .size (exprs es), h .words) };
-        onCall = λ t ts sc n m p es h x y. record { words = omega (arith, both-long (exprsItems es) (exprItems h), x .words, y .words) };
-        onAs = λ t ts sc n m o e s h. record { words = omega (arith, sort-long o (exprItems e), lone-long e, s .size, h .words) };
-        onExists = λ s v ts sc n m names sorts e b h. record { words = omega (arith, both-long (binderItems (numbered n sorts)) (exprItems e ++ []), b .size n, h .words) };
+        none = λ ts sc n. record { words = omega arith; numbers = omega arith };
+        more = λ t ts sc n m p e es h k. record { words = omega (arith, length-words (exprItems e) (exprsItems es), h .words, k .words); numbers = omega (arith, h .numbers, k .numbers) };
+        skip = λ t ts sc n m es h. record { words = omega (arith, h .words); numbers = omega (arith, h .numbers) };
+        item = λ ts sc n m e h. record { words = omega (arith, lone-long e, h .words); numbers = omega (arith, h .numbers) };
+        onNode = λ ts sc n m k es p a h. record { words = omega (arith, length-words (kindItems k (exprs es)) (exprsItems es), p .size (exprs es), h .words); numbers = omega (arith, h .numbers) };
+        onCall = λ t ts sc n m p es h x y. record { words = omega (arith, length-words (exprsItems es) (exprItems h), x .words, y .words); numbers = omega (arith, x .numbers, y .numbers) };
+        onAs = λ t ts sc n m o e s h. record { words = omega (arith, sort-long o (exprItems e), lone-long e, s .size, h .words); numbers = omega (arith, h .numbers) };
+        onExists = λ s v ts sc n m names sorts e b h. record { words = omega (arith, length-words (binderItems (numbered n sorts)) (exprItems e ++ []), b .size n, h .words); numbers = omega (arith, b .few, h .numbers) };
       }

@@ -23,7 +23,7 @@ use Rattle.parse.proofs.Items.{words-front}
 use Rattle.parse.proofs.Post.{Post, Every, chain-post, lifted-post, any-post, then-every, any-every, map-every}
 use Rattle.parse.proofs.SortOf.{SortOf, in-list}
 use Rattle.parse.proofs.Kept.{BindersOf, Kept}
-use Rattle.parse.proofs.BindersOf.{sort-in}
+use Rattle.parse.proofs.BindersOf.{BinderSort, SortsFrom, sorts-none, sorts-more, binders-made, sort-in}
 use Rattle.parse.proofs.Walk.{ChildOf, child-of}
 
 all-names : (ts : Trees) → Every (allNames ts) (λ ss. length ss ≡ trees ts)
@@ -35,22 +35,13 @@ all-names (tcons t ts) =
     ap suc e
 
 module _ (text : List ℕ) where
-  record SortsFrom (ts : Trees) (os : List Sort) : Type 0 where
-    pub even : length os ≡ trees ts
-    pub coded : (limit numbers k : ℕ) → AllWithin ts limit → k + length os ≤ numbers → BindersCoded (numbered k os) limit numbers
-    pub size : (k : ℕ) → length (wordsOf (binderItems (numbered k os))) + length os ≤ 15 * weights ts
-
-  all-sorts : (ts : Trees) → Every (allSorts text ts) (SortsFrom ts)
-  unfolding allSorts trees numbered binderItems wordsOf weight
-  all-sorts tnil = record { even = refl; coded = λ limit numbers k w h. tt; size = λ k. omega arith }
+  all-sorts : (ts : Trees) → Every (allSorts text ts) (λ os. (length os ≡ trees ts) × SortsFrom ts os)
+  unfolding allSorts trees
+  all-sorts tnil = (refl, sorts-none)
   all-sorts (tcons t ts) =
-      then-every (ParseExpr.sortIn text t) _ (λ o. SortOf t o × (length (sortWords o) + 31 ≤ 15 * weight t)) _ (sort-in text t) λ o p.
-      then-every (allSorts text ts) _ (SortsFrom ts) _ (all-sorts ts) λ os h.
-      record {
-        even = ap suc (h .even);
-        coded = λ limit numbers k w le. (omega arith, p .0 .coded limit (w .0), h .coded limit numbers (suc k) (w .1) (omega arith));
-        size = λ k. omega (arith, p .1, h .size (suc k), ap length (words-front (sortWords o) (binderItems (numbered (suc k) os))), length-append (sortWords o) (wordsOf (binderItems (numbered (suc k) os))));
-      }
+      then-every (ParseExpr.sortIn text t) _ (BinderSort t) _ (sort-in text t) λ o p.
+      then-every (allSorts text ts) _ (λ os. (length os ≡ trees ts) × SortsFrom ts os) _ (all-sorts ts) λ os h.
+      (ap suc (h .0), sorts-more t ts o os p (h .1))
 
   -- The trees of parameters and body, the parameters' names and sorts, and what is kept of the body.
   pub record SolutionOf (Inv : Tree → List Scope → ℕ → Expr → ℕ → Type 0) (t : Tree) (n : ℕ) (s : Solution) (m : ℕ) : Type 0 where
@@ -76,7 +67,7 @@ module _ (text : List ℕ) where
         any-post (check (eqb (suc (suc (suc (trees us)))) 3) malformed) n _ _ λ _.
         lifted-post (inList b) n _ (λ ps. b ≡ list ps) _ (in-list b) λ ps be.
         lifted-post (allNames ps) n _ (λ ss. length ss ≡ trees ps) _ (all-names ps) λ names en.
-        lifted-post (allSorts text ps) n _ (SortsFrom ps) _ (all-sorts ps) λ sorts so.
+        lifted-post (allSorts text ps) n _ (λ os. (length os ≡ trees ps) × SortsFrom ps os) _ (all-sorts ps) λ sorts so.
         let sc : List Scope = record { names = names; first = n } ∷ [] in
         let m₀ : ℕ = n + length sorts in
         chain-post (ParseExpr.child text c .plainly sc m₀) _ (Inv c sc m₀) _ (child-of text Inv InvAll kept c .plainly sc m₀) λ e m h.
@@ -90,6 +81,6 @@ module _ (text : List ℕ) where
           weighs = omega arith;
           within = λ limit w. (w .1 .0, w .1 .1 .0);
           params = refl;
-          binders = rw be (record { even = en ∙ sym (so .even); coded = so .coded; size = λ k. omega (arith, so .size k); nests = omega arith });
+          binders = rw be (binders-made ps names sorts (en ∙ sym (so .0)) (so .1));
           body = h;
         }

@@ -3,10 +3,12 @@ use Prim.Native.Nat.{ℕ, _+_}
 use mathlib.Core.List.{List, [], _∷_}
 use Rattle.parse.specs.Expr.{Binder, Kind, kNum, kBool, kStr, kBitVec, kFresh, kNamed, kNeg, kBin, kIf, kAnd, kOr, kNot, kImp, kIff, kAtom, kLet, kTheory, kIsCtor, kExists, Expr, Exprs, node, app, enil, econs, Solution}
 
+-- Numbers that binders bind.
 unfoldable pub raiseBinders : ℕ → List Binder → List Binder
 raiseBinders c [] = []
 raiseBinders c (b ∷ bs) = record { var = c + b .var; sort = b .sort } ∷ raiseBinders c bs
 
+-- Numbers of a kind: the one that a variable uses (36), and those that exists binds (51).
 unfoldable pub raiseKind : ℕ → Kind → Kind
 raiseKind c (kNum v) = kNum v
 raiseKind c (kBool b) = kBool b
@@ -28,7 +30,7 @@ raiseKind c (kTheory k) = kTheory k
 raiseKind c (kIsCtor x) = kIsCtor x
 raiseKind c (kExists bs) = kExists (raiseBinders c bs)
 
--- Numbers that are used (36) and numbers that are bound (51) are raised alike.
+-- Numbers throughout an expression.
 unfoldable mutual
   pub raiseExpr : ℕ → Expr → Expr
   raiseExpr c (node k es) = node (raiseKind c k) (raiseExprs c es)
@@ -38,5 +40,6 @@ unfoldable mutual
   raiseExprs c enil = enil
   raiseExprs c (econs e es) = econs (raiseExpr c e) (raiseExprs c es)
 
+-- Numbers of the parameters and of the body.
 unfoldable pub raiseSolution : ℕ → Solution → Solution
 raiseSolution c s = record { params = raiseBinders c (s .params); body = raiseExpr c (s .body) }

@@ -11,3 +11,5 @@ pub mod Read
 pub mod Over
 pub mod Weight
 pub mod ReadWeight
+pub mod Placed
+pub mod TreeBack

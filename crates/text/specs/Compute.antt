@@ -8,8 +8,9 @@ use Rattle.text.specs.Reading.{thenFind, inFront, mayFollow, goOn, openL
 use Rattle.text.specs.Space.{isWhite, charBytes, charAt, spaceBytes, endsAtom}
 use Rattle.text.specs.Token.{orDecimal, atomOf, quotedToken, atToken, tokenAt}
 use Rattle.text.specs.Tree.{trees, atomWords, treeWords, nesting, weight}
+use Rattle.text.specs.TreeBack.{atomBack, treesBack, treeBack}
 use Rattle.text.specs.Utf8.{afterFirst, stillToCome, afterByte, wellFormed, utf8}
 
 unfoldable pub textComputes : Unit {0}
-unfolding finish over outputOf saidOf countOf sameBytes beginsWith before startsWith bytesAt lookup noDigit someDigits isExponent isFraction lower sameLetters isWord isUnsignedDecimal isDecimal wideOf valueOf minusOf isDigit allDigits valueFrom below digits plusBytes signBytes unsigned signed integerOf pick thenFind inFront mayFollow goOn openList closeList textEnds fromToken expressions reading readText readFinal readSaid readOut isWhite charBytes charAt spaceBytes endsAtom orDecimal atomOf quotedToken atToken tokenAt trees atomWords treeWords nesting weight afterFirst stillToCome afterByte wellFormed utf8
+unfolding finish over outputOf saidOf countOf sameBytes beginsWith before startsWith bytesAt lookup noDigit someDigits isExponent isFraction lower sameLetters isWord isUnsignedDecimal isDecimal wideOf valueOf minusOf isDigit allDigits valueFrom below digits plusBytes signBytes unsigned signed integerOf pick thenFind inFront mayFollow goOn openList closeList textEnds fromToken expressions reading readText readFinal readSaid readOut isWhite charBytes charAt spaceBytes endsAtom orDecimal atomOf quotedToken atToken tokenAt trees atomWords treeWords nesting weight atomBack treesBack treeBack afterFirst stillToCome afterByte wellFormed utf8
 textComputes = tt
