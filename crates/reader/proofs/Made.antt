@@ -1,0 +1,122 @@
+-- What a call makes: its fresh numbers are good, and there are no more of them than the text has bytes.
+use Prim.Native.Nat.{ℕ, zero, suc, _+_, _≤_}
+use mathlib.Core.Path.{_≡_, refl, sym, ap, _∙_}
+use mathlib.Core.Bool.{Bool, true, false, false≢true}
+use mathlib.Core.List.{List, [], _∷_, _++_}
+use native.Mathlib.Omega.{arith}
+use lib.Dec.{leb}
+use lib.ListN.{length}
+use Rattle.text.specs.Limits.{maxBytes, maxNumber}
+use Rattle.text.specs.Tree.{Tree, list, weight, weights}
+use Rattle.text.specs.Answer.{Ans, got, bad, andThen, check, noRoom, Res, ok, no, chain, lifted, fitsIn}
+use Rattle.text.specs.Reading.{Read, readText, readWords}
+use Rattle.text.proofs.Read.{read-short}
+use Rattle.text.proofs.ReadWeight.{read-weight}
+use Rattle.parse.specs.Item.{bound}
+use Rattle.parse.specs.Sort.{Sort, sortWords}
+use Rattle.parse.specs.Expr.{Expr, Exprs, Pred, Bind, Solution}
+use Rattle.parse.specs.Scope.{Scope}
+use Rattle.parse.specs.ParseSort.{inList, inSymbol, treeAt, parseSort}
+use Rattle.parse.specs.ParseExpr.{child, parseExpr}
+use Rattle.parse.specs.ParseBind.{parseBind}
+use Rattle.parse.specs.ParseSolution.{parseSolution}
+use Rattle.parse.specs.Operations.{theTree, makeSort, makeExpr, makeBind}
+use Rattle.parse.proofs.Items.{bound-plains}
+use Rattle.parse.proofs.Exact.{exactly-none}
+use Rattle.parse.proofs.Post.{Post, Every, chain-post, lifted-post, any-post, then-every, any-every, map-post, map-every}
+use Rattle.parse.proofs.BindersOf.{TreeIn, tree-at}
+use Rattle.parse.proofs.SortOf.{in-list}
+use Rattle.parse.proofs.Walk.{child-of}
+use Rattle.parse.proofs.WalkPreds.{KeptPreds, preds-of}
+use Rattle.parse.proofs.SolutionOf.{SolutionOf, solution-of}
+use Rattle.parse.proofs.Size.{Sized, SizedAll, sized}
+use Rattle.flatten.specs.Operations.{makeSolution}
+use Rattle.reader.specs.Session.{Op, readOne, readAll, sort, expression, bind, solution, Term, aRead, aSort, anExpr, aBind, aSolution, termItems, make}
+use Rattle.reader.specs.Demand3.{ScopedTerm, readsOrSorts}
+use Rattle.reader.proofs.Terms.{GoodTerm, bind-good, solution-good, expr-good}
+
+both-post : {A : Type 0} (r : Res A) (Q R : A → ℕ → Type 0) → Post r Q → Post r R → Post r (λ a n. Q a n × R a n)
+both-post (ok a n) Q R q s = (q, s)
+both-post (no r) Q R q s = tt
+
+-- An answer that takes no number.
+lifted-same : {A : Type 0} (x : Ans A) (n : ℕ) → Post (lifted x n) (λ _ m. n ≡ m)
+lifted-same (got a) n = refl
+lifted-same (bad r) n = tt
+
+-- Predicates take no more numbers than their tree has bytes.
+few-preds : KeptPreds Sized (λ t n ps m. m ≤ n + weight t) (λ ts n ps m. m ≤ n + weights ts)
+unfolding weight
+few-preds =
+    record
+      { onExpr = λ t n m e h. h .numbers
+      ; onKvar = λ s ts n xs e. omega arith
+      ; onAnd = λ t ts n m ps h. omega (arith, h)
+      ; none = λ n. omega arith
+      ; more = λ t ts n m p ps qs h k. omega (arith, h, k)
+      }
+
+module _ (text : List ℕ) where
+  few-bind : (t : Tree) (n : ℕ) → Post (parseBind text t n) (λ _ m. m ≤ n + weight t)
+  unfolding parseBind weight
+  few-bind t n =
+      lifted-post (inList t) n _ (λ ts. weights ts ≤ weight t) _ (lighter t) λ ts l.
+      any-post (andThen (treeAt ts 0) inList) n _ _ λ pair.
+      any-post (andThen (treeAt pair 0) inSymbol) n _ _ λ s.
+      any-post (andThen (treeAt pair 1) (parseSort text)) n _ _ λ o.
+      lifted-post (treeAt ts 1) n _ (TreeIn ts) _ (tree-at ts 1) λ p i.
+      chain-post (child text p .preds n) _ (λ _ m. m ≤ n + weight p) _ (preds-of text Sized SizedAll (sized text) _ _ few-preds p n) λ ps m h.
+      omega (arith, h, i .weighs, l)
+    where
+      lighter : (u : Tree) → Every (inList u) (λ ts. weights ts ≤ weight u)
+      lighter u = map-every (inList u) (λ ts. u ≡ list ts) _ (λ ts e. rw e (omega arith)) (in-list u)
+
+  few-solution : (t : Tree) (n : ℕ) → Post (parseSolution text t n) (λ _ m. m ≤ n + weight t)
+  few-solution t n =
+      map-post (parseSolution text t n) (SolutionOf text Sized t n) _ (λ s m h. omega (arith, h .weighs, h .binders .few, h .body .numbers)) (solution-of text Sized SizedAll (sized text) t n)
+
+  few-expr : (t : Tree) (n : ℕ) → Post (parseExpr text t n) (λ _ m. m ≤ n + weight t)
+  unfolding parseExpr
+  few-expr t n = map-post (parseExpr text t n) (Sized t [] n) _ (λ e m h. h .numbers) (child-of text Sized SizedAll (sized text) t .plainly [] n)
+
+  -- The tree that a text begins with weighs no more than a text may.
+  tree-light : (tree : List ℕ) → Every (theTree text tree) (λ t. weight t ≤ maxBytes)
+  unfolding theTree
+  tree-light tree =
+      then-every (readText false text) _ (λ r. weights (r .read) ≤ maxBytes) _ (light (readText false text) refl) λ r l.
+      any-every (check (fitsIn tree (readWords r)) noRoom) _ _ λ _.
+      map-every (treeAt (r .read) 0) (TreeIn (r .read)) _ (λ t i. omega (arith, i .weighs, l)) (tree-at (r .read) 0)
+    where
+      light : (x : Ans Read) → readText false text ≡ x → Every x (λ r. weights (r .read) ≤ maxBytes)
+      light (got r) e = omega (arith, read-weight false text r e, read-short false text r e)
+      light (bad r) e = tt
+
+-- What every operation makes: good numbers, few of them, and none where it reads or makes a sort.
+pub record Fine (op : Op) (n : ℕ) (t : Term) (m : ℕ) : Type 0 where
+  pub exact : GoodTerm n t m
+  pub few : m ≤ n + maxBytes
+  pub none : readsOrSorts op ≡ true → n ≡ m
+
+-- From a tree to a term of its own.
+from-tree : {A : Type 0} (op : Op) (text tree : List ℕ) (n : ℕ) (p : Tree → ℕ → Res A) (term : A → Term) → (readsOrSorts op ≡ false)
+  → ((t : Tree) → Post (p t n) (λ a m. GoodTerm n (term a) m)) → ((t : Tree) → Post (p t n) (λ a m. m ≤ n + weight t))
+  → Post (chain (chain (lifted (theTree text tree) n) (λ t. p t)) (λ a. λ m. ok (term a) m)) (Fine op n)
+from-tree op text tree n p term notRead g f =
+    chain-post (chain (lifted (theTree text tree) n) (λ t. p t)) _ (λ a m. GoodTerm n (term a) m × (m ≤ n + maxBytes)) _
+    (lifted-post (theTree text tree) n _ (λ t. weight t ≤ maxBytes) _ (tree-light text tree) λ t l.
+    map-post (p t n) (λ a m. GoodTerm n (term a) m × (m ≤ n + weight t)) _ (λ a m h. (h .0, omega (arith, h .1, l))) (both-post (p t n) (λ a m. GoodTerm n (term a) m) (λ a m. m ≤ n + weight t) (g t) (f t)))
+    λ a m h. record { exact = h .0; few = h .1; none = λ e. absurd (false≢true (sym notRead ∙ e)) }
+
+plain-fine : (op : Op) (n : ℕ) (t : Term) → bound (termItems t) ≡ [] → ((c : ℕ) → ScopedTerm c t) → Fine op n t n
+plain-fine op n t b s = record { exact = (rw b (exactly-none n), s); few = omega arith; none = λ _. refl }
+
+pub make-fine : (op : Op) (text tree : List ℕ) (n : ℕ) → Post (make op text tree n) (Fine op n)
+unfolding make makeSort makeExpr makeBind makeSolution termItems
+make-fine readOne text tree n = any-post (readText false text) n _ _ λ r. plain-fine readOne n (aRead false r) (bound-plains (readWords r)) (λ c. tt)
+make-fine readAll text tree n = any-post (readText true text) n _ _ λ r. plain-fine readAll n (aRead true r) (bound-plains (readWords r)) (λ c. tt)
+make-fine sort text tree n =
+    chain-post (chain (lifted (theTree text tree) n) (λ t. lifted (parseSort text t))) _ (λ _ m. n ≡ m) _ (any-post (theTree text tree) n _ _ λ t. lifted-same (parseSort text t) n) λ s m e.
+    rw (← e) (plain-fine sort n (aSort s) (bound-plains (sortWords s)) (λ c. tt))
+make-fine expression text tree n = from-tree expression text tree n (parseExpr text) anExpr refl (λ t. expr-good text t n) (λ t. few-expr text t n)
+make-fine bind text tree n = from-tree bind text tree n (parseBind text) aBind refl (λ t. bind-good text t n) (λ t. few-bind text t n)
+make-fine solution text tree n = from-tree solution text tree n (parseSolution text) aSolution refl (λ t. solution-good text t n) (λ t. few-solution text t n)
