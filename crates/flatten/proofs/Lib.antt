@@ -6,3 +6,5 @@ pub mod FieldsBack
 pub mod SortBack
 pub mod KindBack
 pub mod Back
+pub mod Cases
+pub mod Parsed

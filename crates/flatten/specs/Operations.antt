@@ -1,11 +1,11 @@
 -- The operations flatten and solution.
 use Prim.Native.Nat.{ℕ, _^_}
-use mathlib.Core.Bool.{Bool, true, false}
+use mathlib.Core.Bool.{Bool, false}
 use mathlib.Core.List.{List}
 use lib.Dec.{ltb}
 use lib.ListN.{length}
 use Rattle.text.specs.Pick.{pick}
-use Rattle.text.specs.Answer.{M, _>>=_, chain, done, lifted, number, noRoom, Final, accepts, refuses, finish, fitsIn, Said, accepted, saidOf, outputOf}
+use Rattle.text.specs.Answer.{M, _>>=_, chain, lifted, number, noRoom, Final, accepts, refuses, finish, fitsIn, Said, accepted, saidOf, outputOf}
 use Rattle.parse.specs.Item.{wordsOf}
 use Rattle.parse.specs.Expr.{Expr, exprItems, Solution, solutionItems}
 use Rattle.parse.specs.ParseSolution.{parseSolution}

@@ -1,9 +1,8 @@
 -- `uncurry`: applications of applications joined into one.
 use Prim.Native.Nat.{ℕ, max}
-use mathlib.Core.List.{List}
 use Rattle.text.specs.Bytes.{Maybe}
 use Rattle.parse.specs.Sort.{Sort}
-use Rattle.parse.specs.Expr.{Kind, Expr, Exprs, node, app, enil, econs, exprs, Solution}
+use Rattle.parse.specs.Expr.{Expr, Exprs, node, app, enil, econs, exprs, Solution}
 
 -- The first expressions, then the second.
 unfoldable pub join : Exprs → Exprs → Exprs

@@ -12,7 +12,7 @@ use Rattle.parse.specs.Item.{wordsOf}
 use Rattle.parse.specs.Expr.{binderItems}
 use Rattle.parse.specs.Scope.{numbered}
 use Rattle.parse.specs.ParseExpr
-use Rattle.parse.specs.ParseExpr.{Binders, nameOf}
+use Rattle.parse.specs.ParseExpr.{nameOf}
 use Rattle.parse.specs.Shape.{BindersCoded}
 use Rattle.text.proofs.Weight.{weight-some}
 use Rattle.parse.proofs.Items.{words-front}

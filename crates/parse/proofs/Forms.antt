@@ -5,13 +5,12 @@ use mathlib.Core.Bool.{Bool, true, false}
 use native.Mathlib.Omega.{arith}
 use Rattle.text.specs.Bytes.{Span, SpanWithin, Maybe, nothing, just}
 use Rattle.text.specs.Number.{Wide}
-use Rattle.text.specs.Tree.{Tree, Trees, trees, Within, AllWithin}
-use Rattle.text.specs.Answer.{no}
+use Rattle.text.specs.Tree.{Tree, Trees, Within, AllWithin}
 use Rattle.parse.specs.Item.{wordsOf, used, bound}
 use Rattle.parse.specs.Expr.{kBitVec, kNeg, BinOp, opAdd, opMul, opDiv, opMod, Relation, relEq, relNe, relGt, relGe, relLt, relLe, kBin, kNot, kOr, kAnd, kIf, kAtom, kIff, kImp, kLet, kIsCtor, kindItems}
 use Rattle.parse.specs.Names.{Form, fixed, many, cast, exists, letIn, lit, minus, isCtor, apply, keywords}
 use Rattle.parse.specs.Scope.{varOf}
-use Rattle.parse.specs.ParseExpr.{operands, orElseForm}
+use Rattle.parse.specs.ParseExpr.{orElseForm}
 use Rattle.parse.specs.Shape.{HasOperands}
 use Rattle.parse.proofs.Post.{AllRows, IfThere}
 use Rattle.parse.proofs.Kept.{PlainKind}

@@ -1,32 +1,28 @@
 -- The fresh numbers of what the parser builds: each of the numbers taken is bound once, and each that is used is bound round its use.
-use Prim.Native.Nat.{ℕ, zero, suc, _+_, _^_}
+use Prim.Native.Nat.{ℕ, suc, _+_, _^_}
 use mathlib.Core.Path.{_≡_, refl, sym, ap, subst, _∙_}
-use mathlib.Core.Logic.{_⊎_, inl, inr}
-use mathlib.Core.Bool.{Bool, true, false}
+use mathlib.Core.Logic.{inl, inr}
 use mathlib.Core.List.{List, [], _∷_, _++_, append-nil}
 use native.Mathlib.Omega.{arith}
 use lib.Dec.{ltb}
 use lib.ListN.{length}
-use Rattle.text.specs.Pick.{pick}
 use Rattle.text.specs.Bytes.{Span, bytesAt, Maybe, nothing, just, lookup}
 use Rattle.text.specs.Number.{Wide, valueOf, minusOf}
-use Rattle.text.specs.Tree.{Atom, symbol, quoted, integer, boolean, Tree, Trees, atom, list, tcons}
+use Rattle.text.specs.Tree.{symbol, quoted, integer, boolean, Tree, Trees, atom, list, tcons}
 use Rattle.text.proofs.Picks.{pick-holds}
 use Rattle.parse.specs.Sort.{Sort, sortWords}
-use Rattle.parse.specs.Item.{Item, plain, raise, used, bound}
-use Rattle.parse.specs.Expr.{Binder, Kind, kNum, kBool, kStr, kNeg, kNamed, kFresh, kTheory, kExists, Expr, Exprs, node, app, leaf, oneOf, enil, econs, exprs, kindItems, binderItems, exprItems, exprsItems, outSort}
+use Rattle.parse.specs.Item.{Item, raise, used, bound}
+use Rattle.parse.specs.Expr.{Kind, kNum, kBool, kStr, kNeg, kNamed, kTheory, kExists, Expr, Exprs, node, leaf, oneOf, enil, exprs, kindItems, binderItems, exprItems, exprsItems, outSort}
 use Rattle.parse.specs.Names.{theory}
 use Rattle.parse.specs.Scope
 use Rattle.parse.specs.Scope.{Scope, numbered, orElse}
 use Rattle.parse.specs.ParseExpr.{numeral}
-use Rattle.parse.specs.Numbers.{In, AllIn, Exactly}
+use Rattle.parse.specs.Numbers.{In, Exactly}
 use Rattle.parse.specs.Scoped.{Scoped, ScopedAll}
-use Rattle.parse.specs.Shape.{HasOperands}
 use Rattle.parse.proofs.Items.{bound-append, bound-front, used-front}
 use Rattle.parse.proofs.Exact.{upFrom, exactly-up, exactly-none, exactly-append, plus, bound-raise, used-raise, plus-up}
 use Rattle.parse.proofs.Post.{IfThere}
-use Rattle.parse.proofs.SortOf.{SortOf}
-use Rattle.parse.proofs.Kept.{PlainKind, BindersOf, Kept}
+use Rattle.parse.proofs.Kept.{BindersOf, Kept}
 
 -- The numbers of the open scopes, raised by c.
 unfoldable pub runs : ℕ → List Scope → List ℕ

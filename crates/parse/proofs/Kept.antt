@@ -1,13 +1,12 @@
 -- What a walk over the parser of expressions keeps, form by form.
-use Prim.Native.Nat.{ℕ, _+_, _-_, _*_, _≤_}
+use Prim.Native.Nat.{ℕ, _+_, _*_, _≤_}
 use mathlib.Core.Path.{_≡_}
 use mathlib.Core.Bool.{Bool}
 use mathlib.Core.List.{List, [], _∷_}
 use lib.ListN.{length}
 use Rattle.text.specs.Bytes.{Span, nothing, just}
 use Rattle.text.specs.Number.{Wide}
-use Rattle.text.specs.Tree.{symbol, quoted, integer, boolean, Tree, Trees, atom, list, tcons, trees, nesting, Within, AllWithin, weight}
-use Rattle.text.specs.Answer.{no}
+use Rattle.text.specs.Tree.{symbol, quoted, integer, boolean, Tree, Trees, atom, list, tcons, nesting, Within, AllWithin, weight}
 use Rattle.parse.specs.Sort.{Sort}
 use Rattle.parse.specs.Item.{wordsOf, used, bound}
 use Rattle.parse.specs.Expr.{Kind, kBool, kStr, kExists, Expr, Exprs, node, app, leaf, oneOf, enil, econs, exprs, kindItems, binderItems}

@@ -15,3 +15,5 @@ pub mod Small
 pub mod Size
 pub mod Lengths
 pub mod Raised
+pub mod Cases
+pub mod TheTree

@@ -43,6 +43,10 @@ pub map-post : {A : Type 0} (r : Res A) (Q R : A → ℕ → Type 0) → ((a : A
 map-post (ok a n) Q R f q = f a n q
 map-post (no r) Q R f q = tt
 
+pub both-post : {A : Type 0} (r : Res A) (Q R : A → ℕ → Type 0) → Post r Q → Post r R → Post r (λ a n. Q a n × R a n)
+both-post (ok a n) Q R q s = (q, s)
+both-post (no r) Q R q s = tt
+
 pub map-every : {A : Type 0} (x : Ans A) (Q R : A → Type 0) → ((a : A) → Q a → R a) → Every x Q → Every x R
 map-every (got a) Q R f q = f a q
 map-every (bad r) Q R f q = tt

@@ -1,26 +1,24 @@
 -- How many words the parser's answers have, and how many numbers they take: at most 15 words and one number for each byte that the tree takes.
-use Prim.Native.Nat.{ℕ, suc, _+_, _*_, _^_, _≤_}
-use mathlib.Core.Path.{_≡_, refl, ap, _∙_}
-use mathlib.Core.Bool.{Bool}
-use mathlib.Core.List.{List, [], _∷_, _++_, append-nil}
+use Prim.Native.Nat.{ℕ, _+_, _*_, _^_, _≤_}
+use mathlib.Core.Path.{_≡_, ap, _∙_}
+use mathlib.Core.List.{List, [], _++_, append-nil}
 use native.Mathlib.Omega.{arith}
 use lib.Dec.{ltb}
 use lib.ListN.{length, length-append}
 use Rattle.text.specs.Bytes.{Span, bytesAt, Maybe, nothing, just, lookup}
 use Rattle.text.specs.Number.{Wide, valueOf, minusOf}
-use Rattle.text.specs.Tree.{symbol, quoted, integer, boolean, Tree, Trees, atom, list, tcons, trees, weight, weights}
+use Rattle.text.specs.Tree.{symbol, quoted, integer, boolean, Tree, Trees, atom, weight, weights}
 use Rattle.text.proofs.Weight.{weight-some}
 use Rattle.text.proofs.Picks.{pick-holds}
 use Rattle.parse.specs.Sort.{Sort, sortWords}
 use Rattle.parse.specs.Item.{Item, wordsOf}
-use Rattle.parse.specs.Expr.{Kind, kNum, kBool, kStr, kNeg, kNamed, kFresh, kTheory, kExists, Expr, Exprs, node, app, leaf, oneOf, enil, econs, exprs, kindItems, binderItems, exprItems, exprsItems, sortItems}
+use Rattle.parse.specs.Expr.{Kind, kNum, kBool, kStr, kNeg, kNamed, kFresh, kTheory, Expr, Exprs, node, leaf, oneOf, exprs, kindItems, binderItems, exprItems, exprsItems, sortItems}
 use Rattle.parse.specs.Names.{theory}
 use Rattle.parse.specs.Scope
 use Rattle.parse.specs.Scope.{Scope, numbered}
 use Rattle.parse.specs.ParseExpr.{numeral}
 use Rattle.parse.proofs.Items.{length-words, words-front}
-use Rattle.parse.proofs.SortOf.{SortOf}
-use Rattle.parse.proofs.Kept.{PlainKind, BindersOf, Kept}
+use Rattle.parse.proofs.Kept.{Kept}
 
 pub record Sized (t : Tree) (sc : List Scope) (n : ℕ) (e : Expr) (m : ℕ) : Type 0 where
   pub words : length (wordsOf (exprItems e)) ≤ 15 * weight t

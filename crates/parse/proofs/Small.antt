@@ -1,14 +1,12 @@
 -- The shape of what the parser builds: it nests little deeper than its tree, opens fewer scopes than the tree has lists inside one another,
 -- and its words give it back.
-use Prim.Native.Nat.{ℕ, zero, suc, _+_, _-_, _^_, _≤_, _<_, max}
-use mathlib.Core.Path.{_≡_, refl, sym, ap, _∙_}
-use mathlib.Core.Bool.{Bool, true, false}
+use Prim.Native.Nat.{ℕ, suc, _+_, _-_, _^_, _≤_, _<_}
+use mathlib.Core.Path.{_≡_, refl}
 use mathlib.Core.List.{List, [], _∷_}
 use native.Mathlib.Omega.{arith}
 use lib.Dec.{ltb}
 use lib.ListN.{length}
-use Rattle.text.specs.Pick.{pick}
-use Rattle.text.specs.Bytes.{Span, SpanWithin, bytesAt, Maybe, nothing, just, Named, named, lookup}
+use Rattle.text.specs.Bytes.{Span, bytesAt, Maybe, nothing, just, lookup}
 use Rattle.text.specs.Number.{Wide, valueOf, minusOf}
 use Rattle.text.specs.Tree.{symbol, quoted, integer, boolean, Tree, Trees, atom, list, tcons, nesting, nestings, Within, AllWithin}
 use Rattle.text.proofs.Picks.{pick-holds}
@@ -20,8 +18,7 @@ use Rattle.parse.specs.Scope.{Scope, numbered, orElse}
 use Rattle.parse.specs.ParseExpr.{numeral}
 use Rattle.parse.specs.Shape.{BindersCoded, KindCoded, Coded, CodedAll, depth, depths, scopes, scopesAll}
 use Rattle.parse.proofs.Post.{AllRows, IfThere, lookup-holds}
-use Rattle.parse.proofs.SortOf.{SortOf}
-use Rattle.parse.proofs.Kept.{PlainKind, BindersOf, Kept}
+use Rattle.parse.proofs.Kept.{BindersOf, Kept}
 
 -- The numbers of the open scopes are below n.
 abbrev pub ScopesBelow : List Scope → ℕ → Type 0

@@ -1,30 +1,25 @@
 -- What holds of the solution that a tree is read as, before flattening.
-use Prim.Native.Nat.{ℕ, suc, _+_, _*_, _≤_, max}
+use Prim.Native.Nat.{ℕ, suc, _+_, _≤_}
 use mathlib.Core.Path.{_≡_, refl, sym, ap, _∙_}
-use mathlib.Core.Bool.{Bool, true, false}
 use mathlib.Core.List.{List, [], _∷_}
 use native.Mathlib.Omega.{arith}
 use lib.Dec.{eqb}
-use lib.ListN.{length, length-append}
+use lib.ListN.{length}
 use Rattle.text.specs.Bytes.{Span}
-use Rattle.text.specs.Tree.{Tree, Trees, atom, list, tnil, tcons, trees, nesting, nestings, Within, AllWithin, weight, weights}
-use Rattle.text.specs.Answer.{Ans, got, bad, andThen, check, malformed, chain, lifted, fresh}
-use Rattle.text.proofs.Weight.{weight-some}
-use Rattle.parse.specs.Sort.{Sort, sortWords}
-use Rattle.parse.specs.Item.{wordsOf}
-use Rattle.parse.specs.Expr.{Expr, Exprs, Solution, binderItems}
+use Rattle.text.specs.Tree.{Tree, Trees, atom, list, tnil, tcons, trees, nesting, Within, weight}
+use Rattle.text.specs.Answer.{check, malformed}
+use Rattle.parse.specs.Sort.{Sort}
+use Rattle.parse.specs.Expr.{Expr, Exprs, Solution}
 use Rattle.parse.specs.ParseSort.{inList, treeAt}
 use Rattle.parse.specs.Scope.{Scope, numbered, distinct}
 use Rattle.parse.specs.ParseExpr
 use Rattle.parse.specs.ParseExpr.{nameOf}
 use Rattle.parse.specs.ParseSolution.{allNames, allSorts, parseSolution}
-use Rattle.parse.specs.Shape.{BindersCoded}
-use Rattle.parse.proofs.Items.{words-front}
-use Rattle.parse.proofs.Post.{Post, Every, chain-post, lifted-post, any-post, then-every, any-every, map-every}
-use Rattle.parse.proofs.SortOf.{SortOf, in-list}
+use Rattle.parse.proofs.Post.{Post, Every, chain-post, lifted-post, any-post, then-every, any-every}
+use Rattle.parse.proofs.SortOf.{in-list}
 use Rattle.parse.proofs.Kept.{BindersOf, Kept}
 use Rattle.parse.proofs.BindersOf.{BinderSort, SortsFrom, sorts-none, sorts-more, binders-made, sort-in}
-use Rattle.parse.proofs.Walk.{ChildOf, child-of}
+use Rattle.parse.proofs.Walk.{child-of}
 
 all-names : (ts : Trees) → Every (allNames ts) (λ ss. length ss ≡ trees ts)
 unfolding allNames trees

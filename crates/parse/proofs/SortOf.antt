@@ -3,22 +3,22 @@ use Prim.Native.Nat.{ℕ, zero, suc, _+_, _-_, _*_, _^_, _≤_, _<_}
 use mathlib.Core.Path.{_≡_, refl, sym, ap, _∙_}
 use mathlib.Core.Logic.{_⊎_, inl, inr}
 use mathlib.Core.Bool.{Bool, true, false}
-use mathlib.Core.List.{List, [], _∷_, _++_}
+use mathlib.Core.List.{List, [], _∷_}
 use native.Mathlib.Omega.{arith}
 use lib.Dec.{eqb, leb, ltb}
-use lib.ListN.{length, length-append, length-take, take, drop, getD}
+use lib.ListN.{length, length-append, take, drop, getD}
 use borrow.Author.Tests.{leb-true, ltb-true}
 use Rattle.text.specs.Limits.{maxFunc}
 use Rattle.text.specs.Pick.{pick}
-use Rattle.text.specs.Bytes.{ascii, beginsWith, Span, SpanWithin, bytesAt, Maybe, nothing, just, Named, named, lookup}
-use Rattle.text.specs.Number.{Wide, valueOf, below, digits, plusBytes, unsigned}
-use Rattle.text.specs.Tree.{Atom, symbol, quoted, integer, decimal, boolean, Tree, Trees, atom, list, tnil, tcons, trees, Within, AllWithin, weight, weights}
-use Rattle.text.specs.Answer.{Ans, got, bad, andThen, orBad, check, Refusal, malformed, badFunc}
+use Rattle.text.specs.Bytes.{ascii, beginsWith, Span, SpanWithin, bytesAt, Maybe, nothing, just, lookup}
+use Rattle.text.specs.Number.{Wide, valueOf, below, unsigned}
+use Rattle.text.specs.Tree.{Atom, symbol, quoted, integer, decimal, boolean, Tree, Trees, atom, list, tnil, tcons, Within, AllWithin, weight, weights}
+use Rattle.text.specs.Answer.{got, andThen, check, Refusal, badFunc}
 use Rattle.text.proofs.Picks.{pick-holds}
-use Rattle.parse.specs.Sort.{Ctor, cSet, cMap, cData, Sort, Sorts, sInt, sBool, sReal, sStr, sBitVec, sSize, sVar, sFunc, sAbs, sApp, snil, scons, sorts, ctorWords, sortWords, sortsWords, funcs, abstracted}
+use Rattle.parse.specs.Sort.{Ctor, cSet, cMap, cData, Sort, Sorts, sSize, sApp, snil, scons, sorts, ctorWords, sortWords, sortsWords, funcs, abstracted}
 use Rattle.parse.specs.Names.{plainSorts, SortForm, func, function, bitVec, applied, oneSort, twoSorts, threeItems}
 use Rattle.parse.specs.ParseSort
-use Rattle.parse.specs.ParseSort.{inList, inAtom, symbolIn, inSymbol, inInteger, treeAt, sizeNamed, indexNamed, orData, otherSort, sortTable, orApplied, funcNumber, View, viewAt, eachSort, funcSort, functionSort}
+use Rattle.parse.specs.ParseSort.{inList, inAtom, symbolIn, inSymbol, inInteger, sizeNamed, indexNamed, orData, otherSort, sortTable, orApplied, funcNumber, View, viewAt, eachSort, funcSort, functionSort}
 use Rattle.parse.specs.Shape.{SortCoded, SortsCoded, CtorWithin}
 use Rattle.text.proofs.Bytes.{bytes-length}
 use Rattle.text.proofs.Weight.{weight-some}

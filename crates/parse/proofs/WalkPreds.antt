@@ -1,20 +1,19 @@
 -- The same walk over the parser of predicates.
 use Prim.Native.Nat.{ℕ, suc}
-use mathlib.Core.Path.{_≡_, refl, sym, ap, subst, _∙_}
-use mathlib.Core.Bool.{Bool, true, false}
+use mathlib.Core.Path.{_≡_, refl, sym, ap, subst}
 use mathlib.Core.List.{List, [], _∷_, _++_}
 use lib.Dec.{ltb}
 use lib.ListN.{length}
 use Rattle.text.specs.Pick.{pick}
 use Rattle.text.specs.Bytes.{ascii, sameBytes, beginsWith, Span, bytesAt}
-use Rattle.text.specs.Tree.{Atom, symbol, quoted, integer, decimal, boolean, Tree, Trees, atom, list, tnil, tcons, trees}
-use Rattle.text.specs.Answer.{Ans, check, malformed, chain, lifted}
+use Rattle.text.specs.Tree.{symbol, quoted, integer, decimal, boolean, Tree, Trees, atom, list, tnil, tcons, trees}
+use Rattle.text.specs.Answer.{check, malformed}
 use Rattle.text.proofs.Picks.{pick-holds}
 use Rattle.parse.specs.ParseSort.{inSymbol}
 use Rattle.parse.specs.Expr.{VarName, Expr, Exprs, Pred, kvar, expr}
 use Rattle.parse.specs.Scope.{Scope}
 use Rattle.parse.specs.ParseExpr
-use Rattle.parse.specs.ParseExpr.{P, Child, childAt, rest, through, eachPred, symbols, kvarForm, exprPred, atomChild}
+use Rattle.parse.specs.ParseExpr.{P, Child, childAt, through, eachPred, symbols, kvarForm, exprPred, atomChild}
 use Rattle.parse.proofs.Post.{Post, Every, chain-post, lifted-post, any-post, then-every, any-every, map-post}
 use Rattle.parse.proofs.Kept.{Kept}
 use Rattle.parse.proofs.Walk.{ChildOf, ChildrenOf, child-of, children-of}

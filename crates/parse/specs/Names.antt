@@ -3,7 +3,7 @@ use Prim.Native.Nat.{ℕ}
 use mathlib.Core.List.{List, [], _∷_}
 use Rattle.text.specs.Bytes.{Named, named}
 use Rattle.parse.specs.Sort.{Sort, sInt, sBool, sReal, sStr, Ctor, cSet, cMap}
-use Rattle.parse.specs.Expr.{BinOp, opAdd, opMul, opDiv, opMod, Relation, relEq, relNe, relGt, relGe, relLt, relLe, Kind, kNot, kOr, kAnd, kIf, kIff, kImp, kBin, kAtom}
+use Rattle.parse.specs.Expr.{opAdd, opMul, opDiv, opMod, relEq, relNe, relGt, relGe, relLt, relLe, Kind, kNot, kOr, kAnd, kIf, kIff, kImp, kBin, kAtom}
 
 -- How a list is read as an expression, by its first item: a fixed number of operands, any number, or a form of its own.
 pub data Form : Type 0 where

@@ -1,12 +1,10 @@
 -- The operations sort, expression and bind: what each makes of its text, and what it decides in the end.
 use Prim.Native.Nat.{ℕ}
-use mathlib.Core.Bool.{Bool, false}
+use mathlib.Core.Bool.{false}
 use mathlib.Core.List.{List}
-use lib.Dec.{leb}
-use lib.ListN.{length}
 use Rattle.text.specs.Tree.{Tree}
 use Rattle.text.specs.Reading.{readText, readWords}
-use Rattle.text.specs.Answer.{Ans, andThen, check, noRoom, M, _>>=_, chain, done, lifted, Final, finish, fitsIn}
+use Rattle.text.specs.Answer.{Ans, andThen, check, noRoom, M, _>>=_, chain, lifted, Final, finish, fitsIn}
 use Rattle.parse.specs.Sort.{Sort, sortWords}
 use Rattle.parse.specs.Item.{wordsOf}
 use Rattle.parse.specs.Expr.{Expr, exprItems, Bind, bindItems}

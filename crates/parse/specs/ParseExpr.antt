@@ -9,10 +9,10 @@ use Rattle.text.specs.Pick.{pick}
 use Rattle.text.specs.Bytes.{ascii, sameBytes, beginsWith, Span, bytesAt, Maybe, nothing, just, lookup}
 use Rattle.text.specs.Number.{Wide, wideOf, minusOf, valueOf, unsigned}
 use Rattle.text.specs.Tree.{Atom, symbol, quoted, integer, decimal, boolean, Tree, Trees, atom, list, tnil, tcons, trees}
-use Rattle.text.specs.Answer.{Ans, got, bad, andThen, orBad, check, malformed, decimalRead, badLiteral, Res, M, _>>=_, chain, done, lifted, fresh}
+use Rattle.text.specs.Answer.{Ans, got, bad, andThen, orBad, check, malformed, decimalRead, badLiteral, M, _>>=_, chain, done, lifted, fresh}
 use Rattle.parse.specs.Sort.{Sort}
 use Rattle.parse.specs.ParseSort.{inList, inAtom, inSymbol, treeAt, sizeOf, parseSort}
-use Rattle.parse.specs.Expr.{VarName, Kind, kNum, kBool, kStr, kBitVec, kNeg, kBin, opSub, kLet, kIsCtor, kExists, Expr, Exprs, node, app, leaf, oneOf, enil, econs, KvarName, Pred, kvar, expr}
+use Rattle.parse.specs.Expr.{VarName, Kind, kNum, kBool, kStr, kBitVec, kNeg, kBin, opSub, kLet, kIsCtor, kExists, Expr, Exprs, node, app, leaf, oneOf, enil, econs, Pred, kvar, expr}
 use Rattle.parse.specs.Names.{Form, fixed, many, cast, exists, letIn, lit, minus, isCtor, apply, keywords}
 use Rattle.parse.specs.Scope.{Scope, numbered, varOf, symbolExpr, distinct}
 

@@ -1,6 +1,5 @@
 -- The sort that a tree is read as: `parse_sort`, `parse_list_sort`, `parse_func_sort`.
 use Prim.Native.Nat.{ℕ, zero, suc, _-_, _^_}
-use mathlib.Core.Bool.{Bool, true, false}
 use mathlib.Core.List.{List, [], _∷_}
 use lib.Dec.{eqb, leb}
 use lib.ListN.{length, take, drop, getD}
@@ -10,7 +9,7 @@ use Rattle.text.specs.Bytes.{ascii, beginsWith, Span, bytesAt, Maybe, nothing, 
 use Rattle.text.specs.Number.{Wide, valueOf, unsigned}
 use Rattle.text.specs.Tree.{Atom, symbol, quoted, integer, decimal, boolean, Tree, Trees, atom, list, tnil, tcons}
 use Rattle.text.specs.Answer.{Ans, got, bad, andThen, orBad, check, malformed, badFunc}
-use Rattle.parse.specs.Sort.{Ctor, cData, Sort, Sorts, sBitVec, sSize, sVar, sFunc, sApp, snil, scons, funcs, abstracted}
+use Rattle.parse.specs.Sort.{cData, Sort, Sorts, sBitVec, sSize, sVar, sFunc, sApp, snil, scons, funcs, abstracted}
 use Rattle.parse.specs.Names.{plainSorts, SortForm, func, function, bitVec, applied, oneSort, twoSorts, threeItems}
 
 -- A tree taken apart; any other is 8.

@@ -2,7 +2,7 @@
 use Prim.Native.Nat.{ℕ}
 use mathlib.Core.List.{List, [], _∷_, _++_}
 use Rattle.parse.specs.Item.{raise, used, bound}
-use Rattle.parse.specs.Expr.{Expr, Exprs, node, app, enil, econs, exprs, kindItems, binderItems, Pred, kvar, expr, Bind, Solution}
+use Rattle.parse.specs.Expr.{Expr, Exprs, node, app, enil, econs, exprs, kindItems, binderItems, Pred, kvar, expr, Solution}
 use Rattle.parse.specs.Numbers.{AllIn}
 
 -- Each number that an expression uses, raised by c, is bound by an exists round it or stands in the list.

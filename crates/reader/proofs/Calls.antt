@@ -1,22 +1,22 @@
 -- What one call does: its outcome by what it decides, and that it depends on the lengths of the slices only.
 use Prim.Native.Nat.{ℕ, _+_, _≤_, _<_}
-use mathlib.Core.Path.{_≡_, refl, sym, ap, ap₂, _∙_}
-use mathlib.Core.Bool.{Bool, true, false}
+use mathlib.Core.Path.{_≡_, refl, ap, ap₂, _∙_}
+use mathlib.Core.Bool.{true, false}
 use mathlib.Core.List.{List}
 use native.Mathlib.Omega.{arith}
-use lib.Dec.{leb, ltb}
+use lib.Dec.{leb}
 use lib.ListN.{length}
-use borrow.Author.Tests.{lt-ltb, le-ltb}
 use Rattle.text.specs.Limits.{maxNumber}
 use Rattle.text.specs.Pick.{pick}
-use Rattle.text.specs.Answer.{Refusal, tooLong, notUtf8, endsEarly, strayClose, unclosed, tooDeep, noRoom, malformed, decimalRead, repeatedName, badLiteral, badFunc, number, numbersSpent, andThen, check, Res, ok, no, chain, lifted, Final, accepts, refuses, finish, Said, accepted, refused, zeros, saidOf, countOf, outputOf}
-use Rattle.text.specs.Reading.{Read, readText, readWords, readReport}
+use Rattle.text.specs.Answer.{Refusal, tooLong, notUtf8, endsEarly, strayClose, unclosed, tooDeep, noRoom, malformed, decimalRead, repeatedName, badLiteral, badFunc, number, numbersSpent, andThen, check, Res, ok, no, Final, accepts, refuses, finish, accepted, refused, zeros, saidOf, countOf, outputOf}
+use Rattle.text.specs.Reading.{readText, readWords}
+use Rattle.text.proofs.Finish.{finish-spent, finish-short, finish-long}
 use Rattle.parse.specs.Item.{wordsOf}
 use Rattle.parse.specs.ParseSort.{treeAt}
 use Rattle.parse.specs.Operations.{theTree, makeSort, makeExpr, makeBind}
 use Rattle.flatten.specs.Operations.{makeSolution}
 use Rattle.reader.specs.Session.{Op, readOne, readAll, sort, expression, bind, solution, Call, Term, aRead, aSort, anExpr, aBind, aSolution, termItems, draftItems, termWords, report, make, made, roomFor, final, Outcome, outcome}
-use Rattle.reader.specs.Demand3.{Agree, LongEnough, refusal, acceptance}
+use Rattle.reader.specs.Demand3.{Agree, refusal, acceptance}
 
 -- The outcome by what is decided.
 outcomeBy : Call → ℕ → Final Term → Outcome
@@ -69,16 +69,16 @@ module _ (call : Call) (c : ℕ) where
   decides-early r e = ap (finish (roomFor call) c) e
 
   pub decides-spent : (m : Term) (n : ℕ) → made call ≡ ok m n → maxNumber < c + n → final call c ≡ refuses numbersSpent
-  unfolding final finish pick
-  decides-spent m n e h = ap (finish (roomFor call) c) e ∙ rw (lt-ltb maxNumber (c + n) h) refl
+  unfolding final
+  decides-spent m n e h = ap (finish (roomFor call) c) e ∙ finish-spent (roomFor call) c m n h
 
   pub decides-short : (m : Term) (n : ℕ) → made call ≡ ok m n → c + n ≤ maxNumber → roomFor call m ≡ false → final call c ≡ refuses (number noRoom)
-  unfolding final finish pick
-  decides-short m n e h s = ap (finish (roomFor call) c) e ∙ rw (le-ltb maxNumber (c + n) h, s) refl
+  unfolding final
+  decides-short m n e h s = ap (finish (roomFor call) c) e ∙ finish-short (roomFor call) c m n h s
 
   pub decides-long : (m : Term) (n : ℕ) → made call ≡ ok m n → c + n ≤ maxNumber → roomFor call m ≡ true → final call c ≡ accepts m n
-  unfolding final finish pick
-  decides-long m n e h s = ap (finish (roomFor call) c) e ∙ rw (le-ltb maxNumber (c + n) h, s) refl
+  unfolding final
+  decides-long m n e h s = ap (finish (roomFor call) c) e ∙ finish-long (roomFor call) c m n h s
 
 -- The refusals that are met in a text come before 13.
 pub before-spent : (r : Refusal) → number r < numbersSpent

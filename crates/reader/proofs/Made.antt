@@ -1,21 +1,16 @@
 -- What a call makes: its fresh numbers are good, and there are no more of them than the text has bytes.
-use Prim.Native.Nat.{ℕ, zero, suc, _+_, _≤_}
-use mathlib.Core.Path.{_≡_, refl, sym, ap, _∙_}
-use mathlib.Core.Bool.{Bool, true, false, false≢true}
-use mathlib.Core.List.{List, [], _∷_, _++_}
+use Prim.Native.Nat.{ℕ, _+_, _≤_}
+use mathlib.Core.Path.{_≡_, refl, sym, _∙_}
+use mathlib.Core.Bool.{true, false, false≢true}
+use mathlib.Core.List.{List, []}
 use native.Mathlib.Omega.{arith}
-use lib.Dec.{leb}
-use lib.ListN.{length}
-use Rattle.text.specs.Limits.{maxBytes, maxNumber}
+use Rattle.text.specs.Limits.{maxBytes}
 use Rattle.text.specs.Tree.{Tree, list, weight, weights}
-use Rattle.text.specs.Answer.{Ans, got, bad, andThen, check, noRoom, Res, ok, no, chain, lifted, fitsIn}
-use Rattle.text.specs.Reading.{Read, readText, readWords}
-use Rattle.text.proofs.Read.{read-short}
-use Rattle.text.proofs.ReadWeight.{read-weight}
+use Rattle.text.specs.Answer.{Ans, got, bad, andThen, Res, ok, chain, lifted}
+use Rattle.text.specs.Reading.{readText, readWords}
+use Rattle.text.proofs.TextTree.{TextTree}
 use Rattle.parse.specs.Item.{bound}
-use Rattle.parse.specs.Sort.{Sort, sortWords}
-use Rattle.parse.specs.Expr.{Expr, Exprs, Pred, Bind, Solution}
-use Rattle.parse.specs.Scope.{Scope}
+use Rattle.parse.specs.Sort.{sortWords}
 use Rattle.parse.specs.ParseSort.{inList, inSymbol, treeAt, parseSort}
 use Rattle.parse.specs.ParseExpr.{child, parseExpr}
 use Rattle.parse.specs.ParseBind.{parseBind}
@@ -23,8 +18,9 @@ use Rattle.parse.specs.ParseSolution.{parseSolution}
 use Rattle.parse.specs.Operations.{theTree, makeSort, makeExpr, makeBind}
 use Rattle.parse.proofs.Items.{bound-plains}
 use Rattle.parse.proofs.Exact.{exactly-none}
-use Rattle.parse.proofs.Post.{Post, Every, chain-post, lifted-post, any-post, then-every, any-every, map-post, map-every}
+use Rattle.parse.proofs.Post.{Post, Every, chain-post, lifted-post, any-post, both-post, map-post, map-every}
 use Rattle.parse.proofs.BindersOf.{TreeIn, tree-at}
+use Rattle.parse.proofs.TheTree.{the-tree}
 use Rattle.parse.proofs.SortOf.{in-list}
 use Rattle.parse.proofs.Walk.{child-of}
 use Rattle.parse.proofs.WalkPreds.{KeptPreds, preds-of}
@@ -35,10 +31,6 @@ use Rattle.reader.specs.Session.{Op, readOne, readAll, sort, expression,
 use Rattle.reader.specs.Demand3.{ScopedTerm, readsOrSorts}
 use Rattle.reader.proofs.Terms.{GoodTerm, bind-good, solution-good, expr-good}
 
-both-post : {A : Type 0} (r : Res A) (Q R : A → ℕ → Type 0) → Post r Q → Post r R → Post r (λ a n. Q a n × R a n)
-both-post (ok a n) Q R q s = (q, s)
-both-post (no r) Q R q s = tt
-
 -- An answer that takes no number.
 lifted-same : {A : Type 0} (x : Ans A) (n : ℕ) → Post (lifted x n) (λ _ m. n ≡ m)
 lifted-same (got a) n = refl
@@ -48,13 +40,13 @@ lifted-same (bad r) n = tt
 few-preds : KeptPreds Sized (λ t n ps m. m ≤ n + weight t) (λ ts n ps m. m ≤ n + weights ts)
 unfolding weight
 few-preds =
-    record
-      { onExpr = λ t n m e h. h .numbers
-      ; onKvar = λ s ts n xs e. omega arith
-      ; onAnd = λ t ts n m ps h. omega (arith, h)
-      ; none = λ n. omega arith
-      ; more = λ t ts n m p ps qs h k. omega (arith, h, k)
-      }
+    record {
+      onExpr = λ t n m e h. h .numbers;
+      onKvar = λ s ts n xs e. omega arith;
+      onAnd = λ t ts n m ps h. omega (arith, h);
+      none = λ n. omega arith;
+      more = λ t ts n m p ps qs h k. omega (arith, h, k);
+    }
 
 module _ (text : List ℕ) where
   few-bind : (t : Tree) (n : ℕ) → Post (parseBind text t n) (λ _ m. m ≤ n + weight t)
@@ -79,18 +71,6 @@ module _ (text : List ℕ) where
   unfolding parseExpr
   few-expr t n = map-post (parseExpr text t n) (Sized t [] n) _ (λ e m h. h .numbers) (child-of text Sized SizedAll (sized text) t .plainly [] n)
 
-  -- The tree that a text begins with weighs no more than a text may.
-  tree-light : (tree : List ℕ) → Every (theTree text tree) (λ t. weight t ≤ maxBytes)
-  unfolding theTree
-  tree-light tree =
-      then-every (readText false text) _ (λ r. weights (r .read) ≤ maxBytes) _ (light (readText false text) refl) λ r l.
-      any-every (check (fitsIn tree (readWords r)) noRoom) _ _ λ _.
-      map-every (treeAt (r .read) 0) (TreeIn (r .read)) _ (λ t i. omega (arith, i .weighs, l)) (tree-at (r .read) 0)
-    where
-      light : (x : Ans Read) → readText false text ≡ x → Every x (λ r. weights (r .read) ≤ maxBytes)
-      light (got r) e = omega (arith, read-weight false text r e, read-short false text r e)
-      light (bad r) e = tt
-
 -- What every operation makes: good numbers, few of them, and none where it reads or makes a sort.
 pub record Fine (op : Op) (n : ℕ) (t : Term) (m : ℕ) : Type 0 where
   pub exact : GoodTerm n t m
@@ -99,12 +79,12 @@ pub record Fine (op : Op) (n : ℕ) (t : Term) (m : ℕ) : Type 0 where
 
 -- From a tree to a term of its own.
 from-tree : {A : Type 0} (op : Op) (text tree : List ℕ) (n : ℕ) (p : Tree → ℕ → Res A) (term : A → Term) → (readsOrSorts op ≡ false)
-  → ((t : Tree) → Post (p t n) (λ a m. GoodTerm n (term a) m)) → ((t : Tree) → Post (p t n) (λ a m. m ≤ n + weight t))
-  → Post (chain (chain (lifted (theTree text tree) n) (λ t. p t)) (λ a. λ m. ok (term a) m)) (Fine op n)
+    → ((t : Tree) → Post (p t n) (λ a m. GoodTerm n (term a) m)) → ((t : Tree) → Post (p t n) (λ a m. m ≤ n + weight t))
+    → Post (chain (chain (lifted (theTree text tree) n) (λ t. p t)) (λ a. λ m. ok (term a) m)) (Fine op n)
 from-tree op text tree n p term notRead g f =
     chain-post (chain (lifted (theTree text tree) n) (λ t. p t)) _ (λ a m. GoodTerm n (term a) m × (m ≤ n + maxBytes)) _
-    (lifted-post (theTree text tree) n _ (λ t. weight t ≤ maxBytes) _ (tree-light text tree) λ t l.
-    map-post (p t n) (λ a m. GoodTerm n (term a) m × (m ≤ n + weight t)) _ (λ a m h. (h .0, omega (arith, h .1, l))) (both-post (p t n) (λ a m. GoodTerm n (term a) m) (λ a m. m ≤ n + weight t) (g t) (f t)))
+    (lifted-post (theTree text tree) n _ (TextTree text) _ (the-tree text tree) λ t i.
+    map-post (p t n) (λ a m. GoodTerm n (term a) m × (m ≤ n + weight t)) _ (λ a m h. (h .0, omega (arith, h .1, i .weighs, i .short))) (both-post (p t n) (λ a m. GoodTerm n (term a) m) (λ a m. m ≤ n + weight t) (g t) (f t)))
     λ a m h. record { exact = h .0; few = h .1; none = λ e. absurd (false≢true (sym notRead ∙ e)) }
 
 plain-fine : (op : Op) (n : ℕ) (t : Term) → bound (termItems t) ≡ [] → ((c : ℕ) → ScopedTerm c t) → Fine op n t n

@@ -1,19 +1,16 @@
 -- The fresh numbers of what an operation makes of its text, and how many there are.
-use Prim.Native.Nat.{ℕ, suc, _+_, _≤_}
+use Prim.Native.Nat.{ℕ, _+_}
 use mathlib.Core.Path.{_≡_, refl, sym, ap, subst, _∙_}
-use mathlib.Core.Bool.{Bool, true, false, false≢true}
 use mathlib.Core.List.{List, [], _∷_, _++_, append-nil, append-assoc}
-use native.Mathlib.Omega.{arith}
 use lib.ListN.{length}
-use Rattle.text.specs.Tree.{Tree, Trees, list, trees, weight, weights}
-use Rattle.text.specs.Answer.{Ans, got, bad, andThen, Res, ok, no, chain, lifted}
-use Rattle.text.specs.Reading.{Read, readText, readWords}
-use Rattle.parse.specs.Sort.{Sort, sortWords}
+use Rattle.text.specs.Tree.{Tree}
+use Rattle.text.specs.Answer.{andThen}
+use Rattle.parse.specs.Sort.{sortWords}
 use Rattle.parse.specs.Item.{Item, plain, raise, bound}
 use Rattle.parse.specs.Numbers.{Exactly}
 use Rattle.parse.specs.Scoped.{ScopedPreds, ScopedSolution}
 use Rattle.parse.specs.Scope.{numbered}
-use Rattle.parse.specs.Expr.{VarName, Pred, kvar, expr, Bind, Solution, exprItems, binderItems, nameItems, predItems, predsItems, bindItems, solutionItems}
+use Rattle.parse.specs.Expr.{VarName, Pred, Solution, exprItems, binderItems, nameItems, predItems, predsItems, bindItems, solutionItems}
 use Rattle.parse.specs.ParseSort.{inList, inSymbol, treeAt, parseSort}
 use Rattle.parse.specs.ParseExpr.{child, parseExpr}
 use Rattle.parse.specs.ParseBind.{parseBind}
@@ -56,14 +53,14 @@ names-bound (x ∷ xs) = names-bound xs
 good-preds : KeptPreds Good GoodPreds GoodPreds
 unfolding predsItems predItems bound runs
 good-preds =
-    record
-      { onExpr = λ t n m e h. (subst (λ (l : List Item). Exactly n (bound l) m) (sym (append-nil (exprItems e))) (h .0), λ c. (h .1 c, tt))
-      ; onKvar = λ s ts n xs e. (rw (bound-append (nameItems xs) [], names-bound xs) (exactly-none n), λ c. (tt, tt))
-      ; onAnd = λ t ts n m ps h. h
-      ; none = λ n. (exactly-none n, λ c. tt)
-      ; more = λ t ts n m p ps qs h k.
-          (rw (preds-append ps qs, bound-append (predsItems ps) (predsItems qs)) (exactly-append n m p (bound (predsItems ps)) (bound (predsItems qs)) (h .0) (k .0)), λ c. scoped-append c ps qs (h .1 c) (k .1 c))
-      }
+    record {
+      onExpr = λ t n m e h. (subst (λ (l : List Item). Exactly n (bound l) m) (sym (append-nil (exprItems e))) (h .0), λ c. (h .1 c, tt));
+      onKvar = λ s ts n xs e. (rw (bound-append (nameItems xs) [], names-bound xs) (exactly-none n), λ c. (tt, tt));
+      onAnd = λ t ts n m ps h. h;
+      none = λ n. (exactly-none n, λ c. tt);
+      more = λ t ts n m p ps qs h k.
+          (rw (preds-append ps qs, bound-append (predsItems ps) (predsItems qs)) (exactly-append n m p (bound (predsItems ps)) (bound (predsItems qs)) (h .0) (k .0)), λ c. scoped-append c ps qs (h .1 c) (k .1 c));
+    }
 
 module _ (text : List ℕ) where
   pub bind-good : (t : Tree) (n : ℕ) → Post (parseBind text t n) (λ b m. GoodTerm n (aBind b) m)
@@ -83,9 +80,10 @@ module _ (text : List ℕ) where
   draft-good t n s m h =
       let run : Exactly n (bound (binderItems (s .params))) (n + length (h .sorts)) = rw (h .params, bound-numbered n (h .sorts)) (exactly-up n (length (h .sorts))) in
       let be : (c : ℕ) → bound (raise c (binderItems (s .params))) ≡ upFrom (c + n) (length (h .names)) ++ [] =
-        λ c. ap (λ l. bound (raise c (binderItems l))) (h .params) ∙ bound-raise c (binderItems (numbered n (h .sorts))) ∙ ap (plus c) (bound-numbered n (h .sorts)) ∙ plus-up c n (length (h .sorts)) ∙ ap (upFrom (c + n)) (sym (h .binders .even)) ∙ sym (append-nil (upFrom (c + n) (length (h .names)))) in
-      (rw (bound-append (binderItems (s .params)) (exprItems (s .body))) (exactly-append n (n + length (h .sorts)) m (bound (binderItems (s .params))) (bound (exprItems (s .body))) run (h .body .0)),
-      λ c. rw (be c) (h .body .1 c))
+      λ c. ap (λ l. bound (raise c (binderItems l))) (h .params) ∙ bound-raise c (binderItems (numbered n (h .sorts))) ∙ ap (plus c) (bound-numbered n (h .sorts)) ∙ plus-up c n (length (h .sorts)) ∙ ap (upFrom (c + n)) (sym (h .binders .even)) ∙ sym (append-nil (upFrom (c + n) (length (h .names)))) in (
+        rw (bound-append (binderItems (s .params)) (exprItems (s .body))) (exactly-append n (n + length (h .sorts)) m (bound (binderItems (s .params))) (bound (exprItems (s .body))) run (h .body .0)),
+        λ c. rw (be c) (h .body .1 c),
+      )
 
   pub solution-good : (t : Tree) (n : ℕ) → Post (parseSolution text t n) (λ s m. GoodTerm n (aSolution s) m)
   unfolding termItems

@@ -1,21 +1,21 @@
 -- The claim about every list of calls, proved.
-use Prim.Native.Nat.{ℕ, zero, suc, _+_, _≤_, _<_}
+use Prim.Native.Nat.{ℕ, _+_, _≤_}
 use mathlib.Core.Path.{_≡_, refl, sym, ap, subst, _∙_}
 use mathlib.Core.Logic.{_⊎_, inl, inr}
 use mathlib.Core.Bool.{Bool, true, false}
-use mathlib.Core.List.{List, [], _∷_, _++_}
+use mathlib.Core.List.{List, [], _∷_}
 use native.Mathlib.Omega.{arith}
 use lib.Dec.{ltb}
 use borrow.Author.Tests.{ltb-true, ltb-false}
-use Rattle.text.specs.Limits.{maxNumber, maxBytes}
-use Rattle.text.specs.Answer.{Refusal, number, noRoom, numbersSpent, Res, ok, no, Final, accepts, refuses, Said, refused}
-use Rattle.parse.specs.Item.{raise, wordsOf, bound}
+use Rattle.text.specs.Limits.{maxNumber}
+use Rattle.text.specs.Answer.{number, noRoom, numbersSpent, Res, ok, no, accepts, refuses, refused}
+use Rattle.parse.specs.Item.{wordsOf}
 use Rattle.parse.specs.Numbers.{Exactly}
 use Rattle.parse.proofs.Exact.{exactly-none, exactly-append, exactly-raise}
 use Rattle.parse.proofs.Raise.{raise-zero}
 use Rattle.parse.proofs.Post.{Post}
-use Rattle.reader.specs.Session.{Op, Call, Term, termItems, termWords, report, make, made, roomFor, final, Outcome, outcome, countAfter, boundBy, boundByAll}
-use Rattle.reader.specs.Demand3.{ScopedTerm, ScopedFinal, AllScoped, refusal, acceptance, readsOrSorts, Agree, LongEnough, BothRefuse, BothAccept, Answered, Alike, Demand3}
+use Rattle.reader.specs.Session.{Call, Term, termItems, made, roomFor, final, Outcome, outcome, countAfter, boundBy, boundByAll}
+use Rattle.reader.specs.Demand3.{ScopedFinal, AllScoped, acceptance, readsOrSorts, Agree, LongEnough, BothRefuse, BothAccept, Answered, Alike, Demand3}
 use Rattle.reader.proofs.Made.{Fine, make-fine}
 use Rattle.reader.proofs.Calls.{when-refused, when-accepted, made-same, final-same, decides-early, decides-spent, decides-short, decides-long, before-spent, no-refusal}
 
@@ -58,16 +58,16 @@ module _ (old new : Call) (g : Agree old new) (c : ℕ) where
 
     answered : Answered old new c m n
     answered =
-        record
-          { asIfLong = as-if-long
-          ; binds = fine new m n e .exact .0
-          ; spent = λ h. when-refused old c numbersSpent (final-same old new c g ∙ decides-spent new c m n e h)
-          ; notSpent = not-spent
-          ; otherwise = otherwise
-          ; newWords = ap wordsOf (raise-zero (termItems m))
-          ; oldBinds = exactly-raise c n (termItems m) (fine new m n e .exact .0)
-          ; scoped = fine new m n e .exact .1 c
-          }
+        record {
+          asIfLong = as-if-long;
+          binds = fine new m n e .exact .0;
+          spent = λ h. when-refused old c numbersSpent (final-same old new c g ∙ decides-spent new c m n e h);
+          notSpent = not-spent;
+          otherwise = otherwise;
+          newWords = ap wordsOf (raise-zero (termItems m));
+          oldBinds = exactly-raise c n (termItems m) (fine new m n e .exact .0);
+          scoped = fine new m n e .exact .1 c;
+        }
 
   read-or-sort : c ≤ maxNumber → readsOrSorts (new .op) ≡ true → (r : ℕ) → outcome new 0 .said ≡ refused r → BothRefuse old new c r
   read-or-sort h rs r q = go (made new) refl
@@ -85,11 +85,11 @@ module _ (old new : Call) (g : Agree old new) (c : ℕ) where
 
   alike : c ≤ maxNumber → Alike old new c
   alike h =
-      record
-        { early = λ r e. (before-spent r, both-refuse (number r) (decides-early new c r e) (decides-early new 0 r e))
-        ; readOrSort = read-or-sort h
-        ; met = answered
-        }
+      record {
+        early = λ r e. (before-spent r, both-refuse (number r) (decides-early new c r e) (decides-early new 0 r e));
+        readOrSort = read-or-sort h;
+        met = answered;
+      }
 
 -- One call of a list: the count stays in range, what is bound, and that it is scoped.
 record Step (call : Call) (c : ℕ) : Type 0 where
@@ -107,11 +107,11 @@ accepted-step : (call : Call) (c : ℕ) (m : Term) (n : ℕ) → c + n ≤ maxNu
 unfolding boundBy
 accepted-step call c m n h q e =
     let k : outcome call c .count ≡ c + n = ap (λ (o : Outcome). o .count) (when-accepted call c m n e) in
-    record
-      { fits = omega (arith, k)
-      ; numbers = rw (e, k) (exactly-raise c n (termItems m) (fine call m n q .exact .0))
-      ; scoped = rw e (fine call m n q .exact .1 c)
-      }
+    record {
+      fits = omega (arith, k);
+      numbers = rw (e, k) (exactly-raise c n (termItems m) (fine call m n q .exact .0));
+      scoped = rw e (fine call m n q .exact .1 c);
+    }
 
 step : (call : Call) (c : ℕ) → c ≤ maxNumber → Step call c
 step call c h = go (made call) refl
@@ -144,9 +144,9 @@ scoped (x ∷ xs) c h = (step x c h .scoped, scoped xs (outcome x c .count) (ste
 -- Demand 3 holds of every list of calls, on a reader that is opened at any count that it can hold.
 pub demand3 : (opened : ℕ) → opened ≤ maxNumber → (calls : List Call) → Demand3 opened calls
 demand3 opened h calls =
-    record
-      { fits = fits calls opened h
-      ; numbers = numbers calls opened h
-      ; scoped = scoped calls opened h
-      ; alike = λ old new g. alike old new g (countAfter calls opened) (fits calls opened h)
-      }
+    record {
+      fits = fits calls opened h;
+      numbers = numbers calls opened h;
+      scoped = scoped calls opened h;
+      alike = λ old new g. alike old new g (countAfter calls opened) (fits calls opened h);
+    }

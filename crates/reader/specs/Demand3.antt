@@ -6,7 +6,7 @@ use mathlib.Core.Bool.{Bool, true, false}
 use mathlib.Core.List.{List, [], _∷_}
 use lib.ListN.{length}
 use Rattle.text.specs.Limits.{maxNumber}
-use Rattle.text.specs.Answer.{Refusal, number, noRoom, numbersSpent, no, ok, Final, accepts, refuses, Said, refused, zeros, over}
+use Rattle.text.specs.Answer.{Refusal, number, noRoom, numbersSpent, no, ok, Final, accepts, refuses, refused, zeros, over}
 use Rattle.parse.specs.Item.{raise, wordsOf, bound}
 use Rattle.parse.specs.Numbers.{Exactly}
 use Rattle.parse.specs.Scoped.{Scoped, ScopedPreds, ScopedSolution}

@@ -4,7 +4,7 @@ use mathlib.Core.Bool.{Bool, true, false}
 use mathlib.Core.List.{List, [], _∷_, _++_}
 use lib.ListN.{length}
 use Rattle.text.specs.Pick.{pick}
-use Rattle.text.specs.Answer.{Res, M, _>>=_, chain, done, lifted, Final, accepts, refuses, finish, fitsIn, Said, accepted, refused, zeros, outputOf, saidOf, countOf}
+use Rattle.text.specs.Answer.{Res, M, _>>=_, chain, done, lifted, Final, accepts, refuses, finish, fitsIn, Said, accepted, zeros, outputOf, saidOf, countOf}
 use Rattle.text.specs.Reading.{Read, readText, readWords, readReport}
 use Rattle.parse.specs.Sort.{Sort, sortWords}
 use Rattle.parse.specs.Item.{Item, plains, raise, wordsOf, bound}

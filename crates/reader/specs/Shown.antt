@@ -1,13 +1,12 @@
 -- What calls show, for tables of cases.
 use Prim.Native.Nat.{ℕ}
 use Prim.Native.String.{String}
-use mathlib.Core.List.{List, [], _∷_, map}
+use mathlib.Core.List.{List, map}
 use lib.ListN.{replicate}
 use Rattle.text.specs.Bytes.{ascii}
 use Rattle.text.specs.Answer.{Final, accepts, refuses}
-use Rattle.parse.specs.Expr.{Expr}
 use Rattle.flatten.specs.Operations.{exprWords, flattenFinal}
-use Rattle.reader.specs.Session.{Op, Call, Term, termWords, final}
+use Rattle.reader.specs.Session.{Op, Call, termWords, final}
 use Rattle.reader.specs.Compute.{readerComputes}
 
 -- A refusal's number, or the words written.

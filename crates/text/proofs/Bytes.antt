@@ -4,14 +4,15 @@ use Prim.Native.String.{String}
 use mathlib.Core.Bool.{Bool, true, false}
 use mathlib.Core.Path.{_≡_, refl, sym, ap, _∙_}
 use mathlib.Core.List.{List, [], _∷_}
+use native.Mathlib.Nat.{add-zero}
 use native.Mathlib.Numerals.{add-one}
 use native.Mathlib.Omega.{arith}
 use lib.Dec.{eqb}
 use lib.ListN.{length, take, drop, getD, drop-of-length-le, length-take, length-drop}
-use lib.Seq.{drop-cons}
+use lib.Seq.{drop-cons, getD-drop}
 use borrow.Author.Tests.{eqb-true, eqb-false, eq-eqb, ne-eqb}
 use Rattle.text.specs.Pick.{pick}
-use Rattle.text.specs.Bytes.{ascii, sameBytes, beginsWith, before, Span, SpanWithin, bytesAt, Maybe, nothing, just, Named, named, lookup}
+use Rattle.text.specs.Bytes.{ascii, sameBytes, beginsWith, before, startsWith, Span, SpanWithin, bytesAt, Maybe, nothing, just, Named, named, lookup}
 use Rattle.text.proofs.Picks.{pick-true, pick-false}
 
 -- The order of two numbers is nothing to their equality.
@@ -85,6 +86,10 @@ begins-length w s e =
     let q : w ≡ take (length w) s = same-equal w (take (length w) s) (sym (begins-take w s) ∙ e) in
     omega (arith, ap length q, length-take (length w) s)
 
+-- Bytes do not begin with what is longer than they are.
+pub begins-longer : (w s : List ℕ) → length s < length w → beginsWith w s ≡ false
+begins-longer w s h = begins-take w s ∙ same-length w (take (length w) s) (λ e. omega (arith, e, length-take (length w) s))
+
 module _ (stop : List ℕ → Bool) where
   -- There are at most as many bytes before a place as there are in all.
   pub before-le : (s : List ℕ) → before stop s ≤ length s
@@ -115,6 +120,16 @@ module _ (stop : List ℕ → Bool) where
     before-more h e =
         let q : stop (getD s i 0 ∷ drop (suc i) s) ≡ false = rw (drop-cons s i 0) at (sym e) in
         rw (drop-cons s i 0, add-one) (sym (pick-false _ q (omega arith)))
+
+module _ (s : List ℕ) (i b : ℕ) where
+  -- A byte stands at a place, or another one.
+  pub starts-yes : getD s i 0 ≡ b → true ≡ startsWith b (drop i s)
+  unfolding startsWith
+  starts-yes e = simp (getD-drop, add-zero) (sym (eq-eqb _ _ e))
+
+  pub starts-no : (getD s i 0 ≡ b → ⊥) → false ≡ startsWith b (drop i s)
+  unfolding startsWith
+  starts-no e = simp (getD-drop, add-zero) (sym (ne-eqb _ _ e))
 
 -- A span has at most so many bytes as it says.
 pub bytes-length : (text : List ℕ) (s : Span) → length (bytesAt text s) ≤ s .len

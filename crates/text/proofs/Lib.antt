@@ -13,3 +13,9 @@ pub mod Weight
 pub mod ReadWeight
 pub mod Placed
 pub mod TreeBack
+pub mod Parts
+pub mod WellFormed
+pub mod Finish
+pub mod Wider
+pub mod TextTree
+pub mod Cases

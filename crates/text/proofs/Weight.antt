@@ -1,7 +1,7 @@
 -- Laws of the weight of trees.
-use Prim.Native.Nat.{ℕ, _+_, _≤_}
+use Prim.Native.Nat.{_≤_}
 use native.Mathlib.Omega.{arith}
-use Rattle.text.specs.Tree.{Atom, symbol, quoted, integer, decimal, boolean, atomWeight, Tree, atom, list, weight, weights}
+use Rattle.text.specs.Tree.{Atom, symbol, quoted, integer, decimal, boolean, atomWeight, Tree, atom, list, weight}
 
 atom-weight : (a : Atom) → 1 ≤ atomWeight a
 atom-weight (symbol s) = omega arith

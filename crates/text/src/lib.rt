@@ -1,1 +1,3 @@
 // The text reader: bytes to the words of trees. Its definitions are in specs/.
+pub mod byte;
+mod utf8;
