@@ -16,7 +16,7 @@ use Rattle.parse.specs.Expr.{Expr, Exprs, node, app, enil, econs, exprs, Soluti
 use Rattle.parse.specs.Shape.{MaybeSortCoded, BindersCoded, Coded, CodedAll, depth, depths}
 use Rattle.parse.proofs.Items.{words-append, words-plains}
 use Rattle.parse.proofs.Lengths.{size-node, size-app, size-cons, size-solution}
-use Rattle.flatten.specs.Judge.{reads, times, sortIf, planned, exprDeep, exprAt, atEnd, judgeExpr, judgeSolution}
+use Rattle.flatten.specs.Judge.{reads, several, sortIf, planned, exprDeep, exprAt, atEnd, judgeExpr, judgeSolution}
 use Rattle.flatten.proofs.FieldsBack.{moved, word-back}
 use Rattle.flatten.proofs.SortBack.{deeper, sort-at, binders-at}
 use Rattle.flatten.proofs.KindBack.{hasSort, kind-at, arguments-at}
@@ -44,7 +44,7 @@ module _ (limit numbers : ℕ) (few : numbers ≤ 2 ^ 64) (ws : List ℕ) where
   Back e at room = exprDeep limit room ws at ≡ reads e (at + length (wordsOf (exprItems e)))
 
   mutual
-    unfolding exprDeep planned times exprItems exprs wordsOf depth
+    unfolding exprDeep planned several exprItems exprs wordsOf depth
 
     -- An expression is read where its words stand, if there is room for its nesting.
     pub expr-at : (e : Expr) (room at : ℕ) → Coded e limit numbers → depth e ≤ room → At ws at (wordsOf (exprItems e)) → exprDeep limit room ws at ≡ reads e (at + length (wordsOf (exprItems e)))
@@ -59,7 +59,7 @@ module _ (limit numbers : ℕ) (few : numbers ≤ 2 ^ 64) (ws : List ℕ) where
         rw (arguments-at limit ws (exprs es) at o _ a, exprs-at es g (at + 3) (c .0) (omega arith) (items-left ws (exprsItems es) (outSort o ++ exprItems e) b), out-at o (at + 3 + length (wordsOf (exprsItems es))) (c .1) (items-left ws (outSort o) (exprItems e) d), expr-at e g (at + 3 + length (wordsOf (exprsItems es)) + length (wordsOf (outSort o))) (c .2) (omega arith) (items-right ws (outSort o) (exprItems e) d)) (moved (omega (arith, size-app o es e)))
 
     -- The same for several expressions.
-    pub exprs-at : (es : Exprs) (room at : ℕ) → CodedAll es limit numbers → depths es ≤ room → At ws at (wordsOf (exprsItems es)) → times (exprDeep limit room) enil econs (exprs es) ws at ≡ reads es (at + length (wordsOf (exprsItems es)))
+    pub exprs-at : (es : Exprs) (room at : ℕ) → CodedAll es limit numbers → depths es ≤ room → At ws at (wordsOf (exprsItems es)) → several (exprDeep limit room) enil econs (exprs es) ws at ≡ reads es (at + length (wordsOf (exprsItems es)))
     exprs-at enil room at c h a = moved (omega arith)
     exprs-at (econs e es) room at c h a =
         rw (expr-at e room at (c .0) (omega arith) (items-left ws (exprItems e) (exprsItems es) a), exprs-at es room (at + length (wordsOf (exprItems e))) (c .1) (omega arith) (items-right ws (exprItems e) (exprsItems es) a)) (moved (omega (arith, size-cons e es)))

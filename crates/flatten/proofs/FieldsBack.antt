@@ -12,7 +12,7 @@ use Rattle.text.specs.Tree.{spanWords, wideWords}
 use Rattle.text.specs.At.{At}
 use Rattle.text.proofs.Placed.{at-tail, at-below, at-word}
 use Rattle.parse.specs.Sort.{two}
-use Rattle.flatten.specs.Judge.{reads, word, below, twoWords, fourWords, spanWithin}
+use Rattle.flatten.specs.Judge.{reads, word, wordBelow, twoWords, fourWords, spanWithin}
 
 -- The same value, and the same position written otherwise.
 pub moved : {A : Type 0} {a : A} {m n : ℕ} → m ≡ n → reads a m ≡ reads a n
@@ -24,8 +24,8 @@ unfolding word pick
 word-back {ws} {at} h = rw (lt-ltb at (length ws) (at-below h), at-word h) refl
 
 -- A word below a bound.
-pub below-back : {ws : List ℕ} {at x : ℕ} {xs : List ℕ} (m : ℕ) → x < m → At ws at (x ∷ xs) → below m ws at ≡ reads x (at + 1)
-unfolding below pick
+pub below-back : {ws : List ℕ} {at x : ℕ} {xs : List ℕ} (m : ℕ) → x < m → At ws at (x ∷ xs) → wordBelow m ws at ≡ reads x (at + 1)
+unfolding wordBelow pick
 below-back {x = x} m u h = rw (word-back h, lt-ltb x m u) refl
 
 -- A number below 2^64 from its low word and its high word.

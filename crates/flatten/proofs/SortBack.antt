@@ -13,7 +13,7 @@ use Rattle.parse.specs.Item.{wordsOf}
 use Rattle.parse.specs.Expr.{Binder, sortItems, binderItems}
 use Rattle.parse.specs.Shape.{SortCoded, SortsCoded, BindersCoded}
 use Rattle.parse.proofs.Items.{words-front}
-use Rattle.flatten.specs.Judge.{reads, choose, times, ctors, sortKinds, sortDeep, sortAt, binderAt, bindersAt}
+use Rattle.flatten.specs.Judge.{reads, choose, several, ctors, sortKinds, sortDeep, sortAt, binderAt, bindersAt}
 use Rattle.flatten.proofs.FieldsBack.{moved, word-back, two-back, span-back}
 
 -- What holds with room for one more.
@@ -27,7 +27,7 @@ module _ (limit : ℕ) (ws : List ℕ) where
   Back s at deep = sortDeep limit deep ws at ≡ reads s (at + length (sortWords s))
 
   mutual
-    unfolding sortDeep sortKinds choose ctors pick times sortWords sorts
+    unfolding sortDeep sortKinds choose ctors pick several sortWords sorts
 
     sort-deep : (s : Sort) (deep at : ℕ) → SortCoded s limit → length (sortWords s) ≤ deep → At ws at (sortWords s) → sortDeep limit deep ws at ≡ reads s (at + length (sortWords s))
     sort-deep sInt deep at c h a = deeper (Back sInt at) 0 deep h λ g l. rw (word-back a) refl
@@ -63,7 +63,7 @@ module _ (limit : ℕ) (ws : List ℕ) where
         let d : At ws (at + 1 + 1 + 2) (sorts ss ∷ sortsWords ss) = at-right (spanWords s) (sorts ss ∷ sortsWords ss) b in
         rw (word-back a, word-back (at-tail a), span-back limit s (c .0) b, word-back d, sorts-deep ss g (at + 1 + 1 + 2 + 1) (c .1) (omega arith) (at-tail d)) (moved (omega arith))
 
-    sorts-deep : (ss : Sorts) (deep at : ℕ) → SortsCoded ss limit → length (sortsWords ss) ≤ deep → At ws at (sortsWords ss) → times (sortDeep limit deep) snil scons (sorts ss) ws at ≡ reads ss (at + length (sortsWords ss))
+    sorts-deep : (ss : Sorts) (deep at : ℕ) → SortsCoded ss limit → length (sortsWords ss) ≤ deep → At ws at (sortsWords ss) → several (sortDeep limit deep) snil scons (sorts ss) ws at ≡ reads ss (at + length (sortsWords ss))
     sorts-deep snil deep at c h a = moved (omega arith)
     sorts-deep (scons s ss) deep at c h a =
         let n : length (sortWords s ++ sortsWords ss) ≡ length (sortWords s) + length (sortsWords ss) = length-append (sortWords s) (sortsWords ss) in
@@ -78,7 +78,7 @@ module _ (limit : ℕ) (ws : List ℕ) where
 module _ (limit numbers : ℕ) (few : numbers ≤ 2 ^ 64) (ws : List ℕ) where
   -- Binders are read where their words stand.
   pub binders-at : (bs : List Binder) (at : ℕ) → BindersCoded bs limit numbers → At ws at (wordsOf (binderItems bs)) → bindersAt limit (length bs) ws at ≡ reads bs (at + length (wordsOf (binderItems bs)))
-  unfolding bindersAt binderAt times binderItems wordsOf
+  unfolding bindersAt binderAt several binderItems wordsOf
   binders-at [] at c a = moved (omega arith)
   binders-at (b ∷ bs) at c a =
       let ss : List ℕ = sortWords (b .sort) in

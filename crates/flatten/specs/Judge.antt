@@ -42,8 +42,8 @@ unfoldable pub word : Reader ℕ
 word ws at = pick (ltb at (length ws)) (reads (getD ws at 0) (at + 1)) (fails notWords)
 
 -- A word below a bound.
-unfoldable pub below : ℕ → Reader ℕ
-below m = do
+unfoldable pub wordBelow : ℕ → Reader ℕ
+wordBelow m = do
   k ← word
   pick (ltb k m) (ret k) (fail notWords)
 
@@ -77,11 +77,11 @@ fourWords = do
   ret (record { a = a; b = b; c = c; d = d })
 
 -- So many, one after the other.
-unfoldable pub times : {A B : Type 0} → Reader A → B → (A → B → B) → ℕ → Reader B
-times p none put zero = ret none
-times p none put (suc n) = do
+unfoldable pub several : {A B : Type 0} → Reader A → B → (A → B → B) → ℕ → Reader B
+several p none put zero = ret none
+several p none put (suc n) = do
   a ← p
-  b ← times p none put n
+  b ← several p none put n
   ret (put a b)
 
 -- What the kind and the fields of an expression say: so many operands of a kind, or an application with or without an output sort and so many arguments.
@@ -143,7 +143,7 @@ module _ (limit : ℕ) where
         k ← word
         c ← choose 0 ctors k
         n ← word
-        ss ← times d snil scons n
+        ss ← several d snil scons n
         ret (sApp c ss))
       ∷ []
 
@@ -164,7 +164,7 @@ module _ (limit : ℕ) where
     ret (record { var = k; sort = s })
 
   unfoldable pub bindersAt : ℕ → Reader (List Binder)
-  bindersAt n = times binderAt [] (λ b bs. b ∷ bs) n
+  bindersAt n = several binderAt [] (λ b bs. b ∷ bs) n
 
   -- The kinds from 32 on, with their fields.
   unfoldable pub kinds : List (Reader Plan)
@@ -173,7 +173,7 @@ module _ (limit : ℕ) where
         v ← fourWords
         plan (kNum v) 0)
       ∷ (do
-        b ← below 2
+        b ← wordBelow 2
         plan (kBool (eqb b 1)) 0)
       ∷ (do
         s ← spanWithin
@@ -189,7 +189,7 @@ module _ (limit : ℕ) where
         x ← nameWithin
         plan (kNamed x) 0)
       ∷ (do
-        f ← below 2
+        f ← wordBelow 2
         n ← word
         ret (argumentsOf (eqb f 1) n))
       ∷ plan kNeg 1
@@ -213,7 +213,7 @@ module _ (limit : ℕ) where
         x ← nameWithin
         plan (kLet x) 2)
       ∷ (do
-        k ← below 42
+        k ← wordBelow 42
         plan (kTheory k) 0)
       ∷ (do
         x ← nameWithin
@@ -239,10 +239,10 @@ module _ (limit : ℕ) where
   -- What follows a header; d reads an expression inside.
   unfoldable pub planned : Reader Expr → Plan → Reader Expr
   planned d (operandsOf k n) = do
-    es ← times d enil econs n
+    es ← several d enil econs n
     ret (node k es)
   planned d (argumentsOf f n) = do
-    es ← times d enil econs n
+    es ← several d enil econs n
     o ← sortIf f
     h ← d
     ret (app o es h)

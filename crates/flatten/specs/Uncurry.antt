@@ -27,7 +27,7 @@ unfoldable mutual
 abbrev pub flattened : Solution → Solution
 flattened s = record { params = s .params; body = uncurry (s .body) }
 
--- The largest number of operands of an And, an Or or an application.
+-- The largest number of operands of a node or of arguments of an application.
 unfoldable mutual
   pub mostOperands : Expr → ℕ
   mostOperands (node k es) = max (exprs es) (mostOperandsAll es)

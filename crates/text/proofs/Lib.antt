@@ -19,3 +19,4 @@ pub mod Finish
 pub mod Wider
 pub mod TextTree
 pub mod Cases
+pub mod White
