@@ -5,7 +5,7 @@ use mathlib.Core.List.{List, [], _∷_}
 use native.Mathlib.Omega.{arith}
 use lib.ListN.{length, length-append}
 use Rattle.text.specs.Bytes.{Span}
-use Rattle.text.specs.Tree.{Tree, Trees, list, tnil, tcons, nesting, Within, AllWithin, weight, weights}
+use Rattle.text.specs.Tree.{Tree, Trees, list, tnil, tcons, treeWords, treesWords, nesting, Within, AllWithin, weight, weights}
 use Rattle.parse.specs.Sort.{Sort, sortWords}
 use Rattle.parse.specs.ParseSort.{inList, treeAt, parseSort}
 use Rattle.parse.specs.Item.{wordsOf}
@@ -24,18 +24,20 @@ use Rattle.parse.proofs.Kept.{BindersOf}
 pub record TreeIn (ts : Trees) (t : Tree) : Type 0 where
   pub within : (limit : ℕ) → AllWithin ts limit → Within t limit
   pub weighs : weight t ≤ weights ts
+  pub long : length (treeWords t) ≤ length (treesWords ts)
 
 pub tree-at : (ts : Trees) (i : ℕ) → Every (treeAt ts i) (TreeIn ts)
-unfolding treeAt weight
+unfolding treeAt weight treeWords
 tree-at tnil i = tt
-tree-at (tcons t ts) zero = record { within = λ limit w. w .0; weighs = omega arith }
+tree-at (tcons t ts) zero = record { within = λ limit w. w .0; weighs = omega arith; long = omega (arith, length-append (treeWords t) (treesWords ts)) }
 tree-at (tcons t ts) (suc i) =
-    map-every (treeAt ts i) (TreeIn ts) (TreeIn (tcons t ts)) (λ u h. record { within = λ limit w. h .within limit (w .1); weighs = omega (arith, h .weighs) }) (tree-at ts i)
+    map-every (treeAt ts i) (TreeIn ts) (TreeIn (tcons t ts)) (λ u h. record { within = λ limit w. h .within limit (w .1); weighs = omega (arith, h .weighs); long = omega (arith, h .long, length-append (treeWords t) (treesWords ts)) }) (tree-at ts i)
 
 -- A sort from an item of a list.
 pub sort-from : (ts : Trees) (t : Tree) (o : Sort) → TreeIn ts t → SortOf t o → SortOf (list ts) o
-unfolding weight
-sort-from ts t o i s = record { coded = λ limit w. s .coded limit (i .within limit w); size = omega (arith, i .weighs, s .size) }
+unfolding weight treeWords
+sort-from ts t o i s =
+    record { coded = λ limit w. s .coded limit (i .within limit w); size = omega (arith, i .weighs, s .size); short = omega (arith, i .long, s .short) }
 
 -- The sorts of binders, each read from one of these trees.
 pub record SortsFrom (ts : Trees) (os : List Sort) : Type 0 where

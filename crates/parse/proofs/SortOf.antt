@@ -12,7 +12,7 @@ use Rattle.text.specs.Limits.{maxFunc}
 use Rattle.text.specs.Pick.{pick}
 use Rattle.text.specs.Bytes.{ascii, beginsWith, Span, SpanWithin, bytesAt, Maybe, nothing, just, lookup}
 use Rattle.text.specs.Number.{Wide, valueOf, below, unsigned}
-use Rattle.text.specs.Tree.{Atom, symbol, quoted, integer, decimal, boolean, Tree, Trees, atom, list, tnil, tcons, Within, AllWithin, weight, weights}
+use Rattle.text.specs.Tree.{Atom, symbol, quoted, integer, decimal, boolean, Tree, Trees, atom, list, tnil, tcons, atomWords, treeWords, treesWords, Within, AllWithin, weight, weights}
 use Rattle.text.specs.Answer.{got, andThen, check, Refusal, badFunc}
 use Rattle.text.proofs.Picks.{pick-holds}
 use Rattle.parse.specs.Sort.{Ctor, cSet, cMap, cData, Sort, Sorts, sSize, sApp, snil, scons, sorts, ctorWords, sortWords, sortsWords, funcs, abstracted}
@@ -21,18 +21,21 @@ use Rattle.parse.specs.ParseSort
 use Rattle.parse.specs.ParseSort.{inList, inAtom, symbolIn, inSymbol, inInteger, sizeNamed, indexNamed, orData, otherSort, sortTable, orApplied, funcNumber, View, viewAt, eachSort, funcSort, functionSort}
 use Rattle.parse.specs.Shape.{SortCoded, SortsCoded, CtorWithin}
 use Rattle.text.proofs.Bytes.{bytes-length}
+use Rattle.text.proofs.Token.{atom-size}
 use Rattle.text.proofs.Weight.{weight-some}
 use Rattle.parse.proofs.Post.{Every, map-every, then-every, any-every, AllRows, IfThere, lookup-holds}
 
--- The sort's fields are within their codes, and its words and one more are at most 15 for each byte that the tree takes.
+-- The sort's fields are within their codes, and its words and one more are at most 15 for each byte that the tree takes, and 16 for each of its words.
 pub record SortOf (t : Tree) (s : Sort) : Type 0 where
   pub coded : (limit : ℕ) → Within t limit → SortCoded s limit
   pub size : length (sortWords s) + 1 ≤ 15 * weight t
+  pub short : length (sortWords s) + 1 ≤ 16 * length (treeWords t)
 
 -- The same of sorts that are read from these trees.
 pub record SortsOf (ts : Trees) (ss : Sorts) : Type 0 where
   pub coded : (limit : ℕ) → AllWithin ts limit → SortsCoded ss limit
   pub size : length (sortsWords ss) + sorts ss ≤ 15 * weights ts
+  pub short : length (sortsWords ss) + sorts ss ≤ 16 * length (treesWords ts)
 
 pub record ViewOf (t : Tree) (v : View) : Type 0 where
   pub tree : v .tree ≡ t
@@ -68,8 +71,8 @@ check-true true r = refl
 check-true false r = tt
 
 each-sort : (ts : Trees) (vs : List View) → ViewsOf ts vs → Every (eachSort vs) (SortsOf ts)
-unfolding eachSort sortWords sorts weight
-each-sort tnil [] h = record { coded = λ limit w. tt; size = omega arith }
+unfolding eachSort sortWords sorts weight treeWords
+each-sort tnil [] h = record { coded = λ limit w. tt; size = omega arith; short = omega arith }
 each-sort tnil (v ∷ vs) h = absurd h
 each-sort (tcons t ts) [] h = absurd h
 each-sort (tcons t ts) (v ∷ vs) h =
@@ -78,7 +81,20 @@ each-sort (tcons t ts) (v ∷ vs) h =
     record {
       coded = λ limit w. (p .coded limit (w .0), q .coded limit (w .1));
       size = omega (arith, p .size, q .size, length-append (sortWords s) (sortsWords ss));
+      short = omega (arith, p .short, q .short, length-append (sortWords s) (sortsWords ss), length-append (treeWords t) (treesWords ts));
     }
+
+-- a tree has at least two words
+tree-two : (t : Tree) → 2 ≤ length (treeWords t)
+unfolding treeWords
+tree-two (atom a) = atom-size a .0
+tree-two (list ts) = omega arith
+
+-- the words of a list of four items and more
+four-long : (a b c d : Tree) (ts : Trees) → length (treesWords (tcons a (tcons b (tcons c (tcons d ts))))) ≡ length (treeWords a) + (length (treeWords b) + (length (treeWords c) + (length (treeWords d) + length (treesWords ts))))
+unfolding treeWords
+four-long a b c d ts =
+    omega (arith, length-append (treeWords a) (treesWords (tcons b (tcons c (tcons d ts)))), length-append (treeWords b) (treesWords (tcons c (tcons d ts))), length-append (treeWords c) (treesWords (tcons d ts)), length-append (treeWords d) (treesWords ts))
 
 -- the words of a `func` sort
 funcs-size : (ss : Sorts) (o : Sort) → length (sortWords (funcs ss o)) ≡ length (sortsWords ss) + sorts ss + length (sortWords o)
@@ -108,7 +124,7 @@ func-number w = then-every (check (leb (valueOf w) maxFunc) badFunc) _ (λ _. le
 
 -- behind a first item that takes at least four bytes
 func-sort : (t : Tree) (ts : Trees) (vs : List View) → 4 ≤ weight t → ViewsOf ts vs → Every (funcSort vs) (SortOf (list (tcons t ts)))
-unfolding funcSort viewAt weight
+unfolding funcSort viewAt weight treeWords
 func-sort t tnil [] l h = tt
 func-sort t tnil (v ∷ vs) l h = absurd h
 func-sort t (tcons a ts) [] l h = absurd h
@@ -133,10 +149,11 @@ func-sort t (tcons a (tcons b (tcons c ts))) (k ∷ ins ∷ out ∷ vs) l h =
     record {
       coded = λ limit w. abstracted-coded n 0 (funcs ss o) limit (funcs-coded ss o limit (p .coded limit (rw be at (w .1 .1 .0))) (q .coded limit (w .1 .1 .1 .0)));
       size = rw be (omega (arith, abstracted-size n 0 (funcs ss o), funcs-size ss o, p .size, q .size, m, l, weight-some a));
+      short = rw be (omega (arith, abstracted-size n 0 (funcs ss o), funcs-size ss o, p .short, q .short, m, tree-two t, tree-two a, four-long t a (list us) c ts));
     }
 
 function-sort : (t : Tree) (ts : Trees) (vs : List View) → ViewsOf ts vs → Every (functionSort vs) (SortOf (list (tcons t ts)))
-unfolding functionSort viewAt weight sortWords
+unfolding functionSort viewAt weight sortWords treeWords
 function-sort t tnil [] h = tt
 function-sort t tnil (v ∷ vs) h = absurd h
 function-sort t (tcons a ts) [] h = absurd h
@@ -149,6 +166,7 @@ function-sort t (tcons a (tcons b ts)) (v ∷ u ∷ vs) h =
     record {
       coded = λ limit w. (p .coded limit (w .1 .0), q .coded limit (w .1 .1 .0));
       size = omega (arith, p .size, q .size, length-append (sortWords s) (sortWords o));
+      short = omega (arith, p .short, q .short, length-append (sortWords s) (sortWords o), length-append (treeWords t) (treesWords (tcons a (tcons b ts))), length-append (treeWords a) (treesWords (tcons b ts)), length-append (treeWords b) (treesWords ts));
     }
 
 -- a list form that was looked up by a name of so many bytes
@@ -183,11 +201,12 @@ ctor-size cMap = omega arith
 ctor-size (cData s) = omega arith
 
 app-sort : (t : Tree) (ts : Trees) (c : Ctor) (ss : Sorts) → ((limit : ℕ) → Within t limit → CtorWithin c limit) → SortsOf ts ss → SortOf (list (tcons t ts)) (sApp c ss)
-unfolding sortWords weight
+unfolding sortWords weight treeWords
 app-sort t ts c ss f p =
     record {
       coded = λ limit w. (f limit (w .0), p .coded limit (w .1));
       size = omega (arith, p .size, ctor-size c, weight-some t, length-append (ctorWords c) (sorts ss ∷ sortsWords ss));
+      short = omega (arith, p .short, ctor-size c, length-append (ctorWords c) (sorts ss ∷ sortsWords ss), length-append (treeWords t) (treesWords ts));
     }
 
 plain-fits : AllRows plainSorts (λ n s. (length (sortWords s) ≡ 1) × ((limit : ℕ) → SortCoded s limit))
@@ -223,25 +242,25 @@ index-holds w =
     (pick-holds (eqb (getD w (length w - 1) 0) 41) (unsigned 10 (2 ^ 64) (take (length w - 3) (drop 2 w))) nothing (λ m. IfThere m (λ i. i < 2 ^ 64)) (below-holds (2 ^ 64) _) tt) tt
 
 or-data : (s : Span) (m : Maybe ℕ) → IfThere m (λ i. i < 2 ^ 64) → SortOf (atom (symbol s)) (orData s m)
-unfolding sortWords weight sorts
-or-data s nothing h = record { coded = λ limit w. (w, tt); size = omega arith }
-or-data s (just i) h = record { coded = λ limit w. h; size = omega arith }
+unfolding sortWords weight sorts treeWords atomWords
+or-data s nothing h = record { coded = λ limit w. (w, tt); size = omega arith; short = omega arith }
+or-data s (just i) h = record { coded = λ limit w. h; size = omega arith; short = omega arith }
 
 other-sort : (w : List ℕ) (s : Span) (m : Maybe Sort) → IfThere m (λ o. (length (sortWords o) ≡ 1) × ((limit : ℕ) → SortCoded o limit)) → Every (otherSort w s m) (SortOf (atom (symbol s)))
-unfolding otherSort sortWords weight
-other-sort w s (just o) h = record { coded = λ limit _. h .1 limit; size = omega (arith, h .0) }
+unfolding otherSort sortWords weight treeWords atomWords
+other-sort w s (just o) h = record { coded = λ limit _. h .1 limit; size = omega (arith, h .0); short = omega (arith, h .0) }
 other-sort w s nothing h =
     pick-holds (beginsWith (ascii "Size") w) (andThen (sizeNamed w) λ width. got (sSize width)) (got (orData s (indexNamed w))) (λ a. Every a (SortOf (atom (symbol s))))
-    (any-every (sizeNamed w) _ _ λ width. record { coded = λ limit _. tt; size = omega arith })
+    (any-every (sizeNamed w) _ _ λ width. record { coded = λ limit _. tt; size = omega arith; short = omega arith })
     (or-data s (indexNamed w) (index-holds w))
 
 module _ (text : List ℕ) where
   bitvec-sort : (t : Tree) (ts : Trees) (vs : List View) → Every (ParseSort.bitVecSort text vs) (SortOf (list (tcons t ts)))
-  unfolding ParseSort.bitVecSort sortWords weight
+  unfolding ParseSort.bitVecSort sortWords weight treeWords
   bitvec-sort t ts vs =
       any-every (viewAt vs 0) _ _ λ v.
       any-every (ParseSort.sizeOf text (v .tree)) _ _ λ width.
-      record { coded = λ limit w. tt; size = omega (arith, weight-some t) }
+      record { coded = λ limit w. tt; size = omega (arith, weight-some t); short = omega arith }
 
   form-sort : (s : Span) (ts : Trees) (vs : List View) (form : SortForm) → FormFits (s .len) form ⊎ (form ≡ applied (cData s)) → ViewsOf ts vs → Every (ParseSort.formSort text form vs) (SortOf (list (tcons (atom (symbol s)) ts)))
   unfolding ParseSort.formSort weight
