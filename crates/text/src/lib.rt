@@ -1,4 +1,4 @@
 // The text reader: bytes to the words of trees. Its definitions are in specs/.
 pub mod byte;
-mod utf8;
 mod space;
+mod utf8;
