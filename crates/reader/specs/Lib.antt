@@ -3,3 +3,5 @@ pub mod Demand3
 pub mod Compute
 pub mod Shown
 pub mod Table
+pub mod Readings
+pub mod Bounds
