@@ -6,7 +6,9 @@ use mathlib.Core.List.{List, [], _∷_}
 use native.Mathlib.Omega.{arith}
 use lib.Dec.{ltb}
 use lib.ListN.{length}
-use Rattle.text.specs.Bytes.{Span, bytesAt, Maybe, nothing, just, lookup}
+use borrow.Author.Tests.{ltb-true}
+use Rattle.text.specs.Pick.{pick}
+use Rattle.text.specs.Bytes.{Span, bytesAt, Maybe, nothing, just, Named, named, lookup}
 use Rattle.text.specs.Number.{Wide, valueOf, minusOf}
 use Rattle.text.specs.Tree.{symbol, quoted, integer, boolean, Tree, Trees, atom, list, tcons, nesting, nestings, Within, AllWithin}
 use Rattle.text.proofs.Picks.{pick-holds}
@@ -76,108 +78,23 @@ mutual
   coded-all-more enil limit n m l h = tt
   coded-all-more (econs e es) limit n m l h = (coded-more e limit n m l (h .0), coded-all-more es limit n m l (h .1))
 
+-- All numbers of a table are below a bound, by a test that computes.
+unfoldable allBelow : ℕ → List (Named ℕ) → Bool
+allBelow m [] = true
+allBelow m (named s k ∷ rows) = pick (ltb k m) (allBelow m rows) false
+
+all-below : (m : ℕ) (rows : List (Named ℕ)) → allBelow m rows ≡ true → AllRows rows (λ _ k. k < m)
+unfolding allBelow pick
+all-below m [] e = tt
+all-below m (named s k ∷ rows) e = go (ltb k m) refl e (all-below m rows)
+  where
+    go : (t : Bool) → ltb k m ≡ t → pick t (allBelow m rows) false ≡ true → (allBelow m rows ≡ true → AllRows rows (λ _ j. j < m)) → (k < m) × AllRows rows (λ _ j. j < m)
+    go true q h ih = (ltb-true k m q, ih h)
+    go false q h ih = absurd (false≢true h)
+
 theory-below : AllRows theory (λ _ k. k < 42)
-unfolding theory
-theory-below = (
-  omega arith,
-  (
-    omega arith,
-    (
-      omega arith,
-      (
-        omega arith,
-        (
-          omega arith,
-          (
-            omega arith,
-            (
-              omega arith,
-              (
-                omega arith,
-                (
-                  omega arith,
-                  (
-                    omega arith,
-                    (
-                      omega arith,
-                      (
-                        omega arith,
-                        (
-                          omega arith,
-                          (
-                            omega arith,
-                            (
-                              omega arith,
-                              (
-                                omega arith,
-                                (
-                                  omega arith,
-                                  (
-                                    omega arith,
-                                    (
-                                      omega arith,
-                                      (
-                                        omega arith,
-                                        (
-                                          omega arith,
-                                          (
-                                            omega arith,
-                                            (
-                                              omega arith,
-                                              (
-                                                omega arith,
-                                                (
-                                                  omega arith,
-                                                  (
-                                                    omega arith,
-                                                    (
-                                                      omega arith,
-                                                      (
-                                                        omega arith,
-                                                        (
-                                                          omega arith,
-                                                          (
-                                                            omega arith,
-                                                            (
-                                                              omega arith,
-                                                              (
-                                                                omega arith,
-                                                                (
-                                                                  omega arith,
-                                                                  (omega arith, (omega arith, (omega arith, (omega arith, (omega arith, (omega arith, (omega arith, (omega arith, (omega arith, (omega arith, (omega arith, tt))))))))))),
-                                                                ),
-                                                              ),
-                                                            ),
-                                                          ),
-                                                        ),
-                                                      ),
-                                                    ),
-                                                  ),
-                                                ),
-                                              ),
-                                            ),
-                                          ),
-                                        ),
-                                      ),
-                                    ),
-                                  ),
-                                ),
-                              ),
-                            ),
-                          ),
-                        ),
-                      ),
-                    ),
-                  ),
-                ),
-              ),
-            ),
-          ),
-        ),
-      ),
-    ),
-  ),
-)
+unfolding theory allBelow pick
+theory-below = all-below 42 theory refl
 
 small-leaf : (t : Tree) (sc : List Scope) (n : ℕ) (k : Kind) → scopes (leaf k) ≡ 0 → ((limit : ℕ) → Within t limit → ScopesBelow sc n → Coded (leaf k) limit n) → Small t sc n (leaf k) n
 unfolding depth

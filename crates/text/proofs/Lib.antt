@@ -20,3 +20,7 @@ pub mod Wider
 pub mod TextTree
 pub mod Cases
 pub mod White
+pub mod Limbs
+pub mod Digits
+pub mod Mags
+pub mod Signs

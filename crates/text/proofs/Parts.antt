@@ -1,6 +1,6 @@
 -- What a callee is lent: a part of a list.
 use Prim.Native.Nat.{ℕ, _-_}
-use mathlib.Core.Path.{_≡_, ap}
+use mathlib.Core.Path.{_≡_, ap, _∙_}
 use mathlib.Core.List.{List}
 use native.Mathlib.Omega.{arith}
 use lib.ListN.{length, take, drop, length-drop}
@@ -14,3 +14,7 @@ module _ (s : List ℕ) (k : ℕ) where
   -- The part from a place on.
   pub tail : take (length s - k) (drop k s) ≡ drop k s
   tail = take-all (length s - k) (drop k s) (omega (arith, length-drop k s))
+
+-- The same where the place is known by another name.
+pub tail-at : (s : List ℕ) (k n : ℕ) → k ≡ n → take (length s - k) (drop k s) ≡ drop n s
+tail-at s k n e = tail s k ∙ ap (λ (i : ℕ). drop i s) e

@@ -1,13 +1,12 @@
 -- The laws of well-formed UTF-8.
 use Prim.Native.Nat.{ℕ, zero, suc, _+_, _-_, _<_, _≤_}
-use mathlib.Core.Bool.{Bool, true, false}
+use mathlib.Core.Bool.{false}
 use mathlib.Core.Path.{_≡_, refl, sym, ap, _∙_}
 use mathlib.Core.List.{List, [], _∷_}
 use native.Mathlib.Numerals.{add-one}
 use native.Mathlib.Omega.{arith}
 use lib.ListN.{length, getD, drop, drop-of-length-le}
 use lib.Seq.{drop-cons}
-use Rattle.text.specs.Pick.{pick}
 use Rattle.text.specs.Utf8.{Expected, first, inside, wrong, afterFirst, stillToCome, afterByte, atEnd, wellFormed}
 use Rattle.text.specs.Next.{CharacterEnds}
 use Rattle.text.proofs.Picks.{pick-le, pick-gt, pick-eq, pick-ne}

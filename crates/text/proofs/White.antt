@@ -11,7 +11,7 @@ use lib.Seq.{getD-drop}
 use borrow.Author.Tests.{ne-eqb}
 use Rattle.text.specs.Pick.{pick}
 use Rattle.text.specs.Space.{isWhite, charBytes, charAt, spaceBytes, endsAtom}
-use Rattle.text.proofs.Picks.{picks, pick-true, pick-false, pick-le, pick-gt, pick-lt, pick-ge, pick-eq, pick-ne}
+use Rattle.text.proofs.Picks.{picks, pick-true, pick-le, pick-gt, pick-lt, pick-ge, pick-eq, pick-ne}
 
 -- What a number below U+1680 must not be, to be no white space.
 pub white-low : (c : ℕ) → 13 < c → (c ≡ 32 → ⊥) → (c ≡ 0x85 → ⊥) → (c ≡ 0xa0 → ⊥) → c < 0x1680 → false ≡ isWhite c
