@@ -1,6 +1,7 @@
 -- The shape of what the parser builds: it nests little deeper than its tree, opens fewer scopes than the tree has lists inside one another,
 -- and its words give it back.
 use Prim.Native.Nat.{ℕ, suc, _+_, _-_, _^_, _≤_, _<_}
+use mathlib.Core.Bool.{Bool, true, false, false≢true}
 use mathlib.Core.Path.{_≡_, refl}
 use mathlib.Core.List.{List, [], _∷_}
 use native.Mathlib.Omega.{arith}
