@@ -1,10 +1,10 @@
 -- Words laid over a slice: the next word, a word that is there, and several words.
-use Prim.Native.Nat.{ℕ, zero, suc, _≤_, _<_}
+use Prim.Native.Nat.{ℕ, zero, suc, _+_, _≤_, _<_}
 use mathlib.Core.Path.{_≡_, refl, sym, ap, _∙_}
 use mathlib.Core.List.{List, [], _∷_, _++_, append-assoc, append-nil}
 use native.Mathlib.Nat.{not-suc-le-zero, le-of-suc-le-suc}
 use native.Mathlib.Omega.{arith}
-use lib.ListN.{length, set, take, drop, length-append}
+use lib.ListN.{length, set, take, drop, length-append, length-set}
 use lib.Seq.{sets}
 use Rattle.text.specs.Answer.{over}
 
@@ -31,6 +31,12 @@ over-set (v ∷ ws) [] zero w h = refl
 over-set (v ∷ ws) [] (suc i) w h = refl
 over-set (v ∷ ws) (x ∷ o) zero w h = refl
 over-set (v ∷ ws) (x ∷ o) (suc i) w h = ap (λ (l : List ℕ). v ∷ l) (over-set ws o i w (le-of-suc-le-suc h))
+
+-- So do stores one after the other.
+pub over-sets : (vs ws o : List ℕ) (i : ℕ) → i + length vs ≤ length ws → sets (over ws o) i vs ≡ over (sets ws i vs) o
+over-sets [] ws o i h = refl
+over-sets (v ∷ vs) ws o i h =
+    ap (λ (l : List ℕ). sets l (suc i) vs) (over-set ws o i v (omega arith)) ∙ over-sets vs (set ws i v) o (suc i) (simp length-set (omega arith))
 
 -- Stores behind the words, one after the other, are so many words more.
 pub over-more : (vs ws o : List ℕ) (n : ℕ) → n ≡ length ws → sets (over ws o) n vs ≡ over (ws ++ vs) o

@@ -19,7 +19,7 @@ pub fn sign_bytes(t: &[u8]) -> usize
     if t.len() == 0 {
         return 0;
     }
-    if t[0] == 45 {
+    if t[0] == b'-' {
         return 1;
     }
     plus_bytes(t)
@@ -81,5 +81,5 @@ pub fn integer(t: &[u8]) -> Mag
     }
     let k = sign_bytes(t);
     let m = magnitude(&t[k..], 10);
-    signed(t[0] == 45, m)
+    signed(t[0] == b'-', m)
 }

@@ -6,6 +6,7 @@ ghost use Rattle.text.specs.Bytes.{just};
 ghost use Rattle.text.specs.Number.{valueOf, isDigit, digits, below, plusBytes, unsigned as unsignedOf};
 ghost use Rattle.text.specs.Quads.{asWide, asMag, asWord32, asWord64, QuickOf};
 use crate::quad::Quad;
+use crate::quad::WORD;
 use crate::quad::grow;
 use crate::quad::quad_of;
 
@@ -34,15 +35,18 @@ enum Quick {
     Long,
 }
 
+// The largest number that fits 64 bits with a decimal digit more.
+const LAST: u64 = 1844674407370955160;
+
 // A byte as a number.
-fn wide(b: u8) -> u64
+pub fn wide(b: u8) -> u64
     ensures { λ r. ⌜ (r ≡ b) × (r < 256) ⌝ }
 {
     b as u64
 }
 
 // Whether a byte is a digit.
-fn is_digit(base: u64, b: u64) -> bool
+pub fn is_digit(base: u64, b: u64) -> bool
     requires { ⌜ base ≤ 10 ⌝ }
     ensures { λ r. ⌜ r ≡ isDigit base b ⌝ }
 {
@@ -67,7 +71,7 @@ fn short_digits(t: &[u8], base: u64) -> Quick
         if !is_digit(base, b) {
             return Quick::No;
         }
-        if 1844674407370955160 < v {
+        if LAST < v {
             return Quick::Long;
         }
         v = base * v + (b - 48);
@@ -126,7 +130,7 @@ pub fn plus_bytes(t: &[u8]) -> usize
     if t.len() == 0 {
         return 0;
     }
-    if t[0] == 43 {
+    if t[0] == b'+' {
         return 1;
     }
     0
@@ -167,7 +171,7 @@ fn low_words(q: Quad) -> Word64
     if q.c != 0 {
         return Word64::No;
     }
-    Word64::Is((q.a as u64) + 4294967296 * (q.b as u64))
+    Word64::Is((q.a as u64) + WORD * (q.b as u64))
 }
 
 // An optional `+` and decimal digits, of 32 bits.

@@ -4,6 +4,9 @@ ghost use Prim.Native.Nat.{_+_, _*_, _^_, _≤_, _<_};
 ghost use Rattle.text.specs.Number.{wideOf, valueOf, minusOf};
 ghost use Rattle.text.specs.Quads.{asQuad, asWide, Grows};
 
+// What a word holds: 2^32 numbers.
+pub const WORD: u64 = 4294967296;
+
 // The words of a 128-bit number, lowest first.
 pub struct Quad {
     pub a: u32,
@@ -29,8 +32,8 @@ pub fn quad_of(n: u64) -> Quad
     ensures { λ r. ⌜ r ≡ asQuad (wideOf n) ⌝ }
 {
     Quad {
-        a: (n % 4294967296) as u32,
-        b: (n / 4294967296) as u32,
+        a: (n % WORD) as u32,
+        b: (n / WORD) as u32,
         c: 0,
         d: 0,
     }
@@ -43,8 +46,8 @@ fn times(w: u32, m: u64, k: u64) -> Limb
 {
     let t = m * (w as u64) + k;
     Limb {
-        lo: (t % 4294967296) as u32,
-        hi: t / 4294967296,
+        lo: (t % WORD) as u32,
+        hi: t / WORD,
     }
 }
 
@@ -73,10 +76,10 @@ fn flip(w: u32, k: u64) -> Limb
     requires { ⌜ k ≤ 1 ⌝ }
     ensures { λ r. ⌜ (r .lo + w + k ≡ 2 ^ 32 * r .hi) × (r .hi ≤ 1) × (r .lo < 2 ^ 32) ⌝ }
 {
-    let t = 4294967296 - (w as u64) - k;
+    let t = WORD - (w as u64) - k;
     Limb {
-        lo: (t % 4294967296) as u32,
-        hi: 1 - t / 4294967296,
+        lo: (t % WORD) as u32,
+        hi: 1 - t / WORD,
     }
 }
 

@@ -186,16 +186,16 @@ fn ends_atom(text: &[u8], at: usize) -> bool
         }
         return true;
     }
-    if 41 < b {
+    if b')' < b {
         return false;
     }
-    if b == 40 {
+    if b == b'(' {
         return true;
     }
-    if b == 41 {
+    if b == b')' {
         return true;
     }
-    if b == 34 {
+    if b == b'"' {
         return true;
     }
     white_byte(b)

@@ -1,8 +1,8 @@
 // UTF-8, checked a character at a time.
 ghost use mathlib.Core.Path.{_≡_};
 ghost use Prim.Native.Nat.{_≤_, _<_};
-ghost use lib.ListN.{length};
-ghost use Rattle.text.specs.Utf8.{first, inside, afterFirst, utf8};
+ghost use lib.ListN.{length, drop};
+ghost use Rattle.text.specs.Utf8.{first, inside, afterFirst, wellFormed, utf8};
 ghost use Rattle.text.specs.Next.{expected, CharacterEnds};
 
 // What may follow a byte: a character's first byte; a byte from the first number to the second, and
@@ -95,21 +95,33 @@ fn character(text: &[u8], at: usize) -> usize
     }
 }
 
+// The place behind the ASCII characters that stand from `from` on.
+fn ascii_end(text: &[u8], from: usize) -> usize
+    requires { ⌜ from ≤ length (now text) ⌝ }
+    ensures { λ r. ⌜ (wellFormed first (drop from (now (text .entry))) ≡ wellFormed first (drop r (now (text .entry))))
+        × (from ≤ r) × (r ≤ length (now (text .entry))) ⌝ }
+{
+    let mut i = from;
+    while i < text.len() {
+        if 0x80 <= text[i] {
+            return i;
+        }
+        i += 1;
+    }
+    i
+}
+
 // Whether the bytes are UTF-8.
 pub fn is_utf8(text: &[u8]) -> bool
     ensures { λ r. ⌜ r ≡ utf8 (now (text .entry)) ⌝ }
 {
-    let mut i = 0;
+    let mut i = ascii_end(text, 0);
     while i < text.len() {
-        if text[i] < 0x80 {
-            i += 1;
-        } else {
-            let n = character(text, i);
-            if n == 0 {
-                return false;
-            }
-            i += n;
+        let n = character(text, i);
+        if n == 0 {
+            return false;
         }
+        i = ascii_end(text, i + n);
     }
     true
 }

@@ -1,6 +1,6 @@
 use lib.ListN.{length}
 use Rattle.text.specs.Bytes.{sameBytes}
-use Rattle.text.proofs.Parts.{front}
+use Rattle.text.proofs.Lexing.Parts.{front}
 use mathlib.Core.Path.{sym, _∙_, ap}
 use Rattle.text.proofs.Bytes.{begins-take, begins-longer}
 use borrow.Author.Needs.{needs}

@@ -3,8 +3,8 @@ use mathlib.Core.Path.{refl, ap, _∙_}
 use mathlib.Core.List.{List}
 use Rattle.text.specs.Number.{digits, below}
 use Rattle.text.specs.Quads.{asMag}
-use Rattle.text.proofs.Parts.{tail}
-use Rattle.text.proofs.Signs.{integer-none, integer-some}
+use Rattle.text.proofs.Lexing.Parts.{tail}
+use Rattle.text.proofs.Lexing.Signs.{integer-none, integer-some}
 use borrow.Author.Needs.{needs}
 use Rattle.text.proofs.integer.integer.Statement.{statement}
 use Rattle.text.proofs.integer.integer.Tie as tie

@@ -1,6 +1,6 @@
 use native.Mathlib.Nat.{le-of-lt}
 use native.Mathlib.Omega.{arith}
-use Rattle.text.proofs.Signs.{value-under, value-lowest, value-past, value-past-low, negative-in, negative-out}
+use Rattle.text.proofs.Lexing.Signs.{value-under, value-lowest, value-past, value-past-low, negative-in, negative-out}
 use borrow.Author.Needs.{needs}
 use Rattle.text.proofs.integer.negative.Statement.{statement}
 use Rattle.text.proofs.integer.negative.Tie as tie

@@ -1,5 +1,5 @@
 use native.Mathlib.Omega.{arith}
-use Rattle.text.proofs.Signs.{value-under, value-over, positive-in, positive-out}
+use Rattle.text.proofs.Lexing.Signs.{value-under, value-over, positive-in, positive-out}
 use Rattle.text.proofs.integer.positive.Statement.{statement}
 use Rattle.text.proofs.integer.positive.Tie as tie
 

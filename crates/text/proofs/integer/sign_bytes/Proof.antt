@@ -1,7 +1,7 @@
 use native.Mathlib.Omega.{arith}
 use Rattle.text.specs.Number.{signBytes}
 use Rattle.text.proofs.Picks.{picks, pick-ne}
-use Rattle.text.proofs.Signs.{sign-none}
+use Rattle.text.proofs.Lexing.Signs.{sign-none}
 use borrow.Author.Needs.{needs}
 use Rattle.text.proofs.integer.sign_bytes.Statement.{statement}
 use Rattle.text.proofs.integer.sign_bytes.Tie as tie

@@ -5,9 +5,9 @@ use lib.ListN.{length, drop}
 use borrow.Author.Tests.{not-true, not-false}
 use Rattle.text.specs.Number.{valueOf, digits, below}
 use Rattle.text.specs.Quads.{asMag, asWide, Fit}
-use Rattle.text.proofs.Digits.{digitsFrom, digits-none, digits-some, from-end, from-bad, from-more, from-over, digit-range}
-use Rattle.text.proofs.Limbs.{grown-value, grown-over}
-use Rattle.text.proofs.Mags.{mag-none, mag-is}
+use Rattle.text.proofs.Lexing.Digits.{digitsFrom, digits-none, digits-some, from-end, from-bad, from-more, from-over, digit-range}
+use Rattle.text.proofs.Lexing.Limbs.{grown-value, grown-over}
+use Rattle.text.proofs.Lexing.Mags.{mag-none, mag-is}
 use Rattle.text.proofs.number.long_digits.Statement.{statement}
 use Rattle.text.proofs.number.long_digits.Tie as tie
 

@@ -1,5 +1,5 @@
 use native.Mathlib.Omega.{arith}
-use Rattle.text.proofs.Mags.{word-in, word-out, value-high}
+use Rattle.text.proofs.Lexing.Mags.{word-in, word-out, value-high}
 use Rattle.text.proofs.number.low_word.Statement.{statement}
 use Rattle.text.proofs.number.low_word.Tie as tie
 

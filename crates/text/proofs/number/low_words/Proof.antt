@@ -1,5 +1,5 @@
 use native.Mathlib.Omega.{arith}
-use Rattle.text.proofs.Mags.{words-in, words-out, value-higher}
+use Rattle.text.proofs.Lexing.Mags.{words-in, words-out, value-higher}
 use borrow.Author.Needs.{needs}
 use Rattle.text.proofs.number.low_words.Statement.{statement}
 use Rattle.text.proofs.number.low_words.Tie as tie

@@ -3,7 +3,7 @@ use native.Mathlib.Omega.{arith}
 use Rattle.text.specs.Number.{digits}
 use Rattle.text.specs.Quads.{QuickOf}
 use Rattle.text.specs.declared.number.Quick.{Quick}
-use Rattle.text.proofs.Mags.{mag-none, mag-small}
+use Rattle.text.proofs.Lexing.Mags.{mag-none, mag-small}
 use borrow.Author.Needs.{needs}
 use Rattle.text.proofs.number.magnitude.Statement.{statement}
 use Rattle.text.proofs.number.magnitude.Tie as tie

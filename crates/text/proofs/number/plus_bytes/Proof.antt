@@ -1,7 +1,7 @@
 use native.Mathlib.Omega.{arith}
 use Rattle.text.specs.Number.{plusBytes}
 use Rattle.text.proofs.Picks.{picks}
-use Rattle.text.proofs.Signs.{plus-none}
+use Rattle.text.proofs.Lexing.Signs.{plus-none}
 use borrow.Author.Needs.{needs}
 use Rattle.text.proofs.number.plus_bytes.Statement.{statement}
 use Rattle.text.proofs.number.plus_bytes.Tie as tie

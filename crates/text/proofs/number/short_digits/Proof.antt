@@ -4,7 +4,7 @@ use native.Mathlib.Omega.{arith}
 use lib.ListN.{length, drop}
 use borrow.Author.Tests.{not-true, not-false}
 use Rattle.text.specs.Number.{digits}
-use Rattle.text.proofs.Digits.{digitsFrom, digits-none, digits-some, from-end, from-bad, from-more, digit-range, base-times}
+use Rattle.text.proofs.Lexing.Digits.{digitsFrom, digits-none, digits-some, from-end, from-bad, from-more, digit-range, base-times}
 use Rattle.text.proofs.number.short_digits.Statement.{statement}
 use Rattle.text.proofs.number.short_digits.Tie as tie
 

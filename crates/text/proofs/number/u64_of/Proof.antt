@@ -4,7 +4,7 @@ use borrow.Author.Tests.{leb-true}
 use Rattle.text.specs.Number.{below}
 use Rattle.text.specs.Quads.{asWord64, numberOf}
 use Rattle.text.specs.declared.number.Mag.{Mag}
-use Rattle.text.proofs.Signs.{unsigned-words}
+use Rattle.text.proofs.Lexing.Signs.{unsigned-words}
 use borrow.Author.Needs.{needs}
 use Rattle.text.proofs.number.u64_of.Statement.{statement}
 use Rattle.text.proofs.number.u64_of.Tie as tie

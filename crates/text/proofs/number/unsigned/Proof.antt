@@ -3,7 +3,7 @@ use mathlib.Core.Path.{ap, _∙_}
 use mathlib.Core.List.{List}
 use Rattle.text.specs.Number.{digits, below, unsigned}
 use Rattle.text.specs.Quads.{asMag}
-use Rattle.text.proofs.Parts.{tail-at}
+use Rattle.text.proofs.Lexing.Parts.{tail-at}
 use borrow.Author.Needs.{needs}
 use Rattle.text.proofs.number.unsigned.Statement.{statement}
 use Rattle.text.proofs.number.unsigned.Tie as tie

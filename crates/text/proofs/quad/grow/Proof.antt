@@ -1,4 +1,4 @@
-use Rattle.text.proofs.Limbs.{grown}
+use Rattle.text.proofs.Lexing.Limbs.{grown}
 use borrow.Author.Needs.{needs}
 use Rattle.text.proofs.quad.grow.Statement.{statement}
 use Rattle.text.proofs.quad.grow.Tie as tie

@@ -1,6 +1,6 @@
 use mathlib.Core.Path.{ap}
 use Rattle.text.specs.Quads.{asQuad, asWide}
-use Rattle.text.proofs.Limbs.{flipped}
+use Rattle.text.proofs.Lexing.Limbs.{flipped}
 use borrow.Author.Needs.{needs}
 use Rattle.text.proofs.quad.negate.Statement.{statement}
 use Rattle.text.proofs.quad.negate.Tie as tie

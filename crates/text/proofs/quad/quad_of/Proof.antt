@@ -1,7 +1,7 @@
 use mathlib.Core.Path.{ap}
 use native.Mathlib.Omega.{arith}
 use Rattle.text.specs.Quads.{asQuad}
-use Rattle.text.proofs.Limbs.{wide-small}
+use Rattle.text.proofs.Lexing.Limbs.{wide-small}
 use borrow.Author.Needs.{needs}
 use Rattle.text.proofs.quad.quad_of.Statement.{statement}
 use Rattle.text.proofs.quad.quad_of.Tie as tie

@@ -1,5 +1,5 @@
 use native.Mathlib.Omega.{arith}
-use Rattle.text.proofs.Limbs.{product}
+use Rattle.text.proofs.Lexing.Limbs.{product}
 use borrow.Author.Needs.{needs}
 use Rattle.text.proofs.quad.times.Statement.{statement}
 use Rattle.text.proofs.quad.times.Tie as tie

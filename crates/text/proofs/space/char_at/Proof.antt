@@ -1,5 +1,5 @@
 use native.Mathlib.Omega.{arith}
-use Rattle.text.proofs.White.{char-one, char-two, char-three, char-four}
+use Rattle.text.proofs.Lexing.White.{char-one, char-two, char-three, char-four}
 use borrow.Author.Needs.{needs}
 use Rattle.text.proofs.space.char_at.Statement.{statement}
 use Rattle.text.proofs.space.char_at.Tie as tie

@@ -1,6 +1,6 @@
 use mathlib.Core.Path.{sym, ap, _∙_}
 use Rattle.text.specs.Space.{isWhite}
-use Rattle.text.proofs.White.{space-white, space-short, space-other}
+use Rattle.text.proofs.Lexing.White.{space-white, space-short, space-other}
 use borrow.Author.Needs.{needs}
 use Rattle.text.proofs.space.decoded_space.Statement.{statement}
 use Rattle.text.proofs.space.decoded_space.Tie as tie

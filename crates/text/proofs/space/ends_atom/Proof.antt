@@ -1,6 +1,6 @@
 use mathlib.Core.Path.{refl}
 use native.Mathlib.Omega.{arith}
-use Rattle.text.proofs.White.{ends-open, ends-close, ends-quote, ends-space, ends-none, ends-graphic, ends-white}
+use Rattle.text.proofs.Lexing.White.{ends-open, ends-close, ends-quote, ends-space, ends-none, ends-graphic, ends-white}
 use borrow.Author.Needs.{needs}
 use Rattle.text.proofs.space.ends_atom.Statement.{statement}
 use Rattle.text.proofs.space.ends_atom.Tie as tie

@@ -1,6 +1,6 @@
 use mathlib.Core.Path.{refl, sym, _∙_}
 use native.Mathlib.Omega.{arith}
-use Rattle.text.proofs.White.{space-ascii, space-graphic, space-middle, space-two, space-three}
+use Rattle.text.proofs.Lexing.White.{space-ascii, space-graphic, space-middle, space-two, space-three}
 use borrow.Author.Needs.{needs}
 use Rattle.text.proofs.space.space_bytes.Statement.{statement}
 use Rattle.text.proofs.space.space_bytes.Tie as tie

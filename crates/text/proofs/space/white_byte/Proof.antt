@@ -1,5 +1,5 @@
 use native.Mathlib.Omega.{arith}
-use Rattle.text.proofs.White.{white-low}
+use Rattle.text.proofs.Lexing.White.{white-low}
 use Rattle.text.proofs.Picks.{picks}
 use Rattle.text.specs.Space.{isWhite}
 use Rattle.text.proofs.space.white_byte.Statement.{statement}

@@ -3,7 +3,7 @@ use mathlib.Core.Path.{refl, sym, ap, _∙_}
 use native.Mathlib.Omega.{arith}
 use Rattle.text.specs.Utf8.{first}
 use Rattle.text.specs.Next.{expected}
-use Rattle.text.proofs.WellFormed.{formed-first, formed-wrong, ends-not, ends-before, ends-false, ends-first}
+use Rattle.text.proofs.Lexing.WellFormed.{formed-first, formed-wrong, ends-not, ends-before, ends-false, ends-first}
 use borrow.Author.Needs.{needs}
 use Rattle.text.proofs.utf8.character.Statement.{statement}
 use Rattle.text.proofs.utf8.character.Tie as tie

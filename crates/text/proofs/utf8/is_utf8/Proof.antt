@@ -1,9 +1,9 @@
 use Prim.Native.Nat.{_-_, _≤_}
-use mathlib.Core.Path.{_≡_, refl, sym, _∙_}
+use mathlib.Core.Path.{_≡_, sym, _∙_}
 use native.Mathlib.Omega.{arith}
 use lib.ListN.{length, drop}
 use Rattle.text.specs.Utf8.{first, wellFormed, utf8}
-use Rattle.text.proofs.WellFormed.{formed-ascii, formed-end, ends-false, ends-first}
+use Rattle.text.proofs.Lexing.WellFormed.{formed-end, ends-false, ends-first}
 use Rattle.text.proofs.utf8.is_utf8.Statement.{statement}
 use Rattle.text.proofs.utf8.is_utf8.Tie as tie
 
@@ -13,36 +13,30 @@ Inv-loop text i₀ i = (i ≤ length text) × (wellFormed first text ≡ wellFor
 abbrev μ-loop : tie.MeasureT-loop
 μ-loop text i₀ i = length text - i
 
+ascii-end-requires : tie.Need-ascii-end-requires Inv-loop μ-loop
+ascii-end-requires c κs = omega arith
+
 loop-holds : tie.Need-loop-holds Inv-loop μ-loop
-loop-holds c = (omega arith, refl)
-
-shared-slice-read-if1 : tie.Need-shared-slice-read-if1 Inv-loop μ-loop
-shared-slice-read-if1 c = omega arith
-
-add-i : tie.Need-add-i Inv-loop μ-loop
-add-i c = omega arith
-
-loop-less : tie.Need-loop-less Inv-loop μ-loop
-loop-less c = omega arith
-
-loop-again : tie.Need-loop-again Inv-loop μ-loop
-loop-again c = (omega arith, c .before .before .before .loop .inv .1 ∙ formed-ascii _ (c .before .before .before .loop .i) (omega arith) (c .if1 .taken))
+loop-holds c = (c .ascii-end .ensures .2, c .ascii-end .ensures .0)
 
 character-requires : tie.Need-character-requires Inv-loop μ-loop
 character-requires c κs = omega arith
 
 returns : tie.Need-returns Inv-loop μ-loop
 unfolding utf8
-returns c = sym (c .before .before .before .before .before .loop .inv .1 ∙ ends-false _ _ _ _ (c .before .character .ensures) (c .if2 .taken))
+returns c = sym (c .before .before .before .loop .inv .1 ∙ ends-false _ _ _ _ (c .before .character .ensures) (c .if1 .taken))
 
-add-i-2 : tie.Need-add-i-2 Inv-loop μ-loop
-add-i-2 c = omega arith
+add-ascii-end : tie.Need-add-ascii-end Inv-loop μ-loop
+add-ascii-end c = omega arith
 
-loop-less-2 : tie.Need-loop-less-2 Inv-loop μ-loop
-loop-less-2 c = omega arith
+ascii-end-requires-2 : tie.Need-ascii-end-requires-2 Inv-loop μ-loop
+ascii-end-requires-2 c κs = omega arith
 
-loop-again-2 : tie.Need-loop-again-2 Inv-loop μ-loop
-loop-again-2 c = (c .before .character .ensures .fits, c .before .before .before .before .before .loop .inv .1 ∙ ends-first _ _ _ _ (c .before .character .ensures) (c .if2 .left))
+loop-less : tie.Need-loop-less Inv-loop μ-loop
+loop-less c = omega arith
+
+loop-again : tie.Need-loop-again Inv-loop μ-loop
+loop-again c = (c .ascii-end2 .ensures .2, c .before .before .before .before .loop .inv .1 ∙ ends-first _ _ _ _ (c .before .before .character .ensures) (c .before .if1 .left) ∙ c .ascii-end2 .ensures .0)
 
 returns-2 : tie.Need-returns-2 Inv-loop μ-loop
 unfolding utf8
@@ -54,14 +48,12 @@ is-utf8-spec =
     (tie.spec
     Inv-loop
     μ-loop
+    ascii-end-requires
     loop-holds
-    shared-slice-read-if1
-    add-i
-    loop-less
-    loop-again
     character-requires
     returns
-    add-i-2
-    loop-less-2
-    loop-again-2
+    add-ascii-end
+    ascii-end-requires-2
+    loop-less
+    loop-again
     returns-2)

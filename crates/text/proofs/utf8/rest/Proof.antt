@@ -3,7 +3,7 @@ use mathlib.Core.Path.{_≡_, refl, ap, _∙_}
 use native.Mathlib.Omega.{arith}
 use lib.ListN.{length, drop}
 use Rattle.text.specs.Utf8.{Expected, inside, wellFormed}
-use Rattle.text.proofs.WellFormed.{formed-low, formed-high, formed-within, formed-end, come-none, come-more, ends-not, ends-before}
+use Rattle.text.proofs.Lexing.WellFormed.{formed-low, formed-high, formed-within, formed-end, come-none, come-more, ends-not, ends-before}
 use Rattle.text.proofs.utf8.rest.Statement.{statement}
 use Rattle.text.proofs.utf8.rest.Tie as tie
 

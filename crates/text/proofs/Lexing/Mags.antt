@@ -14,8 +14,8 @@ use Rattle.text.specs.declared.number.Mag.the-variants.{Is, No}
 use Rattle.text.specs.declared.number.Word32.the-variants as word32
 use Rattle.text.specs.declared.number.Word64.the-variants as word64
 use Rattle.text.specs.Quads.{asQuad, asWide, asMag, asWord32, asWord64, numberOf, Fit}
-use Rattle.text.proofs.Limbs.{wide-back, value-back, value-fits}
-use Rattle.text.proofs.Digits.{below-yes, below-no}
+use Rattle.text.proofs.Lexing.Limbs.{wide-back, value-back, value-fits}
+use Rattle.text.proofs.Lexing.Digits.{below-yes, below-no}
 
 -- There is no number, or it is too big, or it is the words'.
 pub mag-none : (m : Maybe ℕ) → m ≡ nothing → No ≡ asMag (below (2 ^ 128) m)

@@ -16,9 +16,9 @@ use Rattle.text.specs.declared.number.Mag.{Mag}
 use Rattle.text.specs.declared.number.Mag.the-variants.{Is, No}
 use Rattle.text.specs.Quads.{asQuad, asWide, asMag, asInteger, numberOf, Fit}
 use Rattle.text.proofs.Picks.{pick-le, pick-gt, pick-lt, pick-ge}
-use Rattle.text.proofs.Limbs.{wide-back}
-use Rattle.text.proofs.Digits.{below-below, digits-none}
-use Rattle.text.proofs.Mags.{mag-back}
+use Rattle.text.proofs.Lexing.Limbs.{wide-back}
+use Rattle.text.proofs.Lexing.Digits.{below-below, digits-none}
+use Rattle.text.proofs.Lexing.Mags.{mag-back}
 
 -- No sign stands in front of nothing.
 pub plus-none : (s : List ℕ) → length s ≡ 0 → 0 ≡ plusBytes s

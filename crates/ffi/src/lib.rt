@@ -1,0 +1,60 @@
+// The library's functions for C and Rust. Each returns the refusal's number, 0 if accepted; a slice passes as a pointer and a length in
+// elements. After a refusal the reported numbers are 0.
+ghost use mathlib.Core.Path.{_≡_};
+ghost use mathlib.Core.Bool.{true, false};
+ghost use Rattle.text.specs.Reading.{readSaid, readOut};
+ghost use Rattle.ffi.specs.Reply.{refusalOf, firstOf, secondOf};
+
+// Reads the first expression of the text: how many words it has, and the byte behind it.
+#[no_mangle]
+pub extern "C" fn pinhkray_read_one(
+    text: &[u8],
+    out: &mut [u32],
+    words: &mut u64,
+    next: &mut u64,
+) -> u32
+    ensures refusal { λ r. ⌜ r ≡ refusalOf (readSaid false (now (text .entry)) (now (out .entry))) ⌝ }
+    ensures words { λ _. ⌜ now (words .exit) ≡ firstOf (readSaid false (now (text .entry)) (now (out .entry))) ⌝ }
+    ensures next { λ _. ⌜ now (next .exit) ≡ secondOf (readSaid false (now (text .entry)) (now (out .entry))) ⌝ }
+    ensures output { λ _. ⌜ now (out .exit) ≡ readOut false (now (text .entry)) (now (out .entry)) ⌝ }
+{
+    match text::read_one(text, out) {
+        text::Answer::Accepted(n, end) => {
+            *words = n as u64;
+            *next = end as u64;
+            0
+        }
+        text::Answer::Refused(r) => {
+            *words = 0;
+            *next = 0;
+            r
+        }
+    }
+}
+
+// Reads all expressions of the text: how many there are, and how many words they have.
+#[no_mangle]
+pub extern "C" fn pinhkray_read_all(
+    text: &[u8],
+    out: &mut [u32],
+    expressions: &mut u64,
+    words: &mut u64,
+) -> u32
+    ensures refusal { λ r. ⌜ r ≡ refusalOf (readSaid true (now (text .entry)) (now (out .entry))) ⌝ }
+    ensures expressions { λ _. ⌜ now (expressions .exit) ≡ firstOf (readSaid true (now (text .entry)) (now (out .entry))) ⌝ }
+    ensures words { λ _. ⌜ now (words .exit) ≡ secondOf (readSaid true (now (text .entry)) (now (out .entry))) ⌝ }
+    ensures output { λ _. ⌜ now (out .exit) ≡ readOut true (now (text .entry)) (now (out .entry)) ⌝ }
+{
+    match text::read_all(text, out) {
+        text::Answer::Accepted(k, n) => {
+            *expressions = k as u64;
+            *words = n as u64;
+            0
+        }
+        text::Answer::Refused(r) => {
+            *expressions = 0;
+            *words = 0;
+            r
+        }
+    }
+}
