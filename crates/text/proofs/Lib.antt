@@ -1,12 +1,6 @@
 pub mod Picks
 pub mod Bytes
 pub mod Token
-pub mod Post
-pub mod Sound
-pub mod Walk
-pub mod Grammar
-pub mod Found
-pub mod One
 pub mod Read
 pub mod Over
 pub mod Weight
@@ -17,10 +11,6 @@ pub mod Finish
 pub mod Wider
 pub mod TextTree
 pub mod Cases
-pub mod WhichToken
-pub mod Stack
-pub mod Held
-pub mod Turn
-pub mod Final
-pub mod Zeros
 pub mod Lexing
+pub mod Finding
+pub mod Looping

@@ -13,10 +13,10 @@ use Rattle.text.specs.Answer.{tooLong, notUtf8, got, andThen, check}
 use Rattle.text.specs.Utf8.{utf8}
 use Rattle.text.specs.Tree.{Tree, tnil, tcons, nestings, AllWithin}
 use Rattle.text.specs.Reading.{Found, met, found, Read, reading, readText, readWords}
-use Rattle.text.proofs.Grammar.{expressionsOf}
-use Rattle.text.proofs.Sound.{Sound}
-use Rattle.text.proofs.Found.{found-sound}
-use Rattle.text.proofs.One.{found-single}
+use Rattle.text.proofs.Finding.Grammar.{expressionsOf}
+use Rattle.text.proofs.Finding.Sound.{Sound}
+use Rattle.text.proofs.Finding.Found.{found-sound}
+use Rattle.text.proofs.Finding.One.{found-single}
 
 -- A text that is not refused is short, is UTF-8, and has what is read in it.
 pub record Readable (all : Bool) (text : List ℕ) (r : Read) : Type 0 where

@@ -18,8 +18,8 @@ use Rattle.text.specs.Answer.{got}
 use Rattle.text.specs.Reading.{inFront, Finder, mayFollow, goOn, openList, closeList, textEnds, fromToken, expressions, Read, readText}
 use Rattle.text.proofs.Picks.{pick-holds}
 use Rattle.text.proofs.Bytes.{same-equal, before-le}
-use Rattle.text.proofs.Post.{Property, Post, post-found, post-then, post-front, post-weaker}
-use Rattle.text.proofs.Grammar.{expressionsOf}
+use Rattle.text.proofs.Finding.Post.{Property, Post, post-found, post-then, post-front, post-weaker}
+use Rattle.text.proofs.Finding.Grammar.{expressionsOf}
 use Rattle.text.proofs.Read.{Readable, read-readable, read-next}
 
 decimal-weighs : (m : Maybe Wide) (b : Bool) (s : Span) → 1 ≤ s .len → atomWeight (orDecimal m b s) ≤ s .len

@@ -1,6 +1,6 @@
 use native.Mathlib.Omega.{arith}
 use borrow.Author.Tests.{not-true, not-false}
-use Rattle.text.proofs.Final.{too-long, not-utf8, scan-refused, scan-short, scan-all, scan-one}
+use Rattle.text.proofs.Looping.Final.{too-long, not-utf8, scan-refused, scan-short, scan-all, scan-one}
 use borrow.Author.Needs.{needs}
 use Rattle.text.proofs.operation.attempt.Statement.{statement}
 use Rattle.text.proofs.operation.attempt.Tie as tie

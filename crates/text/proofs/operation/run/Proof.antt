@@ -1,4 +1,4 @@
-use Rattle.text.proofs.Final.{done, cleared}
+use Rattle.text.proofs.Looping.Final.{done, cleared}
 use borrow.Author.Needs.{needs}
 use Rattle.text.proofs.operation.run.Statement.{statement}
 use Rattle.text.proofs.operation.run.Tie as tie

@@ -1,4 +1,4 @@
-use Rattle.text.proofs.Turn.{follows-outside, follows-inside}
+use Rattle.text.proofs.Looping.Turn.{follows-outside, follows-inside}
 use Rattle.text.proofs.scan.may_follow.Statement.{statement}
 use Rattle.text.proofs.scan.may_follow.Tie as tie
 

@@ -5,7 +5,7 @@ use native.Mathlib.Omega.{arith}
 use borrow.Author.Needs.{needs}
 use borrow.Author.Tests.{not-true, not-false}
 use lib.ListN.{length}
-use Rattle.text.proofs.Turn.{Stands, start, kept, blanked, broken, opened, too-deep, unopened, at-tree, at-close, closed, at-leaf, worded, goes-on, one-read, ended-inside, ended-all, ended-none}
+use Rattle.text.proofs.Looping.Turn.{Stands, start, kept, blanked, broken, opened, too-deep, unopened, at-tree, at-close, closed, at-leaf, worded, goes-on, one-read, ended-inside, ended-all, ended-none}
 use Rattle.text.proofs.scan.scan.Statement.{statement}
 use Rattle.text.proofs.scan.scan.Tie as tie
 

@@ -2,7 +2,7 @@ use Prim.Native.Nat.{_-_, zero-le}
 use mathlib.Core.Path.{refl}
 use native.Mathlib.Omega.{arith}
 use lib.ListN.{length}
-use Rattle.text.proofs.Zeros.{Cleared, clear-more, clear-all}
+use Rattle.text.proofs.Looping.Zeros.{Cleared, clear-more, clear-all}
 use Rattle.text.proofs.words.clear.Statement.{statement}
 use Rattle.text.proofs.words.clear.Tie as tie
 

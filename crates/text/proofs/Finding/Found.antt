@@ -9,10 +9,10 @@ use lib.ListN.{length, drop}
 use Rattle.text.specs.Limits.{maxLists}
 use Rattle.text.specs.Tree.{Trees, treesWords, nestings, AllWithin}
 use Rattle.text.specs.Reading.{found}
-use Rattle.text.proofs.Post.{post-found}
-use Rattle.text.proofs.Sound.{Sound}
-use Rattle.text.proofs.Walk.{expressions-sound}
-use Rattle.text.proofs.Grammar.{expressionsOf}
+use Rattle.text.proofs.Finding.Post.{post-found}
+use Rattle.text.proofs.Finding.Sound.{Sound}
+use Rattle.text.proofs.Finding.Walk.{expressions-sound}
+use Rattle.text.proofs.Finding.Grammar.{expressionsOf}
 
 module _ (all : Bool) (depth at : ℕ) (s : List ℕ) (ts : Trees) (at′ : ℕ) (s′ : List ℕ) (e : expressionsOf all depth at s ≡ found ts at′ s′) where
   -- All that is known of it.

@@ -9,8 +9,8 @@ use Rattle.text.specs.Limits.{maxLists}
 use Rattle.text.specs.Tree.{Tree, Trees, atom, list, tnil, tcons, trees}
 use Rattle.text.specs.Token.{Token, blank, opens, closes, word, unfinished, tokenAt}
 use Rattle.text.specs.Reading.{found, inFront, Finder, mayFollow, goOn, openList, closeList, textEnds, fromToken, expressions}
-use Rattle.text.proofs.Post.{Property, Post, post-found, post-any}
-use Rattle.text.proofs.Grammar.{expressionsOf}
+use Rattle.text.proofs.Finding.Post.{Property, Post, post-found, post-any}
+use Rattle.text.proofs.Finding.Grammar.{expressionsOf}
 
 abbrev Single : Property
 Single ts at s = (t : Tree) × (ts ≡ tcons t tnil)

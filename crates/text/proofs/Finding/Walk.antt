@@ -13,8 +13,8 @@ use Rattle.text.specs.Tree.{Tree, tnil, tcons}
 use Rattle.text.specs.Token.{Token, blank, opens, closes, word, unfinished, tokenAt}
 use Rattle.text.specs.Reading.{inFront, Finder, mayFollow, goOn, openList, closeList, textEnds, fromToken, expressions}
 use Rattle.text.proofs.Token.{TokenWithin, token-within}
-use Rattle.text.proofs.Post.{Post, post-then, post-front, post-weaker}
-use Rattle.text.proofs.Sound.{reached-here, reached-by, Sound, sound-none, sound-atom, sound-list, sound-behind, sound-front}
+use Rattle.text.proofs.Finding.Post.{Post, post-then, post-front, post-weaker}
+use Rattle.text.proofs.Finding.Sound.{reached-here, reached-by, Sound, sound-none, sound-atom, sound-list, sound-behind, sound-front}
 
 -- A finder's trees are sound in texts of at most so many bytes.
 abbrev SoundTo : ℕ → Finder → Type 0

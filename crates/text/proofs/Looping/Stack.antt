@@ -12,7 +12,7 @@ use Rattle.text.specs.Tree.{Atom, Tree, Trees, atom, list, tnil, tcons}
 use Rattle.text.specs.Token.{Token, blank, opens, closes, word, unfinished, tokenAt}
 use Rattle.text.specs.Reading.{Found, met, found, thenFind, inFront, mayFollow, goOn, openList, closeList, textEnds, fromToken, Read, reading}
 use Rattle.text.specs.Scanned.{scanOf}
-use Rattle.text.proofs.Grammar.{expressionsOf, expressions-nil, expressions-cons}
+use Rattle.text.proofs.Finding.Grammar.{expressionsOf, expressions-nil, expressions-cons}
 
 joined : Trees → Trees → Trees
 joined tnil us = us

@@ -19,9 +19,9 @@ use Rattle.text.specs.declared.tokens.Token.the-variants as Tokens
 use Rattle.text.specs.declared.scan.Outcome.the-variants as Outcomes
 use Rattle.text.proofs.Token.{atom-size, blank-le, word-le}
 use Rattle.text.proofs.Over.{over-more, over-sets, over-length}
-use Rattle.text.proofs.WhichToken.{five, is-blank, is-opens, is-closes, is-unfinished, is-leaf}
-use Rattle.text.proofs.Stack.{snoc, toCome, come-start, come-done, come-all, come-none, come-inside, come-blank, come-unfinished, come-open, come-deep, come-stray, come-close, come-word}
-use Rattle.text.proofs.Held.{stackWords, stack-snoc, stack-length, stack-trees, stack-close, Held, held-start, held-open, held-tree, held-off, held-count, held-around}
+use Rattle.text.proofs.Looping.WhichToken.{five, is-blank, is-opens, is-closes, is-unfinished, is-leaf}
+use Rattle.text.proofs.Looping.Stack.{snoc, toCome, come-start, come-done, come-all, come-none, come-inside, come-blank, come-unfinished, come-open, come-deep, come-stray, come-close, come-word}
+use Rattle.text.proofs.Looping.Held.{stackWords, stack-snoc, stack-length, stack-trees, stack-close, Held, held-start, held-open, held-tree, held-off, held-count, held-around}
 
 -- With these trees read and these lists open: what is to come, the words so far, and the numbers and arrays that the code has.
 pub record Holds (more all : Bool) (text out₀ out : List ℕ) (at words depth : ℕ) (offs counts : List ℕ) (f : Trees) (st : List Trees) : Type 0 where

@@ -11,9 +11,9 @@ use Rattle.text.specs.Limits.{maxLists}
 use Rattle.text.specs.Tree.{Trees, atom, list}
 use Rattle.text.specs.Token.{Token, blank, opens, closes, word, unfinished, tokenAt}
 use Rattle.text.specs.Reading.{Found, met, found, thenFind, inFront, Finder, mayFollow, goOn, openList, textEnds, fromToken, expressions}
-use Rattle.text.proofs.Post.{Property, Post, post-weaker}
-use Rattle.text.proofs.Sound.{Sound}
-use Rattle.text.proofs.Walk.{expressions-sound}
+use Rattle.text.proofs.Finding.Post.{Property, Post, post-weaker}
+use Rattle.text.proofs.Finding.Sound.{Sound}
+use Rattle.text.proofs.Finding.Walk.{expressions-sound}
 
 -- Two finders agree on texts of at most so many bytes.
 abbrev Agree : ℕ → Finder → Finder → Type 0
