@@ -17,3 +17,6 @@ pub mod Lengths
 pub mod Raised
 pub mod Cases
 pub mod TheTree
+pub mod FormsWritten
+pub mod Places
+pub mod SortCode

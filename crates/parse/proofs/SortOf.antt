@@ -319,3 +319,7 @@ module _ (text : List ℕ) where
   pub sort-of : (t : Tree) → Every (ParseSort.parseSort text t) (SortOf t)
   unfolding ParseSort.parseSort
   sort-of t = view-of t .sort
+
+  -- The sorts that trees are read as.
+  pub sorts-of : (ts : Trees) → Every (eachSort (ParseSort.views text ts)) (SortsOf ts)
+  sorts-of ts = each-sort ts (ParseSort.views text ts) (views-of ts)

@@ -13,3 +13,9 @@ pub mod Shape
 pub mod Raise
 pub mod Operations
 pub mod Compute
+pub mod SortNames
+pub mod Rows
+pub mod Outcome
+pub mod Written
+pub mod Spot
+pub mod Scopes
