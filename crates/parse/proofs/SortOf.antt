@@ -21,8 +21,8 @@ use Rattle.parse.specs.ParseSort
 use Rattle.parse.specs.ParseSort.{inList, inAtom, symbolIn, inSymbol, inInteger, sizeNamed, indexNamed, orData, otherSort, sortTable, orApplied, funcNumber, View, viewAt, eachSort, funcSort, functionSort}
 use Rattle.parse.specs.Shape.{SortCoded, SortsCoded, CtorWithin}
 use Rattle.text.proofs.Bytes.{bytes-length}
-use Rattle.text.proofs.Token.{atom-size}
 use Rattle.text.proofs.Weight.{weight-some}
+use Rattle.parse.proofs.Places.TreeHead.{tree-two}
 use Rattle.parse.proofs.Post.{Every, map-every, then-every, any-every, AllRows, IfThere, lookup-holds}
 
 -- The sort's fields are within their codes, and its words and one more are at most 15 for each byte that the tree takes, and 16 for each of its words.
@@ -83,12 +83,6 @@ each-sort (tcons t ts) (v ∷ vs) h =
       size = omega (arith, p .size, q .size, length-append (sortWords s) (sortsWords ss));
       short = omega (arith, p .short, q .short, length-append (sortWords s) (sortsWords ss), length-append (treeWords t) (treesWords ts));
     }
-
--- a tree has at least two words
-tree-two : (t : Tree) → 2 ≤ length (treeWords t)
-unfolding treeWords
-tree-two (atom a) = atom-size a .0
-tree-two (list ts) = omega arith
 
 -- the words of a list of four items and more
 four-long : (a b c d : Tree) (ts : Trees) → length (treesWords (tcons a (tcons b (tcons c (tcons d ts))))) ≡ length (treeWords a) + (length (treeWords b) + (length (treeWords c) + (length (treeWords d) + length (treesWords ts))))

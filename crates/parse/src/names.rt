@@ -88,7 +88,7 @@ pub fn index_named(name: &[u8]) -> Word64
         return Word64::No;
     }
     let end = name.len() - 1;
-    if name[end] != 41 {
+    if name[end] != b')' {
         return Word64::No;
     }
     u64_of(&name[2..end])

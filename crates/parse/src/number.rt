@@ -1,6 +1,7 @@
 // Small steps on numbers.
 ghost use mathlib.Core.Path.{_≡_};
 ghost use Prim.Native.Nat.{_-_, _/_, _%_, _^_, _<_, min};
+use text::quad::WORD;
 
 // A word as a length.
 pub fn wide(w: u32) -> usize
@@ -27,12 +28,12 @@ pub fn fewer(m: u32) -> u32
 pub fn low(v: u64) -> u32
     ensures { λ r. ⌜ r ≡ v % 2 ^ 32 ⌝ }
 {
-    (v % 4294967296) as u32
+    (v % WORD) as u32
 }
 
 // The high word.
 pub fn high(v: u64) -> u32
     ensures { λ r. ⌜ r ≡ v / 2 ^ 32 % 2 ^ 32 ⌝ }
 {
-    (v / 4294967296) as u32
+    (v / WORD) as u32
 }

@@ -4,6 +4,7 @@ ghost use mathlib.Core.Bool.{false};
 ghost use lib.ListN.{length};
 ghost use Rattle.text.specs.Tree.{treeWords};
 ghost use Rattle.parse.specs.Spot.{Spot, Seen};
+use crate::tree::LIST;
 use crate::tree::node_words;
 
 // How many words the tree at a place has.
@@ -20,7 +21,7 @@ pub fn through(text: &[u8], tree: &[u32], at: usize) -> usize
     ensures { λ r. ⌜ ((p : Spot (now (tree .entry)) at) → Seen (now (text .entry)) false (now (tree .entry)) at p r) ⌝ }
 {
     let mut p = at;
-    while tree[p] == 21 {
+    while tree[p] == LIST {
         if tree[p + 1] != 1 {
             return p;
         }

@@ -4,6 +4,7 @@ ghost use mathlib.Core.List.{[], _∷_};
 ghost use Prim.Native.Nat.{_+_, _^_, _≤_, _<_};
 ghost use lib.ListN.{length};
 ghost use lib.Seq.{sets};
+ghost use Rattle.text.specs.Limits.{maxFunc};
 ghost use Rattle.text.specs.Answer.{over};
 ghost use Rattle.parse.specs.Sort.{two};
 ghost use Rattle.parse.specs.SortNames.{rowForm};
@@ -12,6 +13,34 @@ use crate::names::Row;
 use crate::number::high;
 use crate::number::low;
 use text::words::put;
+
+// The kinds of sorts.
+pub const INT: u32 = 1;
+
+pub const BOOL: u32 = 2;
+
+pub const REAL: u32 = 3;
+
+pub const STR: u32 = 4;
+
+const BIT_VEC: u32 = 5;
+
+const SIZE: u32 = 6;
+
+const VAR: u32 = 7;
+
+const FUNC: u32 = 8;
+
+const ABS: u32 = 9;
+
+const APP: u32 = 10;
+
+// The constructors of an App.
+const SET: u32 = 0;
+
+const MAP: u32 = 1;
+
+const DATA: u32 = 2;
 
 // One word, as of a sort that is a name.
 pub fn put_one(out: &mut [u32], code: u32) -> usize
@@ -25,7 +54,7 @@ pub fn put_one(out: &mut [u32], code: u32) -> usize
 pub fn put_size(out: &mut [u32], width: u32) -> usize
     ensures { λ r. ⌜ (r ≡ 2) × (now (out .exit) ≡ over (6 ∷ width ∷ []) (now (out .entry))) ⌝ }
 {
-    put(out, 0, 6);
+    put(out, 0, SIZE);
     put(out, 1, width);
     2
 }
@@ -34,7 +63,7 @@ pub fn put_size(out: &mut [u32], width: u32) -> usize
 pub fn put_var(out: &mut [u32], index: u64) -> usize
     ensures { λ r. ⌜ (r ≡ 3) × (now (out .exit) ≡ over (7 ∷ two index) (now (out .entry))) ⌝ }
 {
-    put(out, 0, 7);
+    put(out, 0, VAR);
     put(out, 1, low(index));
     put(out, 2, high(index));
     3
@@ -44,8 +73,8 @@ pub fn put_var(out: &mut [u32], index: u64) -> usize
 pub fn put_data(out: &mut [u32], start: u32, len: u32, n: u32) -> usize
     ensures { λ r. ⌜ (r ≡ 5) × (now (out .exit) ≡ over (10 ∷ 2 ∷ start ∷ len ∷ n ∷ []) (now (out .entry))) ⌝ }
 {
-    put(out, 0, 10);
-    put(out, 1, 2);
+    put(out, 0, APP);
+    put(out, 1, DATA);
     put(out, 2, start);
     put(out, 3, len);
     put(out, 4, n);
@@ -56,7 +85,7 @@ pub fn put_data(out: &mut [u32], start: u32, len: u32, n: u32) -> usize
 fn put_ctor(out: &mut [u32], ctor: u32, n: u32) -> usize
     ensures { λ r. ⌜ (r ≡ 3) × (now (out .exit) ≡ over (10 ∷ ctor ∷ n ∷ []) (now (out .entry))) ⌝ }
 {
-    put(out, 0, 10);
+    put(out, 0, APP);
     put(out, 1, ctor);
     put(out, 2, n);
     3
@@ -67,30 +96,30 @@ pub fn put_row(out: &mut [u32], row: Row, n: u32) -> usize
     ensures { λ r. ⌜ (r ≡ length (rowHead (rowForm row) n)) × (now (out .exit) ≡ over (rowHead (rowForm row) n) (now (out .entry))) ⌝ }
 {
     match row {
-        Row::Function => put_one(out, 8),
-        Row::BitVec => put_one(out, 5),
-        Row::Set => put_ctor(out, 0, n),
-        Row::Map => put_ctor(out, 1, n),
+        Row::Function => put_one(out, FUNC),
+        Row::BitVec => put_one(out, BIT_VEC),
+        Row::Set => put_ctor(out, SET, n),
+        Row::Map => put_ctor(out, MAP, n),
         Row::Data(start, len) => put_data(out, start, len, n),
     }
 }
 
 // Abs 0 to Abs n - 1.
 pub fn put_abs(out: &mut [u32], n: usize)
-    requires { ⌜ n ≤ 64 ⌝ }
+    requires { ⌜ n ≤ maxFunc ⌝ }
     ensures { λ _. ⌜ now (out .exit) ≡ over (absWords 0 n) (now (out .entry)) ⌝ }
 {
     let mut i: usize = 0;
     let mut index: u32 = 0;
     while i < n {
-        put(out, i * 2, 9);
+        put(out, i * 2, ABS);
         put(out, i * 2 + 1, index);
         i += 1;
         index += 1;
     }
 }
 
-// What stands before a sort of which m sorts are the inputs of functions, itself among them: the place behind it.
+// What stands before the first of some sorts, m of which are inputs of functions, and the place behind it.
 pub fn put_mark(out: &mut [u32], at: usize, m: u32) -> usize
     requires { ⌜ at < 2 ^ 63 ⌝ }
     ensures { λ r. ⌜ (r ≡ at + length (mark m)) × (now (out .exit) ≡ sets (now (out .entry)) at (mark m)) ⌝ }
@@ -98,6 +127,6 @@ pub fn put_mark(out: &mut [u32], at: usize, m: u32) -> usize
     if m == 0 {
         return at;
     }
-    put(out, at, 8);
+    put(out, at, FUNC);
     at + 1
 }

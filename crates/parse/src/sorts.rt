@@ -19,6 +19,10 @@ use crate::names::sort_form;
 use crate::number::fewer;
 use crate::number::least;
 use crate::number::wide;
+use crate::sort_words::BOOL;
+use crate::sort_words::INT;
+use crate::sort_words::REAL;
+use crate::sort_words::STR;
 use crate::sort_words::put_abs;
 use crate::sort_words::put_data;
 use crate::sort_words::put_mark;
@@ -27,10 +31,16 @@ use crate::sort_words::put_row;
 use crate::sort_words::put_size;
 use crate::sort_words::put_var;
 use crate::span::bytes_at;
+use crate::tree::INTEGER;
+use crate::tree::LIST;
+use crate::tree::SYMBOL;
 use crate::tree::node_words;
 use text::byte::begins_with;
 use text::number::Word32;
 use text::number::Word64;
+
+// The largest number of a `func`.
+const MAX_FUNC: u32 = 64;
 
 // How many words a sort has, or a refusal's number.
 pub enum Answer {
@@ -66,10 +76,10 @@ fn symbol_sort(text: &[u8], start: u32, len: u32, out: &mut [u32]) -> Answer
 {
     let name = bytes_at(text, start, len);
     match plain_sort(name) {
-        Plain::Int => Answer::Done(put_one(out, 1)),
-        Plain::Bool => Answer::Done(put_one(out, 2)),
-        Plain::Real => Answer::Done(put_one(out, 3)),
-        Plain::Str => Answer::Done(put_one(out, 4)),
+        Plain::Int => Answer::Done(put_one(out, INT)),
+        Plain::Bool => Answer::Done(put_one(out, BOOL)),
+        Plain::Real => Answer::Done(put_one(out, REAL)),
+        Plain::Str => Answer::Done(put_one(out, STR)),
         Plain::Other => other_sort(name, start, len, out),
     }
 }
@@ -83,7 +93,7 @@ fn list_form(text: &[u8], tree: &[u32]) -> ListForm
     if n == 0 {
         return ListForm::Bad;
     }
-    if tree[3] != 16 {
+    if tree[3] != SYMBOL {
         return ListForm::Bad;
     }
     sort_form(text, tree[4], tree[5], n - 1)
@@ -96,7 +106,7 @@ fn is_size(text: &[u8], items: &[u32]) -> bool
     if items.len() < 3 {
         return false;
     }
-    if items[0] != 16 {
+    if items[0] != SYMBOL {
         return false;
     }
     let name = bytes_at(text, items[1], items[2]);
@@ -137,7 +147,7 @@ fn func_number(a: u32, b: u32, c: u32, d: u32) -> Arity
     if d != 0 {
         return Arity::Out;
     }
-    if 64 < a {
+    if MAX_FUNC < a {
         return Arity::Out;
     }
     Arity::In(wide(a))
@@ -149,10 +159,10 @@ pub fn sort(text: &[u8], tree: &[u32], out: &mut [u32]) -> Answer
     ensures { λ r. ⌜ ((t : Tree) → now (tree .entry) ≡ treeWords t → Outcome sortWords (parseSort (now (text .entry)) t) (now (out .entry)) (now (out .exit)) r) ⌝ }
 {
     let kind = tree[0];
-    if kind == 16 {
+    if kind == SYMBOL {
         return symbol_sort(text, tree[1], tree[2], out);
     }
-    if kind == 21 {
+    if kind == LIST {
         return list_sort(text, tree, out);
     }
     Answer::Refused(8)
@@ -183,10 +193,10 @@ fn func_sort(text: &[u8], items: &[u32], out: &mut [u32]) -> Answer
     requires { ⌜ IsThree (now items) ⌝ }
     ensures { λ r. ⌜ ((ts : Trees) → now (items .entry) ≡ treesWords ts → trees ts ≡ 3 → Outcome sortWords (funcSort (views (now (text .entry)) ts)) (now (out .entry)) (now (out .exit)) r) ⌝ }
 {
-    if items[0] != 18 {
+    if items[0] != INTEGER {
         return Answer::Refused(8);
     }
-    if items[5] != 21 {
+    if items[5] != LIST {
         return Answer::Refused(8);
     }
     match func_number(items[1], items[2], items[3], items[4]) {

@@ -7,19 +7,28 @@ ghost use Rattle.text.specs.Tree.{Tree, treeWords};
 ghost use Rattle.parse.specs.Outcome.{Begins};
 use crate::number::wide;
 
+// The kinds of trees that are told apart.
+pub const SYMBOL: u32 = 16;
+
+pub const INTEGER: u32 = 18;
+
+pub const BOOLEAN: u32 = 20;
+
+pub const LIST: u32 = 21;
+
 // How many words the first tree has.
 pub fn node_words(items: &[u32]) -> usize
     requires { ⌜ Begins (now items) ⌝ }
     ensures { λ r. ⌜ ((t : Tree) (rest : List ℕ) → now (items .entry) ≡ treeWords t ++ rest → r ≡ length (treeWords t)) ⌝ }
 {
     let kind = items[0];
-    if kind == 21 {
+    if kind == LIST {
         return wide(items[2]) + 3;
     }
-    if kind == 18 {
+    if kind == INTEGER {
         return 5;
     }
-    if kind == 20 {
+    if kind == BOOLEAN {
         return 2;
     }
     3

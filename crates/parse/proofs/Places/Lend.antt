@@ -10,6 +10,7 @@ use lib.Seq.{sets, take-all}
 use Rattle.text.specs.Answer.{over}
 use Rattle.text.proofs.Over.{over-append, over-more}
 
+-- One of two numbers is at most the other.
 pub order : (a b : ℕ) → (a ≤ b) ⊎ (b ≤ a)
 order zero b = inl zero-le
 order (suc a) zero = inr zero-le

@@ -15,11 +15,13 @@ use Rattle.parse.specs.ParseSort.{symbolIn}
 pub alone : {ws : List ℕ} (t : Tree) → ws ≡ treeWords t → ws ≡ treeWords t ++ []
 alone t e = e ∙ sym (append-nil (treeWords t))
 
+-- A tree has at least two words.
 pub tree-two : (t : Tree) → 2 ≤ length (treeWords t)
 unfolding treeWords
 tree-two (atom a) = atom-size a .0
 tree-two (list ts) = omega arith
 
+-- A tree that is a list.
 pub record ListOf (t : Tree) : Type 0 where
   pub items : Trees
   pub is : t ≡ list items
@@ -29,9 +31,11 @@ unfolding treeWords
 list-size us rest = (omega arith, omega arith)
 
 module _ (rest : List ℕ) {ws : List ℕ} where
+  -- So have the words that begin with it.
   pub head-two : (t : Tree) → ws ≡ treeWords t ++ rest → 2 ≤ length ws
   head-two t e = rw e (omega (arith, length-append (treeWords t) rest, tree-two t))
 
+  -- The first word says what it is.
   pub is-symbol : (t : Tree) → ws ≡ treeWords t ++ rest → getD ws 0 0 ≡ 16 → t ≡ atom (symbol (record { start = getD ws 1 0; len = getD ws 2 0 }))
   unfolding treeWords atomWords
   is-symbol (atom (symbol s)) e h = rw e refl
@@ -59,7 +63,7 @@ module _ (rest : List ℕ) {ws : List ℕ} where
   is-list (atom (boolean b)) e h = let k : _≡_ {A = ℕ} 20 21 = rw e at h in absurd (omega arith)
   is-list (list ts) e h = record { items = ts; is = refl }
 
-  -- Another first word is that of an atom that is no symbol.
+  -- With another first word it is not that.
   pub no-symbol : (t : Tree) → ws ≡ treeWords t ++ rest → (getD ws 0 0 ≡ 16 → ⊥) → ParseSort.inSymbol t ≡ bad malformed
   unfolding ParseSort.inSymbol ParseSort.inAtom symbolIn treeWords atomWords
   no-symbol (atom (symbol s)) e h = absurd (h (rw e refl))
@@ -140,6 +144,7 @@ unfolding treeWords
 split tnil e h = absurd (h (rw e refl))
 split (tcons t us) e h = record { first = t; others = us; is = refl; words = e }
 
+-- Trees that have none.
 pub no-trees : (ts : Trees) {ws : List ℕ} → ws ≡ treesWords ts → length ws ≡ 0 → ts ≡ tnil
 unfolding treeWords
 no-trees tnil e h = refl
@@ -168,11 +173,13 @@ list-first tnil e h = absurd (h (rw e refl))
 list-first (tcons t us) e h =
     record { first = t; others = us; is = refl; rest = rw e refl; many = rw e refl; long = rw e (omega (arith, head-two (treesWords us) {ws = treeWords t ++ treesWords us} t refl)) }
 
+-- A list without items.
 pub list-none : (ts : Trees) {ws : List ℕ} → ws ≡ treeWords (list ts) → getD ws 1 0 ≡ 0 → ts ≡ tnil
 unfolding treeWords trees
 list-none tnil e h = refl
 list-none (tcons t us) e h = let k : suc (trees us) ≡ 0 = rw e at h in absurd (omega arith)
 
+-- The words before its items.
 pub list-three : (ts : Trees) {ws : List ℕ} → ws ≡ treeWords (list ts) → 2 < length ws
 unfolding treeWords
 list-three ts e = rw e (omega arith)

@@ -34,6 +34,7 @@ pub record Three (ws : List ℕ) (ts : Trees) : Type 0 where
   pub words : ws ≡ treeWords a ++ treesWords (tcons b (tcons c tnil))
   pub long : 5 < length ws
 
+-- Trees that are three have their words.
 pub three-trees : (ts : Trees) {ws : List ℕ} → ws ≡ treesWords ts → trees ts ≡ 3 → Three ws ts
 unfolding treeWords trees
 three-trees tnil e h = let k : _≡_ {A = ℕ} 0 3 = h in absurd (omega arith)
@@ -95,6 +96,7 @@ pub record Shape (text ws : List ℕ) (ts : Trees) : Type 0 where
   pub size : 8 + length (treesWords (snocTree inputs output)) ≡ length ws
 
 module _ (text : List ℕ) (ts : Trees) {ws : List ℕ} (T : Three ws ts) where
+  -- The first is no integer.
   pub no-number : (getD ws 0 0 ≡ 18 → ⊥) → funcSort (ParseSort.views text ts) ≡ bad malformed
   unfolding funcSort viewAt ParseSort.view
   no-number h = rw (T .is, view-tree text (T .a), no-integer (treesWords (tcons (T .b) (tcons (T .c) tnil))) (T .a) (T .words) h) refl
@@ -108,6 +110,7 @@ module _ (text : List ℕ) (ts : Trees) {ws : List ℕ} (T : Three ws ts) where
     unfolding treeWords
     behind = other-words (T .a) (tcons (T .b) (tcons (T .c) tnil)) (T .words) 5 (size-integer (treesWords (tcons (T .b) (tcons (T .c) tnil))) (T .a) (T .words) h)
 
+    -- The second is no list.
     pub no-inputs : (getD ws 5 0 ≡ 21 → ⊥) → funcSort (ParseSort.views text ts) ≡ bad malformed
     unfolding funcSort viewAt ParseSort.view
     no-inputs k = rw (T .is, view-tree text (T .a), number-is, view-tree text (T .b), no-list (treeWords (T .c) ++ []) (T .b) behind (λ z. k (sym (getD-drop 5 ws 0 0) ∙ z))) refl
@@ -126,10 +129,12 @@ module _ (text : List ℕ) (ts : Trees) {ws : List ℕ} (T : Three ws ts) where
           size = omega (arith, ap length b, ap length (snoc-tree-words ins (T .c)), length-append (treesWords ins) (treeWords (T .c) ++ []), length-append (treeWords (T .c)) [], tree-two (T .c), length-drop 8 ws, T .long);
         }
 
+    -- They have the shape.
     pub func-shape : getD ws 5 0 ≡ 21 → Shape text ws ts
     func-shape k = let l = is-list (treeWords (T .c) ++ []) (T .b) behind (getD-drop 5 ws 0 0 ∙ k) in shape-of (l .items) (l .is)
 
 module _ (text : List ℕ) (ts : Trees) {ws : List ℕ} (S : Shape text ws ts) where
+  -- The number is outside its range.
   pub func-outside : {e : Refusal} → bad e ≡ funcNumber (wideAt ws) → funcSort (ParseSort.views text ts) ≡ bad e
   func-outside q = S .parsed ∙ rw (← q) refl
 
@@ -140,21 +145,21 @@ module _ (text : List ℕ) (ts : Trees) {ws : List ℕ} (S : Shape text ws ts) w
       rw e (func-goes text n (trees (S .inputs)) (eachSort (ParseSort.views text (S .inputs))) (ParseSort.parseSort text (S .output)) (each-many text (S .inputs)) (rw (S .many, each-snoc text (S .inputs) (S .output)) at y))
 
 -- The number is tested by its words.
-pub arity-out : (w : Wide) → 64 < valueOf w → bad badFunc ≡ funcNumber w
+pub arity-out : (w : Wide) → maxFunc < valueOf w → bad badFunc ≡ funcNumber w
 unfolding funcNumber
 arity-out w h = rw (lt-leb (valueOf w) maxFunc h) refl
 
-pub arity-in : (n a b c d : ℕ) → n ≡ a → b ≡ 0 → c ≡ 0 → d ≡ 0 → a ≤ 64 → got n ≡ funcNumber (record { a = a; b = b; c = c; d = d })
+pub arity-in : (n a b c d : ℕ) → n ≡ a → b ≡ 0 → c ≡ 0 → d ≡ 0 → a ≤ maxFunc → got n ≡ funcNumber (record { a = a; b = b; c = c; d = d })
 unfolding funcNumber valueOf
 arity-in n a b c d e hb hc hd h =
     let z : a + 2 ^ 32 * (b + 2 ^ 32 * (c + 2 ^ 32 * d)) ≡ a = rw (hb, hc, hd) (omega arith) in
     rw (z, le-leb a maxFunc h) (ap got e)
 
--- A `func` number is at most 64.
-pub arity-most : (w : Wide) (n : ℕ) → got n ≡ funcNumber w → n ≤ 64
+-- A `func` number is at most the limit.
+pub arity-most : (w : Wide) (n : ℕ) → got n ≡ funcNumber w → n ≤ maxFunc
 unfolding funcNumber
 arity-most w n q = go (leb (valueOf w) maxFunc) refl q
   where
-    go : (b : Bool) → leb (valueOf w) maxFunc ≡ b → got n ≡ andThen (check b badFunc) (λ _. got (valueOf w)) → n ≤ 64
+    go : (b : Bool) → leb (valueOf w) maxFunc ≡ b → got n ≡ andThen (check b badFunc) (λ _. got (valueOf w)) → n ≤ maxFunc
     go true e q = let k : n ≡ valueOf w = cc in omega (arith, k, leb-true (valueOf w) maxFunc e)
     go false e q = let z : _≡_ {A = ℕ} 0 1 = cc in absurd (omega arith)

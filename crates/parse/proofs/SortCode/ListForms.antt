@@ -33,29 +33,30 @@ use Rattle.parse.proofs.SortCode.RowWords.{row-plain}
 use Rattle.parse.proofs.Places.TreeHead.{First, is-symbol, no-symbol, size-symbol}
 
 -- A form has so many items behind its name.
-abbrev pub FormFits : SortForm → ℕ → Type 0
-FormFits func n = n ≡ 3
-FormFits function n = n ≡ 2
-FormFits bitVec n = n ≡ 1
-FormFits (applied c) n = Unit {0}
+abbrev pub HasItems : SortForm → ℕ → Type 0
+HasItems func n = n ≡ 3
+HasItems function n = n ≡ 2
+HasItems bitVec n = n ≡ 1
+HasItems (applied c) n = Unit {0}
 
-table-fits : (n : ℕ) → AllRows (sortTable n) (λ _ form. FormFits form n)
+-- Each form of a table has as many items as its table is for.
+table-fits : (n : ℕ) → AllRows (sortTable n) (λ _ form. HasItems form n)
 unfolding sortTable pick oneSort twoSorts threeItems
 table-fits n = first (eqb n 1) refl
   where
-    third : (b : Bool) → eqb n 3 ≡ b → AllRows (pick b threeItems []) (λ _ form. FormFits form n)
+    third : (b : Bool) → eqb n 3 ≡ b → AllRows (pick b threeItems []) (λ _ form. HasItems form n)
     third true e = (eqb-true n 3 e, tt)
     third false e = tt
 
-    second : (b : Bool) → eqb n 2 ≡ b → AllRows (pick b twoSorts (pick (eqb n 3) threeItems [])) (λ _ form. FormFits form n)
+    second : (b : Bool) → eqb n 2 ≡ b → AllRows (pick b twoSorts (pick (eqb n 3) threeItems [])) (λ _ form. HasItems form n)
     second true e = (eqb-true n 2 e, (tt, (tt, tt)))
     second false e = third (eqb n 3) refl
 
-    first : (b : Bool) → eqb n 1 ≡ b → AllRows (pick b oneSort (pick (eqb n 2) twoSorts (pick (eqb n 3) threeItems []))) (λ _ form. FormFits form n)
+    first : (b : Bool) → eqb n 1 ≡ b → AllRows (pick b oneSort (pick (eqb n 2) twoSorts (pick (eqb n 3) threeItems []))) (λ _ form. HasItems form n)
     first true e = (tt, (eqb-true n 1 e, tt))
     first false e = second (eqb n 2) refl
 
-applied-fits : (s : Span) (n : ℕ) (m : Maybe SortForm) → IfThere m (λ form. FormFits form n) → FormFits (orApplied s m) n
+applied-fits : (s : Span) (n : ℕ) (m : Maybe SortForm) → IfThere m (λ form. HasItems form n) → HasItems (orApplied s m) n
 applied-fits s n nothing h = tt
 applied-fits s n (just form) h = h
 
@@ -75,6 +76,7 @@ lookup-other b (named s a ∷ rows) w h e = go (sameBytes w (ascii s)) refl (loo
         let y : _≡_ {A = ℕ} 0 1 = cc in absurd (omega arith)
     go false q k = k
 
+-- A name that begins with `Size` is no plain sort.
 no-plain : (w : List ℕ) → beginsWith (ascii "Size") w ≡ true → lookup plainSorts w ≡ nothing
 unfolding plainSorts beginsWith pick
 no-plain w e = lookup-other (ascii "Size") plainSorts w (refl, (refl, (refl, (refl, (refl, (refl, (refl, (refl, tt)))))))) e
@@ -84,6 +86,7 @@ abbrev pub OnlyBad : {A : Type 0} → Ans A → Refusal → Type 0
 OnlyBad (got a) r = Unit {0}
 OnlyBad (bad e) r = e ≡ r
 
+-- A size is refused by 8 only.
 size-only : (w : List ℕ) → OnlyBad (sizeNamed w) malformed
 unfolding sizeNamed
 size-only w = go (beginsWith (ascii "Size") w) (unsigned 10 (2 ^ 32) (drop 4 w))
@@ -103,6 +106,7 @@ size-begins w n = go (beginsWith (ascii "Size") w) (unsigned 10 (2 ^ 32) (drop 4
     go false m e = let z : _≡_ {A = ℕ} 0 1 = cc in absurd (omega arith)
 
 module _ (text : List ℕ) where
+  -- As many views as trees, and each of its own tree.
   pub views-length : (ts : Trees) → length (ParseSort.views text ts) ≡ trees ts
   unfolding ParseSort.view trees
   views-length tnil = refl
@@ -130,10 +134,12 @@ module _ (text : List ℕ) where
   form-none ts e = rw e refl
 
   module _ (ts : Trees) {ws : List ℕ} (i : First ws ts) where
+    -- A first item that is no symbol.
     pub form-bad : (getD ws 3 0 ≡ 16 → ⊥) → bad malformed ≡ Rows.listForm text ts
     unfolding Rows.listForm
     form-bad h = rw (i .is, no-symbol (treesWords (i .others)) (i .first) (i .rest) (λ k. h (sym (getD-drop 3 ws 0 0) ∙ k))) refl
 
+    -- A first item that is a symbol has its words.
     pub first-long : getD ws 3 0 ≡ 16 → 5 < length ws
     first-long h = omega (arith, length-drop 3 ws, size-symbol (treesWords (i .others)) (i .first) (i .rest) (getD-drop 3 ws 0 0 ∙ h) .0)
 
@@ -143,6 +149,7 @@ module _ (text : List ℕ) where
         ∙ ap (λ n. atom (symbol (record { start = n; len = getD (drop 3 ws) 2 0 }))) (getD-drop 3 ws 1 0)
         ∙ ap (λ n. atom (symbol (record { start = getD ws 4 0; len = n }))) (getD-drop 3 ws 2 0)
 
+    -- It says the form.
     pub form-symbol : getD ws 3 0 ≡ 16 → got (ParseSort.sortForm text (record { start = getD ws 4 0; len = getD ws 5 0 }) (getD ws 1 0 - 1)) ≡ Rows.listForm text ts
     unfolding Rows.listForm inSymbol inAtom symbolIn
     form-symbol h =
@@ -154,15 +161,16 @@ pub record Headed (text ws : List ℕ) (ts : Trees) (form : SortForm) : Type 0 w
   pub others : Trees
   pub parsed : ParseSort.parseSort text (list ts) ≡ ParseSort.formSort text form (ParseSort.views text others)
   pub many : getD ws 1 0 ≡ suc (trees others)
-  pub fits : FormFits form (trees others)
+  pub fits : HasItems form (trees others)
   pub part : take (length ws - 6) (drop 6 ws) ≡ treesWords others
   pub size : 6 + length (treesWords others) ≡ length ws
 
 module _ (text : List ℕ) where
-  form-fits : (s : Span) (n : ℕ) → FormFits (ParseSort.sortForm text s n) n
+  form-fits : (s : Span) (n : ℕ) → HasItems (ParseSort.sortForm text s n) n
   unfolding ParseSort.sortForm
-  form-fits s n = applied-fits s n (lookup (sortTable n) (bytesAt text s)) (lookup-holds (sortTable n) (bytesAt text s) (λ _ form. FormFits form n) (table-fits n))
+  form-fits s n = applied-fits s n (lookup (sortTable n) (bytesAt text s)) (lookup-holds (sortTable n) (bytesAt text s) (λ _ form. HasItems form n) (table-fits n))
 
+  -- A list whose form is found has it.
   pub headed : (form : SortForm) (ts : Trees) {ws : List ℕ} → ws ≡ treeWords (list ts) → got form ≡ Rows.listForm text ts → Headed text ws ts form
   unfolding ParseSort.parseSort ParseSort.view ParseSort.listSort Rows.listForm inSymbol inAtom symbolIn treeWords atomWords trees
   headed form tnil e h = let z : _≡_ {A = ℕ} 0 1 = cc in absurd (omega arith)
@@ -182,6 +190,7 @@ module _ (text : List ℕ) where
   headed form (tcons (atom (boolean b)) us) e h = let z : _≡_ {A = ℕ} 0 1 = cc in absurd (omega arith)
   headed form (tcons (list vs) us) e h = let z : _≡_ {A = ℕ} 0 1 = cc in absurd (omega arith)
 
+-- A list without a form is no sort.
 pub bad-list : (text : List ℕ) (ts : Trees) → bad malformed ≡ Rows.listForm text ts → ParseSort.parseSort text (list ts) ≡ bad malformed
 unfolding ParseSort.parseSort ParseSort.view ParseSort.listSort Rows.listForm inSymbol inAtom symbolIn
 bad-list text tnil h = refl
@@ -233,6 +242,7 @@ bitvec-goes (got n) x h k y = sized-goes (k n refl) y
 bitvec-goes (bad e) (got s) h k y = refused (ap (λ c. Refused (number c)) (sym h))
 bitvec-goes (bad e) (bad c) h k (refused p) = never refl p
 
+-- What stands before the sorts of a list is short.
 pub head-short : (r : Row) (n : ℕ) → length (rowHead (rowForm r) n) ≤ 5
 head-short row.Function n = omega arith
 head-short row.BitVec n = omega arith
@@ -241,6 +251,7 @@ head-short row.Map n = omega arith
 head-short (row.Data s l) n = omega arith
 
 module _ (text : List ℕ) where
+  -- A constructor applied to its sorts.
   app-goes : (c : Ctor) (us : Trees) {o o′ : List ℕ} {r : Answer} → Outcome (λ ss. rowHead (applied c) (trees us) ++ rowWords 0 ss) (eachSort (ParseSort.views text us)) o o′ r → Outcome sortWords (ParseSort.formSort text (applied c) (ParseSort.views text us)) o o′ r
   unfolding ParseSort.formSort sortWords
   app-goes c us y = out-map (eachSort (ParseSort.views text us)) (sApp c) (go (eachSort (ParseSort.views text us)) (each-many text us)) y
@@ -250,7 +261,7 @@ module _ (text : List ℕ) where
       go (bad e) h = tt
 
   -- A row of sorts was read behind what stands before them: the list's sort, once it is judged.
-  pub row-done : (r : Row) (us : Trees) {o o′ : List ℕ} {v : ℕ} → FormFits (rowForm r) (trees us) → Outcome (λ ss. rowHead (rowForm r) (trees us) ++ rowWords 0 ss) (eachSort (ParseSort.views text us)) o o′ (Done v) → Outcome sortWords (ParseSort.formSort text (rowForm r) (ParseSort.views text us)) o o′ (ended (Rows.judged text (rowForm r) us) v)
+  pub row-done : (r : Row) (us : Trees) {o o′ : List ℕ} {v : ℕ} → HasItems (rowForm r) (trees us) → Outcome (λ ss. rowHead (rowForm r) (trees us) ++ rowWords 0 ss) (eachSort (ParseSort.views text us)) o o′ (Done v) → Outcome sortWords (ParseSort.formSort text (rowForm r) (ParseSort.views text us)) o o′ (ended (Rows.judged text (rowForm r) us) v)
   unfolding ParseSort.formSort ParseSort.parseSort Rows.judged Rows.isSize functionSort ParseSort.bitVecSort viewAt ParseSort.view eachSort trees
   row-done row.Function tnil h y = let z : _≡_ {A = ℕ} 0 2 = h in absurd (omega arith)
   row-done row.Function (tcons a tnil) h y = let z : _≡_ {A = ℕ} 1 2 = h in absurd (omega arith)
@@ -265,7 +276,7 @@ module _ (text : List ℕ) where
   row-done (row.Data s l) us h y = app-goes (cData (record { start = s; len = l })) us y
 
   -- One of them was refused.
-  pub row-refused : (r : Row) (us : Trees) {o o′ : List ℕ} {k : ℕ} → FormFits (rowForm r) (trees us) → Outcome (λ ss. rowHead (rowForm r) (trees us) ++ rowWords 0 ss) (eachSort (ParseSort.views text us)) o o′ (Refused k) → Outcome sortWords (ParseSort.formSort text (rowForm r) (ParseSort.views text us)) o o′ (Refused k)
+  pub row-refused : (r : Row) (us : Trees) {o o′ : List ℕ} {k : ℕ} → HasItems (rowForm r) (trees us) → Outcome (λ ss. rowHead (rowForm r) (trees us) ++ rowWords 0 ss) (eachSort (ParseSort.views text us)) o o′ (Refused k) → Outcome sortWords (ParseSort.formSort text (rowForm r) (ParseSort.views text us)) o o′ (Refused k)
   unfolding ParseSort.formSort functionSort viewAt ParseSort.view eachSort trees
   row-refused row.Function tnil h y = let z : _≡_ {A = ℕ} 0 2 = h in absurd (omega arith)
   row-refused row.Function (tcons a tnil) h y = let z : _≡_ {A = ℕ} 1 2 = h in absurd (omega arith)

@@ -56,6 +56,7 @@ unfolding ParseSort.sortForm
 form-by text s n rows e h = rw (e, h) refl
 
 module _ (w : List ℕ) where
+  -- The width of `Size` and a number.
   pub size-not : beginsWith (ascii "Size") w ≡ false → bad malformed ≡ sizeNamed w
   unfolding sizeNamed
   size-not e = rw e refl
@@ -68,6 +69,7 @@ module _ (w : List ℕ) where
       go nothing = refl
       go (just n) = refl
 
+  -- The index of `@(`, a number and `)`.
   pub index-not : beginsWith (ascii "@(") w ≡ false → word64.No ≡ asWord64 (indexNamed w)
   unfolding indexNamed
   index-not e = ap asWord64 (pick-false _ e refl)
@@ -123,6 +125,7 @@ module _ (text : List ℕ) where
 
 -- A symbol as a sort, by what is found out about its name.
 module _ (w : List ℕ) (s : Span) (o m : List ℕ) where
+  -- It begins with `Size`.
   module _ (e : beginsWith (ascii "Size") w ≡ true) where
     pub other-size : {n k : ℕ} → got n ≡ sizeNamed w → k ≡ 2 → m ≡ over (6 ∷ n ∷ []) o → Outcome sortWords (otherSort w s nothing) o m (Done k)
     unfolding otherSort pick sortWords
@@ -132,6 +135,7 @@ module _ (w : List ℕ) (s : Span) (o m : List ℕ) where
     unfolding otherSort pick
     other-bad q = rw (e, ← q) (refused refl)
 
+  -- It does not.
   module _ (e : beginsWith (ascii "Size") w ≡ false) where
     pub other-var : {i k : ℕ} → word64.Is i ≡ asWord64 (indexNamed w) → k ≡ 3 → m ≡ over (7 ∷ two i) o → Outcome sortWords (otherSort w s nothing) o m (Done k)
     unfolding otherSort pick sortWords
@@ -150,10 +154,12 @@ module _ (w : List ℕ) (s : Span) (o m : List ℕ) where
         go (just j) z = let y : _≡_ {A = ℕ} 0 1 = cc in absurd (omega arith)
 
 module _ (text : List ℕ) (s : Span) (o m : List ℕ) {w : List ℕ} (e : w ≡ bytesAt text s) where
+  -- A plain sort.
   pub symbol-plain : (p : Sort) (code : ℕ) {k : ℕ} → just p ≡ lookup plainSorts w → sortWords p ≡ code ∷ [] → k ≡ 1 → m ≡ over (code ∷ []) o → Outcome sortWords (ParseSort.symbolSort text s) o m (Done k)
   unfolding ParseSort.symbolSort otherSort
   symbol-plain p code q h c z = rw (← e, ← q) (wrote (ap Done (c ∙ ap length (sym h))) (z ∙ ap (λ l. over l o) (sym h)))
 
+  -- Another name.
   pub symbol-other : {r : Answer} → nothing ≡ lookup plainSorts w → Outcome sortWords (otherSort w s nothing) o m r → Outcome sortWords (ParseSort.symbolSort text s) o m r
   unfolding ParseSort.symbolSort
   symbol-other q y = rw (← e, ← q) y

@@ -11,6 +11,7 @@ use Rattle.parse.specs.Outcome.{Outcome, wrote, refused}
 use Rattle.parse.proofs.Post.{Every}
 use Rattle.parse.proofs.Places.Lend.{lent}
 
+-- An answer is one of the two.
 pub never : {B : Type 0} {r : Answer} {w k : ℕ} → r ≡ Done w → r ≡ Refused k → B
 never {w = w} p q = let z : _≡_ {A = ℕ} 0 1 = cc in absurd (omega arith)
 

@@ -42,6 +42,7 @@ step-row left s ws (got ss) {o} (wrote p q) =
     wrote (p ∙ ap (λ l. Done (length l)) e) (q ∙ ap (λ l. over l o) e)
 step-row left s ws (bad e) (refused p) = refused p
 
+-- The first of some trees is read first.
 each-cons : (text : List ℕ) (t : Tree) (us : Trees) (x : Ans Sort) → ParseSort.parseSort text t ≡ x → eachSort (ParseSort.views text (tcons t us)) ≡ andThen x λ s. andThen (eachSort (ParseSort.views text us)) λ ss. got (scons s ss)
 unfolding eachSort ParseSort.view ParseSort.parseSort
 each-cons text t us x e = rw e refl
@@ -64,9 +65,11 @@ pub record Turn (items : List ℕ) (at k : ℕ) (rest : Trees) : Type 0 where
   pub fits : at + k ≤ length items
   pub some : 2 ≤ k
 
+-- There is a first tree where words are left.
 pub left-some : (items : List ℕ) (at : ℕ) {rest : Trees} → drop at items ≡ treesWords rest → at < length items → Split (drop at items) rest
 left-some items at {rest} e h = split rest e (λ z. omega (arith, length-drop at items))
 
+-- The code's size of the first tree is right for it.
 pub turn : (items : List ℕ) (at k : ℕ) {rest : Trees} → drop at items ≡ treesWords rest → at < length items → ((t : Tree) (us : List ℕ) → take (length items - at) (drop at items) ≡ treeWords t ++ us → k ≡ length (treeWords t)) → Turn items at k rest
 turn items at k e h n =
     let q = left-some items at e h in
@@ -80,11 +83,13 @@ turn items at k e h n =
     }
 
 module _ (text : List ℕ) (ts : Trees) (items : List ℕ) (m : ℕ) (o : List ℕ) where
+  -- Nothing is read.
   pub left-start : items ≡ treesWords ts → Left text ts items m o 0 0 m o
   unfolding over
   left-start e = record { before = []; rest = ts; words = e; count = refl; wrote = refl; room = omega arith; goes = λ o″ r y. y }
 
   module _ (at w left : ℕ) (out : List ℕ) (p : Left text ts items m o at w left out) where
+    -- All is read.
     pub left-end : length items ≤ at → Outcome (rowWords m) (eachSort (ParseSort.views text ts)) o out (Done w)
     unfolding eachSort ParseSort.view rowWords
     left-end h = p .goes out (Done w) (ended (p .rest) (no-trees (p .rest) (p .words) (omega (arith, length-drop at items))))
@@ -96,6 +101,7 @@ module _ (text : List ℕ) (ts : Trees) (items : List ℕ) (m : ℕ) (o : List �
       rest-is : (x : Ans Sort) → ParseSort.parseSort text (q .first) ≡ x → eachSort (ParseSort.views text (p .rest)) ≡ andThen x λ s. andThen (eachSort (ParseSort.views text (q .others))) λ ss. got (scons s ss)
       rest-is x e = ap (λ us. eachSort (ParseSort.views text us)) (q .is) ∙ each-cons text (q .first) (q .others) x e
 
+      -- The next tree is refused.
       pub left-refused : {o₁ ys z : List ℕ} {r : Answer} {k : ℕ} → Outcome sortWords (ParseSort.parseSort text (q .first)) o₁ ys r → r ≡ Refused k → Outcome (rowWords m) (eachSort (ParseSort.views text ts)) o z (Refused k)
       left-refused {o₁} {ys} {z} {r} {k} y e = go (ParseSort.parseSort text (q .first)) refl y
         where
@@ -103,6 +109,7 @@ module _ (text : List ℕ) (ts : Trees) (items : List ℕ) (m : ℕ) (o : List �
           go (got s) i (wrote a b) = never a e
           go (bad c) i (refused a) = p .goes z (Refused k) (rw (rest-is (bad c) i) (refused (sym e ∙ a)))
 
+      -- The next tree is read.
       pub left-more : (m₁ ys : List ℕ) (next f k : ℕ) {r : Answer} {v : ℕ} → next ≡ w + length (mark left) → m₁ ≡ sets out w (mark left) → f ≡ min next (length m₁) → k ≡ length (treeWords (q .first)) → Outcome sortWords (ParseSort.parseSort text (q .first)) (take (length m₁ - f) (drop f m₁)) ys r → r ≡ Done v → Left text ts items m o (at + k) (next + v) (left - 1) (take f m₁ ++ (ys ++ drop (length m₁ - f) (drop f m₁)))
       left-more m₁ ys next f k {r} {v} n g b h y e = go (ParseSort.parseSort text (q .first)) refl (sort-short text (q .first) y e) y
         where

@@ -12,6 +12,7 @@ use Rattle.text.proofs.Over.{over-more}
 use Rattle.parse.specs.Sort.{Sort, Sorts, snil, scons, sorts, sortWords, sortsWords, funcs, abstracted}
 use Rattle.parse.specs.Rows.{mark, rowWords, absWords}
 
+-- What stands before a sort of a row.
 pub mark-short : (m : ℕ) → length (mark m) ≤ 1
 mark-short zero = omega arith
 mark-short (suc m) = omega arith
@@ -35,6 +36,7 @@ unfolding rowWords sortWords
 row-plain snil = refl
 row-plain (scons s ss) = ap (λ l. sortWords s ++ l) (row-plain ss)
 
+-- How many words a row has at most.
 pub row-short : (m : ℕ) (ss : Sorts) → length (rowWords m ss) ≤ length (sortsWords ss) + sorts ss
 unfolding rowWords sortWords sorts
 row-short m snil = omega arith
@@ -52,6 +54,7 @@ unfolding funcs sortWords rowWords sorts
 funcs-words snil o = sym (append-nil (sortWords o))
 funcs-words (scons s ss) o = ap (λ l. 8 ∷ sortWords s ++ l) (funcs-words ss o)
 
+-- The words of Abs, and of a sort behind them.
 pub abs-length : (i n : ℕ) → length (absWords i n) ≡ n * 2
 unfolding absWords
 abs-length i zero = refl

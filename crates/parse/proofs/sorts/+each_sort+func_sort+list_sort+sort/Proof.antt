@@ -1,3 +1,4 @@
+use Rattle.text.specs.Limits.{maxFunc}
 use Rattle.text.specs.Answer.{got}
 use Rattle.parse.specs.Outcome.{refused}
 use Rattle.text.proofs.Lexing.Parts.{tail}
@@ -107,22 +108,28 @@ each-sort-Inv-loop text items m out₀ at₀ w₀ left₀ out at w left = (at �
 abbrev each-sort-μ-loop : each-sort-lts.MeasureT-loop
 each-sort-μ-loop text items m out₀ at₀ w₀ left₀ out at w left = length items - at
 
+-- The next tree, once its size is known.
 each-turn : (t : ℕ) (c : each-sort-lts.After-node-words (each-sort-claims t) (each-sort-at t) each-sort.Post each-sort-Inv-loop each-sort-μ-loop) (ts : Trees) (e : c .before .before .before .before .before .before .before .args .items .now ≡ treesWords ts) → Turn (c .before .before .before .before .before .before .before .args .items .now) (c .before .before .before .loop .at) (c .node-words .result) (c .before .before .before .loop .inv .2 ts e .rest)
 each-turn t c ts e = turn (c .before .before .before .before .before .before .before .args .items .now) (c .before .before .before .loop .at) (c .node-words .result) (c .before .before .before .loop .inv .2 ts e .words) (c .before .before .loop-test .taken) (c .node-words .ensures)
 
+-- The list is a `func`.
 list-func : (t : ℕ) (c : list-sort-lts.After-enum-told2 (list-sort-claims t) (list-sort-at t) list-sort.Post) (ts : Trees) → c .before .before .before .before .before .before .args .tree .now ≡ treeWords (list ts) → Headed (c .before .before .before .before .before .before .args .text .now) (c .before .before .before .before .before .before .args .tree .now) ts func
 list-func t c ts e = headed _ func ts e (ap formIn (sym (c .enum-told2 .given .1)) ∙ c .before .before .list-form .ensures ts e)
 
+-- The list has words in front of its sorts.
 list-row : (t : ℕ) (c : list-sort-lts.After-row (list-sort-claims t) (list-sort-at t) list-sort.Post) (ts : Trees) → c .before .before .before .before .before .before .args .tree .now ≡ treeWords (list ts) → Headed (c .before .before .before .before .before .before .args .text .now) (c .before .before .before .before .before .before .args .tree .now) ts (rowForm (c .row .given .0 .0))
 list-row t c ts e = headed _ (rowForm (c .row .given .0 .0)) ts e (ap formIn (sym (c .row .given .1)) ∙ c .before .before .list-form .ensures ts e)
 
+-- The inputs and the output of a `func` whose shape was tested.
 func-parts : (t : ℕ) (c : func-sort-lts.After-func-number (func-sort-claims t) (func-sort-at t) func-sort.Post) (ts : Trees) → c .before .before .before .before .before .before .before .before .before .before .before .before .args .items .now ≡ treesWords ts → trees ts ≡ 3 → Shape (c .before .before .before .before .before .before .before .before .before .before .before .before .args .text .now) (c .before .before .before .before .before .before .before .before .before .before .before .before .args .items .now) ts
 func-parts t c ts e h = func-shape _ ts (three-trees ts e h) (c .before .before .before .before .before .before .before .if1 .left) (c .before .before .before .before .before .if2 .left)
 
+-- Its number.
 func-is : (t : ℕ) (c : func-sort-lts.After-n (func-sort-claims t) (func-sort-at t) func-sort.Post) → got (c .n .given .0 .0) ≡ funcNumber (wideAt (c .before .before .before .before .before .before .before .before .before .before .before .before .before .before .args .items .now))
 func-is t c = ap arityIn (sym (c .n .given .1)) ∙ c .before .before .func-number .ensures
 
-func-most : (t : ℕ) (c : func-sort-lts.After-n (func-sort-claims t) (func-sort-at t) func-sort.Post) → c .n .given .0 .0 ≤ 64
+-- That is small.
+func-most : (t : ℕ) (c : func-sort-lts.After-n (func-sort-claims t) (func-sort-at t) func-sort.Post) → c .n .given .0 .0 ≤ maxFunc
 func-most t c = arity-most (wideAt (c .before .before .before .before .before .before .before .before .before .before .before .before .before .before .args .items .now)) (c .n .given .0 .0) (func-is t c)
 
 each-sort-loop-holds : (t : ℕ) → each-sort-lts.Need-loop-holds (each-sort-claims t) (each-sort-at t) each-sort.Post each-sort-Inv-loop each-sort-μ-loop
