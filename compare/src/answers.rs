@@ -2,6 +2,7 @@
 
 pub struct Case {
     pub op: char,
+    pub tree: usize,
     pub out: usize,
     pub input: Vec<u8>,
     pub refusal: u32,
@@ -40,7 +41,7 @@ pub fn read(text: &str) -> Vec<Case> {
             let number = |i: usize| f[i].parse::<u64>().expect("a number");
             let op = f[0].chars().next().unwrap();
             let input = if op == 'F' { Vec::new() } else { bytes(f[5]) };
-            Case { op, out: number(4) as usize, input, refusal: number(7) as u32, a: number(8), b: number(9), words: words(f[11]) }
+            Case { op, tree: number(2) as usize, out: number(4) as usize, input, refusal: number(7) as u32, a: number(8), b: number(9), words: words(f[11]) }
         })
         .collect()
 }

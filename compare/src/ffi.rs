@@ -4,6 +4,7 @@ mod raw {
     extern "C" {
         pub fn pinhkray_read_one(text: *const u8, text_len: usize, out: *mut u32, out_len: usize, words: *mut u64, next: *mut u64) -> u32;
         pub fn pinhkray_read_all(text: *const u8, text_len: usize, out: *mut u32, out_len: usize, expressions: *mut u64, words: *mut u64) -> u32;
+        pub fn pinhkray_sort(text: *const u8, text_len: usize, tree: *mut u32, tree_len: usize, out: *mut u32, out_len: usize, words: *mut u64) -> u32;
     }
 }
 
@@ -20,4 +21,10 @@ pub fn read(all: bool, text: &[u8], out: &mut [u32]) -> Reply {
     let call = if all { raw::pinhkray_read_all } else { raw::pinhkray_read_one };
     let refusal = unsafe { call(text.as_ptr(), text.len(), out.as_mut_ptr(), out.len(), &mut a, &mut b) };
     Reply { refusal, a, b }
+}
+
+pub fn sort(text: &[u8], tree: &mut [u32], out: &mut [u32]) -> Reply {
+    let mut a = u64::MAX;
+    let refusal = unsafe { raw::pinhkray_sort(text.as_ptr(), text.len(), tree.as_mut_ptr(), tree.len(), out.as_mut_ptr(), out.len(), &mut a) };
+    Reply { refusal, a, b: 0 }
 }

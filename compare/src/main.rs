@@ -54,7 +54,7 @@ fn random(n: u64, r: &mut Random) -> u64 {
     calls
 }
 
-/// The recorded answers that read, and that the source gives them today.
+/// The recorded answers of read one, read all and sort; of the first two also that the source gives them today.
 fn recorded(path: &str) -> u64 {
     let cases = answers::read(&std::fs::read_to_string(path).expect("the recorded answers"));
     let mut n = 0;
@@ -68,7 +68,18 @@ fn recorded(path: &str) -> u64 {
         assert!(case.refusal != 0 || out.starts_with(&case.words), "the words of a recorded answer");
         n += 1;
     }
-    n
+    n + cases.iter().filter(|c| c.op == 'S').map(recorded_sort).count() as u64
+}
+
+/// A recorded sort, and every word of the slices after it.
+fn recorded_sort(case: &answers::Case) {
+    let (mut tree, mut out) = (check::filled(case.tree), check::filled(case.out));
+    let reply = ffi::sort(&case.input, &mut tree, &mut out);
+    assert_eq!((reply.refusal, reply.a), (case.refusal, case.a), "a recorded sort");
+    let mut after = if case.refusal == 0 { check::filled(case.out) } else { vec![0; case.out] };
+    after[..case.words.len()].copy_from_slice(&case.words);
+    assert_eq!(out, after, "the output after a recorded sort");
+    assert!(tree.iter().all(|&w| w == 0), "the tree after a recorded sort");
 }
 
 fn main() {

@@ -1,6 +1,8 @@
 -- What is said, as three numbers: the refusal, 0 if accepted, and the two that are reported, 0 after a refusal.
 use Prim.Native.Nat.{ℕ}
-use Rattle.text.specs.Answer.{Said, accepted, refused}
+use lib.ListN.{length}
+use Rattle.text.specs.Answer.{Final, Said, accepted, refused, saidOf}
+use Rattle.parse.specs.Sort.{Sort, sortWords}
 
 abbrev pub refusalOf : Said → ℕ
 refusalOf (accepted a b) = 0
@@ -13,3 +15,7 @@ firstOf (refused r) = 0
 abbrev pub secondOf : Said → ℕ
 secondOf (accepted a b) = b
 secondOf (refused r) = 0
+
+-- A sort reports how many words it has.
+abbrev pub sortReply : Final Sort → Said
+sortReply f = saidOf (λ s. accepted (length (sortWords s)) 0) f

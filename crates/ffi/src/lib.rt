@@ -2,8 +2,11 @@
 // elements. After a refusal the reported numbers are 0.
 ghost use mathlib.Core.Path.{_≡_};
 ghost use mathlib.Core.Bool.{true, false};
+ghost use Rattle.text.specs.Answer.{zeros, outputOf};
 ghost use Rattle.text.specs.Reading.{readSaid, readOut};
-ghost use Rattle.ffi.specs.Reply.{refusalOf, firstOf, secondOf};
+ghost use Rattle.parse.specs.Sort.{sortWords};
+ghost use Rattle.parse.specs.Operations.{sortFinal};
+ghost use Rattle.ffi.specs.Reply.{refusalOf, firstOf, secondOf, sortReply};
 
 // Reads the first expression of the text: how many words it has, and the byte behind it.
 #[no_mangle]
@@ -53,6 +56,31 @@ pub extern "C" fn pinhkray_read_all(
         }
         text::Answer::Refused(r) => {
             *expressions = 0;
+            *words = 0;
+            r
+        }
+    }
+}
+
+// The sort that the text begins with: how many words it has. The tree is a working slice, and zero afterwards.
+#[no_mangle]
+pub extern "C" fn pinhkray_sort(
+    text: &[u8],
+    tree: &mut [u32],
+    out: &mut [u32],
+    words: &mut u64,
+) -> u32
+    ensures refusal { λ r. ⌜ r ≡ refusalOf (sortReply (sortFinal (now (text .entry)) (now (tree .entry)) (now (out .entry)))) ⌝ }
+    ensures words { λ _. ⌜ now (words .exit) ≡ firstOf (sortReply (sortFinal (now (text .entry)) (now (tree .entry)) (now (out .entry)))) ⌝ }
+    ensures working { λ _. ⌜ now (tree .exit) ≡ zeros (now (tree .entry)) ⌝ }
+    ensures output { λ _. ⌜ now (out .exit) ≡ outputOf sortWords (sortFinal (now (text .entry)) (now (tree .entry)) (now (out .entry))) (now (out .entry)) ⌝ }
+{
+    match parse::sort(text, tree, out) {
+        parse::Answer::Done(n) => {
+            *words = n as u64;
+            0
+        }
+        parse::Answer::Refused(r) => {
             *words = 0;
             r
         }

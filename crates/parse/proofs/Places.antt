@@ -3,3 +3,5 @@ pub mod Lend
 pub mod TreeHead
 pub mod Spots
 pub mod ScopeNames
+pub mod ReadTree
+pub mod Answered

@@ -19,3 +19,4 @@ pub mod Outcome
 pub mod Written
 pub mod Spot
 pub mod Scopes
+pub mod Answers

@@ -5,8 +5,8 @@ use mathlib.Core.List.{List, _++_}
 use lib.ListN.{length}
 use Rattle.text.specs.Tree.{Tree, Trees, list, trees, treeWords, treesWords}
 use Rattle.text.specs.Answer.{Refusal, number, Ans, got, bad, over}
-use Rattle.parse.specs.declared.sorts.Answer.{Answer}
-use Rattle.parse.specs.declared.sorts.Answer.the-variants.{Done, Refused}
+use Rattle.parse.specs.declared.Answer.{Answer}
+use Rattle.parse.specs.declared.Answer.the-variants.{Done, Refused}
 
 -- The words of one tree. There are so few that no sum of words made from them overflows.
 pub record IsTree (ws : List ℕ) : Type 0 where

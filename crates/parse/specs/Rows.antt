@@ -7,8 +7,8 @@ use Rattle.text.specs.Answer.{number, Ans, got, bad, andThen, malformed}
 use Rattle.parse.specs.Sort.{Sorts, snil, scons, ctorWords, sortWords}
 use Rattle.parse.specs.Names.{SortForm, func, function, bitVec, applied}
 use Rattle.parse.specs.ParseSort.{inSymbol, sizeOf, sortForm}
-use Rattle.parse.specs.declared.sorts.Answer.{Answer}
-use Rattle.parse.specs.declared.sorts.Answer.the-variants.{Done, Refused}
+use Rattle.parse.specs.declared.Answer.{Answer}
+use Rattle.parse.specs.declared.Answer.the-variants.{Done, Refused}
 
 -- What stands before the first of some sorts, the first m of which are inputs of functions.
 abbrev pub mark : ℕ → List ℕ

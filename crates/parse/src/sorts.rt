@@ -9,6 +9,7 @@ ghost use Rattle.parse.specs.ParseSort.{otherSort, symbolSort, funcNumbe
 ghost use Rattle.parse.specs.SortNames.{formIn, rowForm, arityIn};
 ghost use Rattle.parse.specs.Outcome.{IsTree, IsList, IsTrees, IsThree, Outcome};
 ghost use Rattle.parse.specs.Rows.{rowWords, listForm, isSize, judged, ended};
+use crate::Answer;
 use crate::names::ListForm;
 use crate::names::Plain;
 use crate::names::Row;
@@ -41,12 +42,6 @@ use text::number::Word64;
 
 // The largest number of a `func`.
 const MAX_FUNC: u32 = 64;
-
-// How many words a sort has, or a refusal's number.
-pub enum Answer {
-    Done(usize),
-    Refused(u32),
-}
 
 // The number of a `func`, or one that is outside its range.
 enum Arity {

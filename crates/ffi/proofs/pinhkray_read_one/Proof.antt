@@ -1,4 +1,4 @@
-use mathlib.Core.Bool.{true, false}
+use mathlib.Core.Bool.{false}
 use mathlib.Core.Path.{sym, _∙_}
 use Rattle.text.specs.Reading.{readSaid}
 use Rattle.ffi.proofs.Replies.{accepted-reply, refused-reply}

@@ -18,8 +18,8 @@ use Rattle.parse.specs.ParseSort
 use Rattle.parse.specs.ParseSort.{inList, inAtom, inInteger, integerIn, funcNumber, viewAt, eachSort, funcSort}
 use Rattle.parse.specs.Rows.{rowWords, absWords}
 use Rattle.parse.specs.Outcome.{Outcome, wrote, refused}
-use Rattle.parse.specs.declared.sorts.Answer.{Answer}
-use Rattle.parse.specs.declared.sorts.Answer.the-variants.{Done}
+use Rattle.parse.specs.declared.Answer.{Answer}
+use Rattle.parse.specs.declared.Answer.the-variants.{Done}
 use Rattle.parse.proofs.Post.{Every}
 use Rattle.parse.proofs.SortCode.RowWords.{snoc, funcs-words, abs-words}
 use Rattle.parse.proofs.SortCode.ListForms.{view-tree, each-many}

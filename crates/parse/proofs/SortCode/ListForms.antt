@@ -25,8 +25,8 @@ use Rattle.parse.specs.Rows
 use Rattle.parse.specs.Outcome.{Outcome, wrote, refused}
 use Rattle.parse.specs.declared.names.Row.{Row}
 use Rattle.parse.specs.declared.names.Row.the-variants as row
-use Rattle.parse.specs.declared.sorts.Answer.{Answer}
-use Rattle.parse.specs.declared.sorts.Answer.the-variants.{Done, Refused}
+use Rattle.parse.specs.declared.Answer.{Answer}
+use Rattle.parse.specs.declared.Answer.the-variants.{Done, Refused}
 use Rattle.parse.proofs.Post.{Every, AllRows, IfThere, lookup-holds}
 use Rattle.parse.proofs.SortCode.Outcomes.{never, out-map, out-refused}
 use Rattle.parse.proofs.SortCode.RowWords.{row-plain}

@@ -28,8 +28,8 @@ use Rattle.parse.specs.SortNames.{widthIn}
 use Rattle.parse.specs.Rows.{isGot}
 use Rattle.parse.specs.Rows
 use Rattle.parse.specs.Outcome.{Outcome, wrote, refused}
-use Rattle.parse.specs.declared.sorts.Answer.{Answer}
-use Rattle.parse.specs.declared.sorts.Answer.the-variants.{Done, Refused}
+use Rattle.parse.specs.declared.Answer.{Answer}
+use Rattle.parse.specs.declared.Answer.the-variants.{Done, Refused}
 use Rattle.parse.proofs.Places.TreeHead.{is-symbol, no-symbol, size-symbol}
 
 -- The table for so many items.

@@ -5,8 +5,8 @@ use mathlib.Core.List.{List, _++_}
 use native.Mathlib.Omega.{arith}
 use lib.ListN.{length, take, drop, length-append}
 use Rattle.text.specs.Answer.{Ans, got, bad, andThen, over}
-use Rattle.parse.specs.declared.sorts.Answer.{Answer}
-use Rattle.parse.specs.declared.sorts.Answer.the-variants.{Done, Refused}
+use Rattle.parse.specs.declared.Answer.{Answer}
+use Rattle.parse.specs.declared.Answer.the-variants.{Done, Refused}
 use Rattle.parse.specs.Outcome.{Outcome, wrote, refused}
 use Rattle.parse.proofs.Post.{Every}
 use Rattle.parse.proofs.Places.Lend.{lent}

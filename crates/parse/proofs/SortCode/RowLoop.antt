@@ -14,8 +14,8 @@ use Rattle.parse.specs.ParseSort
 use Rattle.parse.specs.ParseSort.{eachSort}
 use Rattle.parse.specs.Rows.{mark, rowWords}
 use Rattle.parse.specs.Outcome.{Outcome, wrote, refused}
-use Rattle.parse.specs.declared.sorts.Answer.{Answer}
-use Rattle.parse.specs.declared.sorts.Answer.the-variants.{Done, Refused}
+use Rattle.parse.specs.declared.Answer.{Answer}
+use Rattle.parse.specs.declared.Answer.the-variants.{Done, Refused}
 use Rattle.parse.proofs.Post.{Every, map-every}
 use Rattle.parse.proofs.SortOf.{SortOf, SortsOf, sort-of, sorts-of}
 use Rattle.parse.proofs.SortCode.RowWords.{mark-short, row-cons, row-short}
