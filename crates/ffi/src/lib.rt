@@ -1,12 +1,14 @@
 // The library's functions for C and Rust. Each returns the refusal's number, 0 if accepted; a slice passes as a pointer and a length in
-// elements. After a refusal the reported numbers are 0.
+// elements. After a refusal the reported numbers are 0, and the count is as it was.
 ghost use mathlib.Core.Path.{_≡_};
 ghost use mathlib.Core.Bool.{true, false};
-ghost use Rattle.text.specs.Answer.{zeros, outputOf};
+ghost use Rattle.text.specs.Answer.{zeros, outputOf, countOf};
 ghost use Rattle.text.specs.Reading.{readSaid, readOut};
-ghost use Rattle.parse.specs.Sort.{sortWords};
-ghost use Rattle.parse.specs.Operations.{sortFinal};
-ghost use Rattle.ffi.specs.Reply.{refusalOf, firstOf, secondOf, sortReply};
+ghost use Rattle.grammar.specs.Sort.{sortWords};
+ghost use Rattle.grammar.specs.Expr.{exprItems, bindItems};
+ghost use Rattle.grammar.specs.Operations.{sortFinal, exprFinal, bindFinal};
+ghost use Rattle.parse.specs.Answers.{raisedWords};
+ghost use Rattle.ffi.specs.Reply.{refusalOf, firstOf, secondOf, sortReply, exprReply, bindReply};
 
 // Reads the first expression of the text: how many words it has, and the byte behind it.
 #[no_mangle]
@@ -76,12 +78,72 @@ pub extern "C" fn pinhkray_sort(
     ensures output { λ _. ⌜ now (out .exit) ≡ outputOf sortWords (sortFinal (now (text .entry)) (now (tree .entry)) (now (out .entry))) (now (out .entry)) ⌝ }
 {
     match parse::sort(text, tree, out) {
-        parse::Answer::Done(n) => {
+        sorts::Answer::Done(n) => {
             *words = n as u64;
             0
         }
-        parse::Answer::Refused(r) => {
+        sorts::Answer::Refused(r) => {
             *words = 0;
+            r
+        }
+    }
+}
+
+// The expression that the text begins with, not flattened: how many words it has, and the count of the reader afterwards.
+#[no_mangle]
+pub extern "C" fn pinhkray_expression(
+    text: &[u8],
+    tree: &mut [u32],
+    out: &mut [u32],
+    count: u64,
+    words: &mut u64,
+    count_after: &mut u64,
+) -> u32
+    ensures refusal { λ r. ⌜ r ≡ refusalOf (exprReply (exprFinal (now (text .entry)) (now (tree .entry)) (now (out .entry)) count)) ⌝ }
+    ensures words { λ _. ⌜ now (words .exit) ≡ firstOf (exprReply (exprFinal (now (text .entry)) (now (tree .entry)) (now (out .entry)) count)) ⌝ }
+    ensures after { λ _. ⌜ now («count_after» .exit) ≡ countOf count (exprFinal (now (text .entry)) (now (tree .entry)) (now (out .entry)) count) ⌝ }
+    ensures working { λ _. ⌜ now (tree .exit) ≡ zeros (now (tree .entry)) ⌝ }
+    ensures output { λ _. ⌜ now (out .exit) ≡ outputOf (raisedWords exprItems count) (exprFinal (now (text .entry)) (now (tree .entry)) (now (out .entry)) count) (now (out .entry)) ⌝ }
+{
+    match parse::expression(text, tree, out, count) {
+        parse::Counted::Done(n, c) => {
+            *words = n as u64;
+            *count_after = c;
+            0
+        }
+        parse::Counted::Refused(r) => {
+            *words = 0;
+            *count_after = count;
+            r
+        }
+    }
+}
+
+// The bind that the text begins with: how many words it has, and the count of the reader afterwards.
+#[no_mangle]
+pub extern "C" fn pinhkray_bind(
+    text: &[u8],
+    tree: &mut [u32],
+    out: &mut [u32],
+    count: u64,
+    words: &mut u64,
+    count_after: &mut u64,
+) -> u32
+    ensures refusal { λ r. ⌜ r ≡ refusalOf (bindReply (bindFinal (now (text .entry)) (now (tree .entry)) (now (out .entry)) count)) ⌝ }
+    ensures words { λ _. ⌜ now (words .exit) ≡ firstOf (bindReply (bindFinal (now (text .entry)) (now (tree .entry)) (now (out .entry)) count)) ⌝ }
+    ensures after { λ _. ⌜ now («count_after» .exit) ≡ countOf count (bindFinal (now (text .entry)) (now (tree .entry)) (now (out .entry)) count) ⌝ }
+    ensures working { λ _. ⌜ now (tree .exit) ≡ zeros (now (tree .entry)) ⌝ }
+    ensures output { λ _. ⌜ now (out .exit) ≡ outputOf (raisedWords bindItems count) (bindFinal (now (text .entry)) (now (tree .entry)) (now (out .entry)) count) (now (out .entry)) ⌝ }
+{
+    match parse::bind(text, tree, out, count) {
+        parse::Counted::Done(n, c) => {
+            *words = n as u64;
+            *count_after = c;
+            0
+        }
+        parse::Counted::Refused(r) => {
+            *words = 0;
+            *count_after = count;
             r
         }
     }

@@ -10,12 +10,12 @@ use Rattle.text.specs.Pick.{pick}
 use Rattle.text.specs.Bytes.{Maybe, nothing, just}
 use Rattle.text.specs.At.{At}
 use Rattle.text.proofs.Placed.{at-here, at-whole, at-left, at-right, at-tail}
-use Rattle.parse.specs.Sort.{Sort, sortWords}
-use Rattle.parse.specs.Item.{Item, plains, wordsOf}
-use Rattle.parse.specs.Expr.{Expr, Exprs, node, app, enil, econs, exprs, Solution, binderItems, kindItems, flag, outSort, exprItems, exprsItems, solutionItems}
-use Rattle.parse.specs.Shape.{MaybeSortCoded, BindersCoded, Coded, CodedAll, depth, depths}
-use Rattle.parse.proofs.Items.{words-append, words-plains}
-use Rattle.parse.proofs.Lengths.{size-node, size-app, size-cons, size-solution}
+use Rattle.grammar.specs.Sort.{Sort, sortWords}
+use Rattle.grammar.specs.Item.{Item, plains, wordsOf}
+use Rattle.grammar.specs.Expr.{Expr, Exprs, node, app, enil, econs, exprs, Solution, binderItems, kindItems, flag, outSort, exprItems, exprsItems, solutionItems}
+use Rattle.grammar.specs.Shape.{MaybeSortCoded, BindersCoded, Coded, CodedAll, depth, depths}
+use Rattle.grammar.proofs.Items.{words-append, words-plains}
+use Rattle.grammar.proofs.Lengths.{size-node, size-app, size-cons, size-solution}
 use Rattle.flatten.specs.Judge.{reads, several, sortIf, planned, exprDeep, exprAt, atEnd, judgeExpr, judgeSolution}
 use Rattle.flatten.proofs.FieldsBack.{moved, word-back}
 use Rattle.flatten.proofs.SortBack.{deeper, sort-at, binders-at}

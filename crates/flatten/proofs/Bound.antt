@@ -4,13 +4,13 @@ use mathlib.Core.Path.{_≡_, ap, _∙_}
 use mathlib.Core.List.{List, _++_}
 use lib.ListN.{length}
 use Rattle.text.specs.Bytes.{Maybe, nothing, just}
-use Rattle.parse.specs.Sort.{Sort, sortWords}
-use Rattle.parse.specs.Item.{Item, bound, raise}
-use Rattle.parse.specs.Expr.{Expr, Exprs, node, app, enil, econs, exprs, kindItems, outSort, exprItems, exprsItems, Solution, binderItems, solutionItems}
-use Rattle.parse.specs.Numbers.{times}
-use Rattle.parse.specs.Scoped.{Scoped, ScopedAll, ScopedSolution}
-use Rattle.parse.proofs.Items.{bound-append, bound-front}
-use Rattle.parse.proofs.Same.{Same, same-refl, same-of, same-trans, same-append, same-swap}
+use Rattle.grammar.specs.Sort.{Sort, sortWords}
+use Rattle.grammar.specs.Item.{Item, bound, raise}
+use Rattle.grammar.specs.Expr.{Expr, Exprs, node, app, enil, econs, exprs, kindItems, outSort, exprItems, exprsItems, Solution, binderItems, solutionItems}
+use Rattle.grammar.specs.Numbers.{times}
+use Rattle.grammar.specs.Scoped.{Scoped, ScopedAll, ScopedSolution}
+use Rattle.grammar.proofs.Items.{bound-append, bound-front}
+use Rattle.grammar.proofs.Same.{Same, same-refl, same-of, same-trans, same-append, same-swap}
 use Rattle.flatten.specs.Uncurry.{join, applied, uncurry, uncurryAll, flattened}
 use Rattle.flatten.proofs.Uncurry.{exprs-uncurry, items-join}
 

@@ -11,7 +11,7 @@ use Rattle.text.specs.Number.{Wide}
 use Rattle.text.specs.Tree.{spanWords, wideWords}
 use Rattle.text.specs.At.{At}
 use Rattle.text.proofs.Placed.{at-tail, at-below, at-word}
-use Rattle.parse.specs.Sort.{two}
+use Rattle.grammar.specs.Sort.{two}
 use Rattle.flatten.specs.Judge.{reads, word, wordBelow, twoWords, fourWords, spanWithin}
 
 -- The same value, and the same position written otherwise.

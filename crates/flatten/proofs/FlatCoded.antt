@@ -5,10 +5,10 @@ use native.Mathlib.Omega.{arith}
 use lib.ListN.{length}
 use Rattle.text.specs.Limits.{maxNodes}
 use Rattle.text.specs.Bytes.{Maybe}
-use Rattle.parse.specs.Sort.{Sort}
-use Rattle.parse.specs.Item.{wordsOf}
-use Rattle.parse.specs.Expr.{Expr, Exprs, node, app, enil, econs, exprItems}
-use Rattle.parse.specs.Shape.{MaybeSortCoded, Coded, CodedAll, depth, depths}
+use Rattle.grammar.specs.Sort.{Sort}
+use Rattle.grammar.specs.Item.{wordsOf}
+use Rattle.grammar.specs.Expr.{Expr, Exprs, node, app, enil, econs, exprItems}
+use Rattle.grammar.specs.Shape.{MaybeSortCoded, Coded, CodedAll, depth, depths}
 use Rattle.flatten.specs.Uncurry.{join, applied, uncurry, uncurryAll}
 use Rattle.flatten.specs.Judge.{reads, judgeExpr}
 use Rattle.flatten.proofs.Back.{judged-back}

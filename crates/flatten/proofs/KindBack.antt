@@ -10,10 +10,10 @@ use Rattle.text.specs.Bytes.{Maybe, nothing, just}
 use Rattle.text.specs.Tree.{wideWords}
 use Rattle.text.specs.At.{At}
 use Rattle.text.proofs.Placed.{at-right, at-tail}
-use Rattle.parse.specs.Sort.{Sort}
-use Rattle.parse.specs.Item.{wordsOf}
-use Rattle.parse.specs.Expr.{opAdd, opSub, opMul, opDiv, opMod, relEq, relNe, relGt, relGe, relLt, relLe, Kind, kNum, kBool, kStr, kBitVec, kFresh, kNamed, kNeg, kBin, kIf, kAnd, kOr, kNot, kImp, kIff, kAtom, kLet, kTheory, kIsCtor, kExists, kindItems, flag}
-use Rattle.parse.specs.Shape.{HasOperands, KindCoded}
+use Rattle.grammar.specs.Sort.{Sort}
+use Rattle.grammar.specs.Item.{wordsOf}
+use Rattle.grammar.specs.Expr.{opAdd, opSub, opMul, opDiv, opMod, relEq, relNe, relGt, relGe, relLt, relLe, Kind, kNum, kBool, kStr, kBitVec, kFresh, kNamed, kNeg, kBin, kIf, kAnd, kOr, kNot, kImp, kIff, kAtom, kLet, kTheory, kIsCtor, kExists, kindItems, flag}
+use Rattle.grammar.specs.Shape.{HasOperands, KindCoded}
 use Rattle.flatten.specs.Judge.{reads, choose, nameWithin, operandsOf, argumentsOf, kinds, header}
 use Rattle.flatten.proofs.FieldsBack.{moved, word-back, below-back, two-back, four-back, span-back}
 use Rattle.flatten.proofs.SortBack.{binders-at}

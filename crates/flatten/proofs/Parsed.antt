@@ -8,24 +8,24 @@ use Rattle.text.specs.Limits.{maxNumber}
 use Rattle.text.specs.Tree.{Tree, Within}
 use Rattle.text.proofs.Wider.{tree-wider}
 use Rattle.text.proofs.TextTree.{TextTree}
-use Rattle.parse.specs.Item.{raise, wordsOf}
-use Rattle.parse.specs.Expr.{Expr, exprItems, Solution, binderItems, solutionItems}
-use Rattle.parse.specs.ParseExpr.{parseExpr}
-use Rattle.parse.specs.ParseSolution.{parseSolution}
-use Rattle.parse.specs.Operations.{theTree, makeExpr}
-use Rattle.parse.specs.Raise.{raiseExpr}
-use Rattle.parse.specs.Shape.{Coded, depth, scopes}
-use Rattle.parse.proofs.Post.{Post, lifted-post, both-post, map-post}
-use Rattle.parse.proofs.Items.{length-words}
-use Rattle.parse.proofs.Raise.{items-raise, depth-raise}
-use Rattle.parse.proofs.Raised.{coded-raise}
-use Rattle.parse.proofs.Walk.{child-of}
-use Rattle.parse.proofs.SolutionOf.{SolutionOf, solution-of}
-use Rattle.parse.proofs.Small.{Small, SmallAll, small}
-use Rattle.parse.proofs.Size.{Sized, SizedAll, sized}
-use Rattle.parse.proofs.TheTree.{the-tree}
+use Rattle.grammar.specs.Item.{raise, wordsOf}
+use Rattle.grammar.specs.Expr.{Expr, exprItems, Solution, binderItems, solutionItems}
+use Rattle.grammar.specs.ParseExpr.{parseExpr}
+use Rattle.grammar.specs.ParseSolution.{parseSolution}
+use Rattle.grammar.specs.Operations.{theTree, makeExpr, makeSolution}
+use Rattle.grammar.specs.Raise.{raiseExpr}
+use Rattle.grammar.specs.Shape.{Coded, depth, scopes}
+use Rattle.grammar.proofs.Post.{Post, lifted-post, both-post, map-post}
+use Rattle.grammar.proofs.Items.{length-words}
+use Rattle.grammar.proofs.Raise.{items-raise, depth-raise}
+use Rattle.grammar.proofs.Raised.{coded-raise}
+use Rattle.grammar.proofs.Walk.{child-of}
+use Rattle.grammar.proofs.SolutionOf.{SolutionOf, solution-of}
+use Rattle.grammar.proofs.Small.{Small, SmallAll, small}
+use Rattle.grammar.proofs.Size.{Sized, SizedAll, sized}
+use Rattle.grammar.proofs.TheTree.{the-tree}
 use Rattle.flatten.specs.Judge.{reads, judgeExpr}
-use Rattle.flatten.specs.Operations.{noText, makeSolution}
+use Rattle.flatten.specs.Operations.{noText}
 use Rattle.flatten.proofs.Back.{judged-back}
 
 -- The words of an expression, with its numbers raised by any count that has room for them, are judged as that expression.

@@ -2,9 +2,9 @@
 use Prim.Native.Nat.{ℕ}
 use mathlib.Core.Path.{_≡_, refl, ap, ap₂, _∙_}
 use Rattle.text.specs.Bytes.{Maybe}
-use Rattle.parse.specs.Sort.{Sort}
-use Rattle.parse.specs.Expr.{Expr, Exprs, node, app, enil, econs, Solution}
-use Rattle.parse.specs.Raise.{raiseBinders, raiseKind, raiseExpr, raiseExprs, raiseSolution}
+use Rattle.grammar.specs.Sort.{Sort}
+use Rattle.grammar.specs.Expr.{Expr, Exprs, node, app, enil, econs, Solution}
+use Rattle.grammar.specs.Raise.{raiseBinders, raiseKind, raiseExpr, raiseExprs, raiseSolution}
 use Rattle.flatten.specs.Uncurry.{join, applied, uncurry, uncurryAll, flattened}
 
 -- Joined expressions, raised.

@@ -8,11 +8,11 @@ use Rattle.text.specs.Pick.{pick}
 use Rattle.text.specs.Tree.{spanWords}
 use Rattle.text.specs.At.{At}
 use Rattle.text.proofs.Placed.{at-here, at-left, at-right, at-tail, at-inside}
-use Rattle.parse.specs.Sort.{cSet, cMap, cData, Sort, Sorts, sInt, sBool, sReal, sStr, sBitVec, sSize, sVar, sFunc, sAbs, sApp, snil, scons, sorts, two, sortWords, sortsWords}
-use Rattle.parse.specs.Item.{wordsOf}
-use Rattle.parse.specs.Expr.{Binder, sortItems, binderItems}
-use Rattle.parse.specs.Shape.{SortCoded, SortsCoded, BindersCoded}
-use Rattle.parse.proofs.Items.{words-front}
+use Rattle.grammar.specs.Sort.{cSet, cMap, cData, Sort, Sorts, sInt, sBool, sReal, sStr, sBitVec, sSize, sVar, sFunc, sAbs, sApp, snil, scons, sorts, two, sortWords, sortsWords}
+use Rattle.grammar.specs.Item.{wordsOf}
+use Rattle.grammar.specs.Expr.{Binder, sortItems, binderItems}
+use Rattle.grammar.specs.Shape.{SortCoded, SortsCoded, BindersCoded}
+use Rattle.grammar.proofs.Items.{words-front}
 use Rattle.flatten.specs.Judge.{reads, choose, several, ctors, sortKinds, sortDeep, sortAt, binderAt, bindersAt}
 use Rattle.flatten.proofs.FieldsBack.{moved, word-back, two-back, span-back}
 

@@ -5,11 +5,11 @@ use mathlib.Core.List.{_++_, append-assoc}
 use native.Mathlib.Omega.{arith}
 use lib.ListN.{length}
 use Rattle.text.specs.Bytes.{Maybe}
-use Rattle.parse.specs.Sort.{Sort}
-use Rattle.parse.specs.Item.{wordsOf}
-use Rattle.parse.specs.Expr.{Expr, Exprs, node, app, enil, econs, exprs, kindItems, outSort, exprItems, exprsItems, Solution, solutionItems}
-use Rattle.parse.proofs.Items.{length-words}
-use Rattle.parse.proofs.Lengths.{size, sizeAll, size-node, size-app, size-cons, size-solution}
+use Rattle.grammar.specs.Sort.{Sort}
+use Rattle.grammar.specs.Item.{wordsOf}
+use Rattle.grammar.specs.Expr.{Expr, Exprs, node, app, enil, econs, exprs, kindItems, outSort, exprItems, exprsItems, Solution, solutionItems}
+use Rattle.grammar.proofs.Items.{length-words}
+use Rattle.grammar.proofs.Lengths.{size, sizeAll, size-node, size-app, size-cons, size-solution}
 use Rattle.flatten.specs.Uncurry.{join, applied, uncurry, uncurryAll, flattened, mostOperands, mostOperandsAll}
 use Rattle.flatten.specs.Flat.{gathered, spine, NoApp, Flat, FlatAll}
 

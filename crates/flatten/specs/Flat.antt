@@ -1,5 +1,5 @@
 -- Flattened expressions, and the chain of heads that flattening joins.
-use Rattle.parse.specs.Expr.{Expr, Exprs, node, app, enil, econs}
+use Rattle.grammar.specs.Expr.{Expr, Exprs, node, app, enil, econs}
 use Rattle.flatten.specs.Uncurry.{join}
 
 -- The arguments of a chain of heads, the innermost first.

@@ -9,9 +9,9 @@ use Rattle.text.specs.Pick.{pick}
 use Rattle.text.specs.Bytes.{Span, Maybe, nothing, just}
 use Rattle.text.specs.Number.{Wide}
 use Rattle.text.specs.Answer.{notWords, number, tooDeep}
-use Rattle.parse.specs.Sort.{Ctor, cSet, cMap, cData, Sort, sInt, sBool, sReal, sStr, sBitVec, sSize, sVar, sFunc, sAbs, sApp, snil, scons}
-use Rattle.parse.specs.Expr.{VarName, opAdd, opSub, opMul, opDiv, opMod, relEq, relNe, relGt, relGe, relLt, relLe, Binder, Kind, kNum, kBool, kStr, kBitVec, kFresh, kNamed, kNeg, kBin, kIf, kAnd, kOr, kNot, kImp, kIff, kAtom, kLet, kTheory, kIsCtor, kExists, Expr, node, app, enil, econs, Solution}
-use Rattle.parse.specs.Scope.{varOf}
+use Rattle.grammar.specs.Sort.{Ctor, cSet, cMap, cData, Sort, sInt, sBool, sReal, sStr, sBitVec, sSize, sVar, sFunc, sAbs, sApp, snil, scons}
+use Rattle.grammar.specs.Expr.{VarName, opAdd, opSub, opMul, opDiv, opMod, relEq, relNe, relGt, relGe, relLt, relLe, Binder, Kind, kNum, kBool, kStr, kBitVec, kFresh, kNamed, kNeg, kBin, kIf, kAnd, kOr, kNot, kImp, kIff, kAtom, kLet, kTheory, kIsCtor, kExists, Expr, node, app, enil, econs, Solution}
+use Rattle.grammar.specs.Scope.{varOf}
 
 -- What was read and the position behind it, or the number of a refusal.
 pub data Judged (A : Type 0) : Type 0 where

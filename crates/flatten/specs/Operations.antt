@@ -5,11 +5,10 @@ use mathlib.Core.List.{List}
 use lib.Dec.{ltb}
 use lib.ListN.{length}
 use Rattle.text.specs.Pick.{pick}
-use Rattle.text.specs.Answer.{M, _>>=_, chain, lifted, number, noRoom, Final, accepts, refuses, finish, fitsIn, Said, accepted, saidOf, outputOf}
-use Rattle.parse.specs.Item.{wordsOf}
-use Rattle.parse.specs.Expr.{Expr, exprItems, Solution, solutionItems}
-use Rattle.parse.specs.ParseSolution.{parseSolution}
-use Rattle.parse.specs.Operations.{theTree}
+use Rattle.text.specs.Answer.{number, noRoom, Final, accepts, refuses, finish, fitsIn, Said, accepted, saidOf, outputOf}
+use Rattle.grammar.specs.Item.{wordsOf}
+use Rattle.grammar.specs.Expr.{Expr, exprItems, Solution, solutionItems}
+use Rattle.grammar.specs.Operations.{makeSolution}
 use Rattle.flatten.specs.Uncurry.{uncurry, flattened, mostOperands}
 use Rattle.flatten.specs.Judge.{Judged, reads, fails, judgeExpr}
 
@@ -39,11 +38,6 @@ flattenSaid words out = saidOf (λ e. accepted (length (exprWords e)) 0) (flatte
 
 unfoldable pub flattenOut : List ℕ → List ℕ → List ℕ
 flattenOut words out = outputOf exprWords (flattenFinal words out) out
-
-unfoldable pub makeSolution : List ℕ → List ℕ → M Solution
-makeSolution text tree = do
-  t ← lifted (theTree text tree)
-  parseSolution text t
 
 -- The draft takes the body before flattening, the output the flattened solution.
 unfoldable pub solutionFits : List ℕ → List ℕ → Solution → Bool

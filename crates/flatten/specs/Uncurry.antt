@@ -1,8 +1,8 @@
 -- `uncurry`: applications of applications joined into one.
 use Prim.Native.Nat.{ℕ, max}
 use Rattle.text.specs.Bytes.{Maybe}
-use Rattle.parse.specs.Sort.{Sort}
-use Rattle.parse.specs.Expr.{Expr, Exprs, node, app, enil, econs, exprs, Solution}
+use Rattle.grammar.specs.Sort.{Sort}
+use Rattle.grammar.specs.Expr.{Expr, Exprs, node, app, enil, econs, exprs, Solution}
 
 -- The first expressions, then the second.
 unfoldable pub join : Exprs → Exprs → Exprs

@@ -11,10 +11,9 @@ use Rattle.text.specs.Pick.{pick}
 use Rattle.text.specs.Answer.{Refusal, tooLong, notUtf8, endsEarly, strayClose, unclosed, tooDeep, noRoom, malformed, decimalRead, repeatedName, badLiteral, badFunc, number, numbersSpent, andThen, check, Res, ok, no, Final, accepts, refuses, finish, accepted, refused, zeros, saidOf, countOf, outputOf}
 use Rattle.text.specs.Reading.{readText, readWords}
 use Rattle.text.proofs.Finish.{finish-spent, finish-short, finish-long}
-use Rattle.parse.specs.Item.{wordsOf}
-use Rattle.parse.specs.ParseSort.{treeAt}
-use Rattle.parse.specs.Operations.{theTree, makeSort, makeExpr, makeBind}
-use Rattle.flatten.specs.Operations.{makeSolution}
+use Rattle.grammar.specs.Item.{wordsOf}
+use Rattle.grammar.specs.ParseSort.{treeAt}
+use Rattle.grammar.specs.Operations.{theTree, makeSort, makeExpr, makeBind, makeSolution}
 use Rattle.reader.specs.Session.{Op, readOne, readAll, sort, expression, bind, solution, Call, Term, aRead, aSort, anExpr, aBind, aSolution, termItems, draftItems, termWords, report, make, made, roomFor, final, Outcome, outcome}
 use Rattle.reader.specs.Demand3.{Agree, refusal, acceptance}
 

@@ -9,24 +9,23 @@ use Rattle.text.specs.Tree.{Tree, list, weight, weights}
 use Rattle.text.specs.Answer.{Ans, got, bad, andThen, Res, ok, chain, lifted}
 use Rattle.text.specs.Reading.{readText, readWords}
 use Rattle.text.proofs.TextTree.{TextTree}
-use Rattle.parse.specs.Item.{bound}
-use Rattle.parse.specs.Sort.{sortWords}
-use Rattle.parse.specs.ParseSort.{inList, inSymbol, treeAt, parseSort}
-use Rattle.parse.specs.ParseExpr.{child, parseExpr}
-use Rattle.parse.specs.ParseBind.{parseBind}
-use Rattle.parse.specs.ParseSolution.{parseSolution}
-use Rattle.parse.specs.Operations.{theTree, makeSort, makeExpr, makeBind}
-use Rattle.parse.proofs.Items.{bound-plains}
-use Rattle.parse.proofs.Exact.{exactly-none}
-use Rattle.parse.proofs.Post.{Post, Every, chain-post, lifted-post, any-post, both-post, map-post, map-every}
-use Rattle.parse.proofs.BindersOf.{TreeIn, tree-at}
-use Rattle.parse.proofs.TheTree.{the-tree}
-use Rattle.parse.proofs.SortOf.{in-list}
-use Rattle.parse.proofs.Walk.{child-of}
-use Rattle.parse.proofs.WalkPreds.{KeptPreds, preds-of}
-use Rattle.parse.proofs.SolutionOf.{SolutionOf, solution-of}
-use Rattle.parse.proofs.Size.{Sized, SizedAll, sized}
-use Rattle.flatten.specs.Operations.{makeSolution}
+use Rattle.grammar.specs.Item.{bound}
+use Rattle.grammar.specs.Sort.{sortWords}
+use Rattle.grammar.specs.ParseSort.{inList, inSymbol, treeAt, parseSort}
+use Rattle.grammar.specs.ParseExpr.{child, parseExpr}
+use Rattle.grammar.specs.ParseBind.{parseBind}
+use Rattle.grammar.specs.ParseSolution.{parseSolution}
+use Rattle.grammar.specs.Operations.{theTree, makeSort, makeExpr, makeBind, makeSolution}
+use Rattle.grammar.proofs.Items.{bound-plains}
+use Rattle.grammar.proofs.Exact.{exactly-none}
+use Rattle.grammar.proofs.Post.{Post, Every, chain-post, lifted-post, any-post, both-post, map-post, map-every}
+use Rattle.grammar.proofs.BindersOf.{TreeIn, tree-at}
+use Rattle.grammar.proofs.TheTree.{the-tree}
+use Rattle.grammar.proofs.SortOf.{in-list}
+use Rattle.grammar.proofs.Walk.{child-of}
+use Rattle.grammar.proofs.WalkPreds.{KeptPreds, preds-of}
+use Rattle.grammar.proofs.SolutionOf.{SolutionOf, solution-of}
+use Rattle.grammar.proofs.Size.{Sized, SizedAll, sized}
 use Rattle.reader.specs.Session.{Op, readOne, readAll, sort, expression, bind, solution, Term, aRead, aSort, anExpr, aBind, aSolution, termItems, make}
 use Rattle.reader.specs.Demand3.{ScopedTerm, readsOrSorts}
 use Rattle.reader.proofs.Terms.{GoodTerm, bind-good, solution-good, expr-good}

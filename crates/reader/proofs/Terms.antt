@@ -5,24 +5,24 @@ use mathlib.Core.List.{List, [], _∷_, _++_, append-nil, append-assoc}
 use lib.ListN.{length}
 use Rattle.text.specs.Tree.{Tree}
 use Rattle.text.specs.Answer.{andThen}
-use Rattle.parse.specs.Sort.{sortWords}
-use Rattle.parse.specs.Item.{Item, plain, raise, bound}
-use Rattle.parse.specs.Numbers.{Exactly}
-use Rattle.parse.specs.Scoped.{ScopedPreds, ScopedSolution}
-use Rattle.parse.specs.Scope.{numbered}
-use Rattle.parse.specs.Expr.{VarName, Pred, Solution, exprItems, binderItems, nameItems, predItems, predsItems, bindItems, solutionItems}
-use Rattle.parse.specs.ParseSort.{inList, inSymbol, treeAt, parseSort}
-use Rattle.parse.specs.ParseExpr.{child, parseExpr}
-use Rattle.parse.specs.ParseBind.{parseBind}
-use Rattle.parse.specs.ParseSolution.{parseSolution}
-use Rattle.parse.proofs.Items.{bound-append, bound-front}
-use Rattle.parse.proofs.Same.{exactly-same}
-use Rattle.parse.proofs.Exact.{upFrom, exactly-up, exactly-none, exactly-append, plus, bound-raise, plus-up}
-use Rattle.parse.proofs.Post.{Post, chain-post, any-post, map-post}
-use Rattle.parse.proofs.Walk.{child-of}
-use Rattle.parse.proofs.WalkPreds.{KeptPreds, preds-of}
-use Rattle.parse.proofs.SolutionOf.{SolutionOf, solution-of}
-use Rattle.parse.proofs.Good.{runs, Good, GoodAll, good, bound-numbered}
+use Rattle.grammar.specs.Sort.{sortWords}
+use Rattle.grammar.specs.Item.{Item, plain, raise, bound}
+use Rattle.grammar.specs.Numbers.{Exactly}
+use Rattle.grammar.specs.Scoped.{ScopedPreds, ScopedSolution}
+use Rattle.grammar.specs.Scope.{numbered}
+use Rattle.grammar.specs.Expr.{VarName, Pred, Solution, exprItems, binderItems, nameItems, predItems, predsItems, bindItems, solutionItems}
+use Rattle.grammar.specs.ParseSort.{inList, inSymbol, treeAt, parseSort}
+use Rattle.grammar.specs.ParseExpr.{child, parseExpr}
+use Rattle.grammar.specs.ParseBind.{parseBind}
+use Rattle.grammar.specs.ParseSolution.{parseSolution}
+use Rattle.grammar.proofs.Items.{bound-append, bound-front}
+use Rattle.grammar.proofs.Same.{exactly-same}
+use Rattle.grammar.proofs.Exact.{upFrom, exactly-up, exactly-none, exactly-append, plus, bound-raise, plus-up}
+use Rattle.grammar.proofs.Post.{Post, chain-post, any-post, map-post}
+use Rattle.grammar.proofs.Walk.{child-of}
+use Rattle.grammar.proofs.WalkPreds.{KeptPreds, preds-of}
+use Rattle.grammar.proofs.SolutionOf.{SolutionOf, solution-of}
+use Rattle.grammar.proofs.Good.{runs, Good, GoodAll, good, bound-numbered}
 use Rattle.flatten.specs.Uncurry.{flattened}
 use Rattle.flatten.proofs.Bound.{flattened-same, flattened-scoped}
 use Rattle.reader.specs.Session.{Term, anExpr, aBind, aSolution, termItems}

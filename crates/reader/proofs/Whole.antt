@@ -9,11 +9,11 @@ use lib.Dec.{ltb}
 use borrow.Author.Tests.{ltb-true, ltb-false}
 use Rattle.text.specs.Limits.{maxNumber}
 use Rattle.text.specs.Answer.{number, noRoom, numbersSpent, Res, ok, no, accepts, refuses, refused}
-use Rattle.parse.specs.Item.{wordsOf}
-use Rattle.parse.specs.Numbers.{Exactly}
-use Rattle.parse.proofs.Exact.{exactly-none, exactly-append, exactly-raise}
-use Rattle.parse.proofs.Raise.{raise-zero}
-use Rattle.parse.proofs.Post.{Post}
+use Rattle.grammar.specs.Item.{wordsOf}
+use Rattle.grammar.specs.Numbers.{Exactly}
+use Rattle.grammar.proofs.Exact.{exactly-none, exactly-append, exactly-raise}
+use Rattle.grammar.proofs.Raise.{raise-zero}
+use Rattle.grammar.proofs.Post.{Post}
 use Rattle.reader.specs.Session.{Call, Term, termItems, made, roomFor, final, Outcome, outcome, countAfter, boundBy, boundByAll}
 use Rattle.reader.specs.Demand3.{ScopedFinal, AllScoped, acceptance, readsOrSorts, Agree, LongEnough, BothRefuse, BothAccept, Answered, Alike, Demand3}
 use Rattle.reader.proofs.Made.{Fine, make-fine}

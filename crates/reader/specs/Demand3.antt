@@ -7,9 +7,9 @@ use mathlib.Core.List.{List, [], _∷_}
 use lib.ListN.{length}
 use Rattle.text.specs.Limits.{maxNumber}
 use Rattle.text.specs.Answer.{Refusal, number, noRoom, numbersSpent, no, ok, Final, accepts, refuses, refused, zeros, over}
-use Rattle.parse.specs.Item.{raise, wordsOf, bound}
-use Rattle.parse.specs.Numbers.{Exactly}
-use Rattle.parse.specs.Scoped.{Scoped, ScopedPreds, ScopedSolution}
+use Rattle.grammar.specs.Item.{raise, wordsOf, bound}
+use Rattle.grammar.specs.Numbers.{Exactly}
+use Rattle.grammar.specs.Scoped.{Scoped, ScopedPreds, ScopedSolution}
 use Rattle.flatten.specs.Uncurry.{flattened}
 use Rattle.reader.specs.Session.{Op, readOne, readAll, sort, expression, bind, solution, Call, Term, aRead, aSort, anExpr, aBind, aSolution, termItems, termWords, report, made, roomFor, final, Outcome, outcome, countAfter, boundByAll}
 

@@ -6,12 +6,11 @@ use lib.ListN.{length}
 use Rattle.text.specs.Pick.{pick}
 use Rattle.text.specs.Answer.{Res, M, _>>=_, chain, done, lifted, Final, accepts, refuses, finish, fitsIn, Said, accepted, zeros, outputOf, saidOf, countOf}
 use Rattle.text.specs.Reading.{Read, readText, readWords, readReport}
-use Rattle.parse.specs.Sort.{Sort, sortWords}
-use Rattle.parse.specs.Item.{Item, plains, raise, wordsOf, bound}
-use Rattle.parse.specs.Expr.{Expr, exprItems, Bind, bindItems, Solution, solutionItems}
-use Rattle.parse.specs.Operations.{makeSort, makeExpr, makeBind}
+use Rattle.grammar.specs.Sort.{Sort, sortWords}
+use Rattle.grammar.specs.Item.{Item, plains, raise, wordsOf, bound}
+use Rattle.grammar.specs.Expr.{Expr, exprItems, Bind, bindItems, Solution, solutionItems}
+use Rattle.grammar.specs.Operations.{makeSort, makeExpr, makeBind, makeSolution}
 use Rattle.flatten.specs.Uncurry.{flattened}
-use Rattle.flatten.specs.Operations.{makeSolution}
 
 pub data Op : Type 0 where
   readOne readAll sort expression bind solution : Op

@@ -1,5 +1,5 @@
 use mathlib.Core.Path.{sym, _∙_}
-use Rattle.parse.specs.Operations.{sortFinal}
+use Rattle.grammar.specs.Operations.{sortFinal}
 use Rattle.ffi.proofs.Replies.{sort-done, sort-refused}
 use borrow.Author.Needs.{needs}
 use Rattle.ffi.proofs.pinhkray_sort.Statement.{statement}

@@ -1,13 +1,13 @@
 use native.Mathlib.Omega.{arith}
 use lib.ListN.{length-take}
-use Rattle.parse.proofs.Places.ReadTree.{tree-in, no-tree}
-use Rattle.parse.proofs.Places.Answered.{is-tree, without-tree, sort-refused, sort-short, sort-long}
+use Rattle.parse.proofs.ReadTree.{tree-in, no-tree}
+use Rattle.parse.proofs.Answered.{is-tree, without-tree, sort-refused, sort-short, sort-long}
 use borrow.Author.Needs.{needs}
 use Rattle.parse.proofs.operation.attempt_sort.Statement.{statement}
 use Rattle.parse.proofs.operation.attempt_sort.Tie as tie
 use Rattle.parse.proofs.operation.attempt_sort.Reads as reads
 use Rattle.parse.proofs.operation.attempt_sort.Lts as lts
-use Rattle.parse.proofs.sorts.sort.Reads as sort-reads
+use Rattle.sorts.proofs.sorts.sort.Reads as sort-reads
 use Rattle.text.proofs.read_one.Reads as read-one-reads
 
 -- src/operation.rt:16:11

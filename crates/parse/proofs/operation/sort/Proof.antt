@@ -1,7 +1,7 @@
 use Prim.Native.Nat.{ℕ}
 use mathlib.Core.Path.{ap, _∙_}
 use lib.ListN.{replicate}
-use Rattle.parse.proofs.Places.Answered.{kept, cleared}
+use Rattle.parse.proofs.Answered.{kept, cleared}
 use borrow.Author.Needs.{needs}
 use Rattle.parse.proofs.operation.sort.Statement.{statement}
 use Rattle.parse.proofs.operation.sort.Tie as tie

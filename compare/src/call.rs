@@ -1,0 +1,51 @@
+//! A call of one operation and what it answers: the common ground of the paper, the source, the recorded answers and the library.
+
+#[derive(Clone, Copy, Debug, PartialEq, Eq)]
+pub enum Operation {
+    ReadOne,
+    ReadAll,
+    Sort,
+    Expression,
+    Bind,
+    Solution,
+}
+
+impl Operation {
+    /// Whether it is lent a tree slice to work in.
+    pub fn takes_tree(self) -> bool {
+        !matches!(self, Operation::ReadOne | Operation::ReadAll)
+    }
+}
+
+/// A text, how many words the lent slices have, and the reader's count before the call.
+#[derive(Clone, Copy, Debug)]
+pub struct Call<'t> {
+    pub op: Operation,
+    pub text: &'t [u8],
+    pub tree: usize,
+    pub draft: usize,
+    pub out: usize,
+    pub count: u64,
+}
+
+impl<'t> Call<'t> {
+    /// A call for which no slice is too short, by a reader opened at 0.
+    pub fn roomy(op: Operation, text: &'t [u8]) -> Self {
+        Call { op, text, tree: usize::MAX, draft: usize::MAX, out: usize::MAX, count: 0 }
+    }
+}
+
+/// A refusal's number, from 1 on.
+pub type Refusal = u32;
+
+/// What an accepted call reports and writes.
+#[derive(Clone, Debug, PartialEq, Eq)]
+pub struct Answer {
+    /// Read one and the parser's operations: how many words were written; read all: how many expressions.
+    pub a: u64,
+    /// Read one: the byte after the expression; read all: how many words were written; else 0.
+    pub b: u64,
+    /// The reader's count after the call.
+    pub count: u64,
+    pub words: Vec<u32>,
+}

@@ -1,0 +1,130 @@
+//! The deepest texts and the longest lists that the limits allow, and some just past them.
+
+use crate::paper::{MAX_BYTES, MAX_LISTS};
+
+/// What stands before and behind the rest, `n` times, round a core.
+fn nest(before: &str, n: usize, core: &str, behind: &str) -> String {
+    [&before.repeat(n), core, &behind.repeat(n)].concat()
+}
+
+/// As many items as there is room for between a beginning and an end.
+fn fill(before: &str, mut items: impl Iterator<Item = String>, behind: &str) -> String {
+    let mut text = before.to_string();
+    while let Some(item) = items.next().filter(|i| text.len() + i.len() + behind.len() <= MAX_BYTES) {
+        text.push_str(&item);
+    }
+    text + behind
+}
+
+fn same(item: &str) -> impl Iterator<Item = String> {
+    std::iter::repeat(item.to_string())
+}
+
+/// Binders with the shortest names that differ.
+fn binders() -> impl Iterator<Item = String> {
+    let letters = || ('a'..='z').chain('A'..='Z').chain("!#$%&*,/:;<=>?[]^_`{|}~".chars());
+    let one = letters().map(|a| format!("({a} a)"));
+    let two = letters().flat_map(move |a| letters().map(move |b| format!("({a}{b} a)")));
+    let three = letters().flat_map(move |a| letters().map(move |b| format!("({a}{b}a a)")));
+    one.chain(two).chain(three)
+}
+
+/// Nested as deep as can be: what the nesting is made of, and the text.
+fn deepest() -> Vec<(&'static str, String)> {
+    let max = MAX_LISTS;
+    let bind = |sort: &str, predicate: &str| format!("((x {sort}) {predicate})");
+    vec![
+        ("lists", nest("(", max, "", ")")),
+        ("lists, one too deep", nest("(", max + 1, "", ")")),
+        ("lists round a name", nest("(", max, "x", ")")),
+        ("Set_Set", nest("(Set_Set ", max, "Int", ")")),
+        ("Map_t", nest("(Map_t Int ", max, "Int", ")")),
+        ("data", nest("(A ", max, "Int", " Int)")),
+        ("function, inputs", nest("(function ", max, "Int", " Int)")),
+        ("function, outputs", nest("(function Int ", max, "Int", ")")),
+        ("func, inputs", nest("(func 64 (", max / 2, "Int", ") Int)")),
+        ("func, outputs", nest("(func 64 () ", max - 1, "Int", ")")),
+        ("not", nest("(not ", max, "x", ")")),
+        ("not, one too deep", nest("(not ", max + 1, "x", ")")),
+        ("not round what is seen through", format!("(not {})", nest("(", max - 1, "x", ")"))),
+        ("and", nest("(and x ", max, "x", " x)")),
+        ("if", nest("(if x ", max, "x", " x)")),
+        ("cast", nest("(cast ", max, "x", ")")),
+        ("is$", nest("(is$C ", max, "x", ")")),
+        ("let, bindings", nest("(let (x ", max / 2, "x", ") x)")),
+        ("let, bodies", nest("(let (x 1) ", max - 1, "x", ")")),
+        ("let, pairs seen through", format!("(let {} x)", nest("(", max - 1, "x 1", ")"))),
+        ("exists", nest("(exists ((x Int)) ", max - 2, "(not (not x))", ")")),
+        ("exists, no binders", nest("(exists () ", max - 1, "x", ")")),
+        ("exists, a sort below", nest("(exists ((x (Set_Set Int))) ", max - 3, "(+ x (not (not x)))", ")")),
+        ("exists, a name repeated inside", nest("(exists ((x Int)) ", max - 2, "(exists () x)", ")")),
+        ("exists, a name repeated", nest("(exists ((x Int)) ", max - 3, "(exists ((x Int) (x Int)) (not x))", ")")),
+        ("applications, heads", nest("(", max - 2, "((as apply Int) f)", " a)")),
+        ("applications, arguments", nest("((not f) ", max - 1, "x", ")")),
+        ("apply", nest("((as apply Int) ", max - 1, "f", ")")),
+        ("apply, sorts", format!("((as apply {}) f)", nest("(Set_Set ", max - 2, "Int", ")"))),
+        ("a decimal", nest("(not ", max, "nan", ")")),
+        ("a bind's sort", bind(&nest("(Set_Set ", max - 2, "Int", ")"), "($k x)")),
+        ("a bind's ands", bind("Int", &nest("(and ", max - 2, "($k x)", ")"))),
+        ("a bind's nots", bind("Int", &nest("(not ", max - 1, "x", ")"))),
+        ("a bind's exists", bind("Int", &nest("(exists ((y Int)) ", max - 3, "(not (not y))", ")"))),
+        ("a bind's lists", bind("Int", &nest("(", max - 1, "x", ")"))),
+    ]
+}
+
+/// As long as can be: what fills the text, and the text.
+fn longest() -> Vec<(&'static str, String)> {
+    let deep = |core: &str| nest("(not ", MAX_LISTS - 1, core, ")");
+    vec![
+        ("and", fill("(and a", same(" a"), ")")),
+        ("or", fill("(or a", same(" a"), ")")),
+        ("and, lists", fill("(and", same("(a)"), ")")),
+        ("and, one byte too long", format!("(and{})", " ".repeat(MAX_BYTES - 4))),
+        ("and of ands", fill("(and", same("(and)"), ")")),
+        ("nots", fill("(and", same("(not a)"), ")")),
+        ("arguments", fill("((not f)a", same(" a"), ")")),
+        ("apply, dropped items", fill("((as apply Int)a", same(" a"), ")")),
+        ("surplus", fill("(not a", same(" a"), ")")),
+        ("exists, binders", fill("(exists(", binders(), ")a)")),
+        ("exists, binders and uses", fill(&fill("(exists(", binders().take(2500), ")(and"), same(" ;a"), "))")),
+        ("exists, a name repeated", fill("(exists(", same("(a a)"), ")a)")),
+        ("exists, one inside each", fill("(and", same("(exists((a a))a)"), ")")),
+        ("a list at the deepest place", {
+            let room = MAX_BYTES - deep("(or)").len();
+            deep(&format!("(or{})", " a".repeat(room / 2)))
+        }),
+        ("arguments of a sort", fill("(A a", same(" a"), ")")),
+        ("arguments of a sort, lists", fill("(A", same("(A)"), ")")),
+        ("inputs", fill("(func 64(a", same(" a"), ")a)")),
+        ("many Abs", fill("(A", same("(func 64()a)"), ")")),
+        ("indexes", fill("(A ", same("@(1)"), ")")),
+        ("kvar arguments", fill("((x Int)($k a", same(" a"), "))")),
+        ("predicates", fill("((x Int)(and", same("(a)"), "))")),
+        ("kvars", fill("((x Int)(and", same("($ a)"), "))")),
+        ("a bind's binders", fill("((x Int)(exists(", binders(), ")a))")),
+        ("a bind's sort", fill("((x(A a", same(" a"), "))(x))")),
+        ("numbers", fill("(and 1", same(" 1"), ")")),
+        ("the most words of a tree", fill("(", same("1(1)"), ")")),
+        ("strings", fill("(and", same("\"\""), ")")),
+        ("a name", "x".repeat(MAX_BYTES)),
+        ("a name, one byte too long", "x".repeat(MAX_BYTES + 1)),
+        ("a string", format!("\"{}\"", "(".repeat(MAX_BYTES - 2))),
+        ("an index", format!("@({}1)", "0".repeat(MAX_BYTES - 4))),
+        ("a width", format!("Size{}1", "0".repeat(MAX_BYTES - 5))),
+        ("a number", format!("-{}1", "0".repeat(MAX_BYTES - 2))),
+        ("a decimal", format!(".{}1", "0".repeat(MAX_BYTES - 2))),
+        ("bits", {
+            let frame = "(lit \"#b\" (BitVec Size3))".len();
+            format!("(lit \"#b{}1\" (BitVec Size3))", "0".repeat(MAX_BYTES - frame - 1))
+        }),
+        ("space", " ".repeat(MAX_BYTES - 1) + "x"),
+        ("lists side by side", "()".repeat(MAX_BYTES / 2)),
+    ]
+}
+
+/// What each text is, and the text.
+pub fn texts() -> Vec<(String, String)> {
+    let deep = deepest().into_iter().map(|(of, text)| (format!("the deepest of {of}"), text));
+    let long = longest().into_iter().map(|(of, text)| (format!("the longest of {of}"), text));
+    deep.chain(long).collect()
+}

@@ -1,0 +1,18 @@
+//! Refusals by number.
+
+use crate::call::Refusal;
+
+pub const TOO_LONG: Refusal = 1;
+pub const NOT_UTF8: Refusal = 2;
+pub const ENDS_EARLY: Refusal = 3;
+pub const CLOSES_NOTHING: Refusal = 4;
+pub const UNCLOSED: Refusal = 5;
+pub const TOO_DEEP: Refusal = 6;
+pub const NO_ROOM: Refusal = 7;
+/// Any other error, panic or missing item in the source's rules.
+pub const MALFORMED: Refusal = 8;
+pub const DECIMAL: Refusal = 9;
+pub const REPEATED_NAME: Refusal = 10;
+pub const NO_BITS: Refusal = 11;
+pub const FUNC_NUMBER: Refusal = 12;
+pub const NUMBERS_SPENT: Refusal = 13;

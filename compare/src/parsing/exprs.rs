@@ -1,0 +1,266 @@
+//! Texts of expressions.
+
+use super::grower::Grower;
+use super::pools::*;
+use crate::paper::theory;
+
+/// Forms with a fixed number of operands.
+const FORMS: &[(&str, usize)] = &[
+    ("not", 1), ("-", 1), ("-", 2), ("+", 2), ("*", 2), ("/", 2), ("mod", 2), ("=", 2), ("!=", 2), ("<", 2), ("<=", 2), (">", 2), (">=", 2),
+    ("=>", 2), ("<=>", 2), ("if", 3),
+];
+
+const BAD_BINDERS: &[&str] = &[
+    "x", "(x)", "(x Int Int)", "(5 Int)", "(\"x\" Int)", "(nan Int)", "((x) Int)", "()", "(x 5)", "((x Int))", "(x Int)(x Int)",
+];
+
+impl Grower<'_> {
+    pub fn name(&mut self) {
+        if self.r.one_in(12) {
+            let pool = self.r.pick(&[ODD_NAMES, NEARLY]);
+            self.pick(pool);
+        } else if self.r.one_in(10) {
+            self.theory_name();
+        } else {
+            self.pick(NAMES);
+        }
+    }
+
+    fn theory_name(&mut self) {
+        let n = self.r.below(theory::names().count());
+        self.put(theory::names().nth(n).unwrap());
+    }
+
+    fn atom(&mut self) {
+        match self.r.below(16) {
+            0..=2 => self.pick(INTEGERS),
+            3 => self.pick(STRINGS),
+            4 => self.pick(&["true", "false"]),
+            5 => self.theory_name(),
+            _ => self.name(),
+        }
+    }
+
+    /// An expression where lists of one element are not seen through.
+    pub fn root(&mut self, depth: usize) {
+        if self.fault() {
+            self.wrong();
+        } else if self.may_nest(depth) {
+            self.list_form(depth - 1, 0);
+        } else {
+            self.atom();
+        }
+    }
+
+    /// An expression where they are.
+    pub fn nested(&mut self, depth: usize) {
+        let lists = if self.r.one_in(8) { 1 + self.r.below(3) } else { 0 };
+        (0..lists).for_each(|_| self.put("("));
+        self.root(depth);
+        (0..lists).for_each(|_| self.put(")"));
+    }
+
+    fn wrong(&mut self) {
+        let pool = self.r.pick(&[JUNK, DECIMALS]);
+        self.pick(pool);
+    }
+
+    /// A list of at least `least` items behind its head.
+    pub fn list_form(&mut self, depth: usize, least: usize) {
+        match self.r.below(24) {
+            0..=6 => {
+                let (head, n) = self.r.pick(FORMS);
+                self.form(head, n, depth);
+            }
+            7..=9 => {
+                let (head, n) = (self.r.pick(&["and", "or"]), self.some(least));
+                self.open(head);
+                self.operands(n, depth);
+                self.close();
+            }
+            10 => self.unseen(depth),
+            11..=13 => self.let_in(depth),
+            14..=17 => self.exists(depth),
+            18 => self.lit(),
+            19 | 20 => self.apply(depth),
+            _ => self.application(depth),
+        }
+    }
+
+    fn operands(&mut self, n: usize, depth: usize) {
+        for _ in 0..n {
+            self.gap();
+            self.nested(depth);
+        }
+    }
+
+    /// One operand too few by a fault; one too many refuses nothing.
+    fn form(&mut self, head: &str, n: usize, depth: usize) {
+        let n = if self.fault() { n - 1 } else { n };
+        self.open(head);
+        self.operands(n, depth);
+        if head != "-" {
+            self.surplus();
+        }
+        self.close();
+    }
+
+    /// An item that is never read.
+    fn surplus(&mut self) {
+        if self.r.one_in(12) {
+            self.gap();
+            self.wrong();
+        }
+    }
+
+    fn unseen(&mut self, depth: usize) {
+        let head = self.r.pick(&["cast", "cast_as_int", "is$Cons", "is$", "is$é", "is$is$"]);
+        self.open(head);
+        if !self.fault() {
+            self.gap();
+            self.root(depth);
+        }
+        self.surplus();
+        self.close();
+    }
+
+    fn let_in(&mut self, depth: usize) {
+        self.open("let");
+        self.gap();
+        let lists = 1 + if self.r.one_in(6) { 1 + self.r.below(2) } else { 0 };
+        (0..lists).for_each(|_| self.put("("));
+        if self.fault() {
+            self.wrong();
+        } else {
+            self.name();
+        }
+        if !self.fault() {
+            self.gap();
+            self.nested(depth);
+            self.surplus();
+        }
+        (0..lists).for_each(|_| self.put(")"));
+        if !self.fault() {
+            self.gap();
+            self.nested(depth);
+            self.surplus();
+        }
+        self.close();
+    }
+
+    fn exists(&mut self, depth: usize) {
+        self.open("exists");
+        self.gap();
+        self.put("(");
+        self.binders();
+        self.put(")");
+        if !self.fault() {
+            self.gap();
+            self.nested(depth);
+        }
+        if self.fault() {
+            self.put(" x");
+        }
+        self.close();
+    }
+
+    /// Some binders; no name is repeated in a good text.
+    fn binders(&mut self) {
+        let mut names: Vec<String> = Vec::new();
+        for _ in 0..self.some(0) {
+            let start = self.text.len();
+            self.put("(");
+            match names.first() {
+                Some(name) if self.past_limits() => self.put(name),
+                _ => self.name(),
+            }
+            let name = self.text[start + 1..].to_string();
+            if names.contains(&name) && !self.past_limits() {
+                self.text.truncate(start);
+                continue;
+            }
+            names.push(name);
+            self.gap();
+            self.sort(2);
+            self.put(")");
+            if self.fault() {
+                self.text.truncate(start);
+                self.pick(BAD_BINDERS);
+            }
+        }
+    }
+
+    fn lit(&mut self) {
+        self.open("lit");
+        self.gap();
+        if self.fault() {
+            self.pick(&["\"#x1\"", "#b11", "\"b11\"", "\"\"", "\"#\"", "5", "x", "(\"#b11\")", "\"#B11\"", "\" #b11\""]);
+        } else {
+            self.put("\"#b");
+            self.bits();
+            self.put("\"");
+        }
+        self.gap();
+        if self.fault() {
+            self.pick(&["", "Size3", "(BitVec)", "(Size3)", "(BitVec 3)", "(BitVec Size3 Size3)", "((BitVec Size3))", "(BitVec (Size3))", "()"]);
+        } else if self.r.one_in(4) {
+            self.put("(");
+            self.pick(&["5", "x", "()", "nan", "\"\"", "BitVec", "Set_Set"]);
+            self.gap();
+            self.pick_or(SIZES, BAD_SIZES);
+            self.put(")");
+        } else {
+            self.bitvec();
+        }
+        self.surplus();
+        self.close();
+    }
+
+    /// The byte that is dropped and the bits, up to the longest that are taken and one more.
+    fn bits(&mut self) {
+        if self.fault() {
+            return;
+        }
+        self.pick_or(&["0", "1", "+", "x", " "], &["é", "𝒳"]);
+        if self.r.one_in(3) {
+            let zeros = if self.r.one_in(3) { self.r.below(200) } else { 0 };
+            let ones = if self.past_limits() { 129 + self.r.below(2) } else { 120 + self.r.below(9) };
+            (0..zeros).for_each(|_| self.put("0"));
+            self.put("1");
+            (1..ones).for_each(|_| self.pick(&["0", "1"]));
+        } else {
+            self.pick_or(BITS, BAD_BITS);
+        }
+    }
+
+    fn apply(&mut self, depth: usize) {
+        self.open("(");
+        self.pick(&["as", "as", "as", "5", "nan", "()", "\"as\"", "(x)"]);
+        self.put(" apply");
+        if !self.fault() {
+            self.gap();
+            self.sort(3);
+            self.surplus();
+        }
+        self.put(")");
+        if !self.fault() {
+            self.gap();
+            self.nested(depth);
+            self.surplus();
+        }
+        self.close();
+    }
+
+    /// The head is a list of at least two items.
+    fn application(&mut self, depth: usize) {
+        self.open("");
+        if self.fault() {
+            self.pick(&["f", "5", "()", "(f)", "(f g)", "bvadd", "\"f\"", "((and x))", "(not apply)"]);
+        } else {
+            self.list_form(depth.saturating_sub(1), 1);
+        }
+        let n = self.some(0);
+        self.operands(n, depth);
+        self.close();
+    }
+}

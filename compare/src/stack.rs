@@ -1,0 +1,35 @@
+//! The deepest texts and the longest lists run in a small stack: it is spent by nesting only, which is limited, and never by length.
+
+use crate::call::{Answer, Call, Operation, Refusal};
+use crate::check;
+use crate::extreme;
+use crate::paper;
+use std::thread;
+
+/// Half of what a caller must bring.
+pub const BYTES: usize = 512 * 1024;
+
+const OPERATIONS: [Operation; 5] = [Operation::ReadOne, Operation::ReadAll, Operation::Sort, Operation::Expression, Operation::Bind];
+
+/// The call with slices just long enough, and its answer.
+fn exact(op: Operation, text: &[u8]) -> (Call<'_>, Result<Answer, Refusal>) {
+    let roomy = Call::roomy(op, text);
+    let tree = paper::tree_words(text).unwrap_or(0);
+    let out = paper::answer(&roomy).map_or(8, |a| a.words.len());
+    let call = Call { tree, out, ..roomy };
+    (call, paper::answer(&call))
+}
+
+/// How many calls ran, and how many of them were accepted. The paper's answers are made outside the small stack, in which only the
+/// library runs and what compares its answers, without recursion.
+pub fn run() -> Result<(usize, usize), String> {
+    let texts = extreme::texts();
+    let calls: Vec<_> = texts.iter().flat_map(|(of, text)| OPERATIONS.into_iter().map(move |op| (of, exact(op, text.as_bytes())))).collect();
+    let accepted = calls.iter().filter(|(_, (_, answer))| answer.is_ok()).count();
+    thread::scope(|scope| {
+        let all = || calls.iter().try_for_each(|(of, (call, answer))| check::call(call, answer).map_err(|e| format!("{of}: {e}")));
+        let small = thread::Builder::new().name("small stack".to_string()).stack_size(BYTES).spawn_scoped(scope, all);
+        small.map_err(|e| e.to_string())?.join().map_err(|_| "the small stack's thread ended early".to_string())?
+    })?;
+    Ok((calls.len(), accepted))
+}

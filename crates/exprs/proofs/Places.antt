@@ -1,0 +1,5 @@
+-- Laws on places in words, and what stands there.
+pub mod Spots
+pub mod Rows
+pub mod ScopeNames
+pub mod Inside

@@ -1,0 +1,292 @@
+-- The steps of the parser of expressions, as facts on lists.
+use Prim.Native.Nat.{ℕ, zero, suc, _+_, _*_, _-_, _<_, _≤_, max}
+use mathlib.Core.Path.{_≡_, refl, sym, ap, subst, _∙_}
+use mathlib.Core.Bool.{Bool, true, false}
+use mathlib.Core.List.{List, [], _∷_, _++_, append-assoc}
+use native.Mathlib.Omega.{arith}
+use native.Mathlib.Numerals.{add-one}
+use native.Mathlib.Nat.{le-max-left, le-max-right}
+use lib.Dec.{eqb}
+use lib.ListN.{length, set, drop, length-set, length-append}
+use lib.Seq.{getD-set-same, getD-set-other, drop-drop, drop-at}
+use borrow.Author.Tests.{eqb-false}
+use Rattle.text.specs.Limits.{maxLists}
+use Rattle.text.specs.Pick.{pick}
+use Rattle.text.specs.Bytes.{Span}
+use Rattle.text.specs.Tree.{Tree, Trees, tnil, tcons, trees, treeWords, treesWords, nesting, nestings}
+use Rattle.grammar.specs.Scope.{Scope, repeated}
+use Rattle.grammar.specs.ParseExpr.{child}
+use Rattle.grammar.specs.Written.{W, told, operandsW, endW, Last, noLast, seenLast, plainLast}
+use Rattle.exprs.specs.Spot.{Spot, Seen}
+use Rattle.exprs.specs.Scopes.{IsScope, Bound, Opened, blank, pushed, inner}
+use Rattle.exprs.specs.Laid.{laid}
+use Rattle.exprs.specs.Plans.{Parsed, refused, Here, Row, Running, Planned, EndsAt, EndSpot, endSize, endNesting, factor, most}
+use Rattle.exprs.specs.declared.expr.Progress.{Progress}
+use Rattle.exprs.specs.declared.expr.Progress.the-variants.{Done, Refused}
+use Rattle.exprs.specs.declared.plan.Plan.{Plan}
+use Rattle.exprs.specs.declared.plan.Plan.the-variants.{Stop, Leaf, Go}
+use Rattle.exprs.specs.declared.plan.Run.{Run}
+use Rattle.exprs.specs.declared.scopes.Entry.{Entry}
+use Rattle.exprs.specs.declared.scopes.Entries.{Entries}
+use Rattle.exprs.proofs.Laid.{out-after, out-no, out-room, out-wider, out-empty}
+
+-- ---- scopes
+
+opened-kept : (ws : List ℕ) (es : List Entry) (d : ℕ) (x : Entry) (k : ℕ) (fs : List Scope) → k ≤ d → Opened ws es k fs → Opened ws (set es d x) k fs
+opened-kept ws es d x zero [] h o = tt
+opened-kept ws es d x zero (f ∷ fs) h o = o
+opened-kept ws es d x (suc k) [] h o = o
+opened-kept ws es d x (suc k) (f ∷ fs) h o =
+    (subst (λ (e : Entry). IsScope ws e f) (sym (getD-set-other es d k x blank (λ e. omega arith))) (o .0), opened-kept ws es d x k fs (omega arith) (o .1))
+
+pub record Inside (ws : List ℕ) (s : Entries) (fs : List Scope) (d : ℕ) : Type 0 where
+  pub holds : Opened ws (s .entries) (s .depth) fs
+  pub long : length (s .entries) ≡ maxLists
+  pub shallow : s .depth ≤ d + 1
+
+pub pushed-inside : (ws : List ℕ) (s : Entries) (k n : ℕ) (b : Bound ws k) (fs : List Scope) → Opened ws (s .entries) (s .depth) fs
+    → length (s .entries) ≡ maxLists → s .depth < maxLists → Inside ws (pushed s k n) (inner k (b .names) n fs) (s .depth)
+unfolding pushed inner pick
+pushed-inside ws s k n b fs o l h = go (eqb k 0) refl
+  where
+    go : (t : Bool) → eqb k 0 ≡ t → Inside ws (pushed s k n) (inner k (b .names) n fs) (s .depth)
+    go true e = rw e (record { holds = o; long = l; shallow = omega arith })
+    go false e =
+        rw e
+        (record {
+          holds =
+              rw add-one (
+                subst (λ (x : Entry). IsScope ws x (record { names = b .names; first = n })) (sym (getD-set-same (s .entries) (s .depth) (record { names = k; first = n }) blank (omega arith)))
+                    (record { place = b .place (eqb-false k 0 e); first = refl }),
+                opened-kept ws (s .entries) (s .depth) (record { names = k; first = n }) (s .depth) fs (omega arith) o,
+              );
+          long = length-set (s .entries) (s .depth) (record { names = k; first = n }) ∙ l;
+          shallow = omega arith;
+        })
+
+-- ---- one tree more
+
+pub record End (text : List ℕ) (ws : List ℕ) (at l : ℕ) (p : Bool) (m : Last) : Type 0 where
+  pub tree : Tree
+  pub place : EndSpot ws at l tree
+  pub is : (count : ℕ) (sc : List Scope) (names : List Span) (n : ℕ) → endW text count m sc names n ≡ told count (pick p (child text tree .plainly) (child text tree .nested) sc n)
+  pub size : endSize m ≡ length (treeWords tree)
+  pub deep : endNesting m ≡ nesting tree
+
+pub the-end : (text ws : List ℕ) (at l : ℕ) (p : Bool) (m : Last) → EndsAt ws at l p m → (l ≡ 0 → ⊥) → End text ws at l p m
+unfolding endW pick
+the-end text ws at l p noLast e n = absurd (n e)
+the-end text ws at l p (seenLast t) e n = rw (e .1) (record { tree = t; place = e .0; is = λ count sc names n. refl; size = refl; deep = refl })
+the-end text ws at l p (plainLast t) e n = rw (e .1) (record { tree = t; place = e .0; is = λ count sc names n. refl; size = refl; deep = refl })
+
+pub no-end : (ws : List ℕ) (at l : ℕ) (p : Bool) (m : Last) → EndsAt ws at l p m → l ≡ 0 → m ≡ noLast
+no-end ws at l p noLast e n = refl
+no-end ws at l p (seenLast t) e n = absurd (omega (arith, e .0 .beyond))
+no-end ws at l p (plainLast t) e n = absurd (omega (arith, e .0 .beyond))
+
+-- ---- one expression
+
+module _ (text : List ℕ) (count : ℕ) (ws : List ℕ) (at : ℕ) (s : Entries) (w next : ℕ) (h : Here text ws at s w next) (o o′ : List ℕ) where
+  pub whole : W
+  whole = told count (child text (h .spot .tree) .plainly (h .scopes) next)
+
+  pub as-stop : {r : Plan} {e : ℕ} → r ≡ Stop e → Planned text count ws at s w next h o o′ r
+      → Parsed (told count (child text (h .spot .tree) .plainly (h .scopes) next)) w o o′ (most w next (h .spot .tree)) (Refused e)
+  as-stop p x = subst (λ (z : Plan). Planned text count ws at s w next h o o′ z) p x
+
+  pub as-leaf : {r : Plan} {u : ℕ} → r ≡ Leaf u → Planned text count ws at s w next h o o′ r
+      → Parsed (told count (child text (h .spot .tree) .plainly (h .scopes) next)) w o o′ (most w next (h .spot .tree)) (Done u next)
+  as-leaf p x = subst (λ (z : Plan). Planned text count ws at s w next h o o′ z) p x
+
+  pub as-run : {r : Plan} {g : Run} → r ≡ Go g → Planned text count ws at s w next h o o′ r
+      → Running text count ws at (s .depth) next (h .scopes) (told count (child text (h .spot .tree) .plainly (h .scopes) next)) w o o′ (most w next (h .spot .tree)) g
+  as-run p x = subst (λ (z : Plan). Planned text count ws at s w next h o o′ z) p x
+
+  module _ (g : Run) (x : Running text count ws at (s .depth) next (h .scopes) (told count (child text (h .spot .tree) .plainly (h .scopes) next)) w o o′ (most w next (h .spot .tree)) g) (s′ : Entries) (is : s′ ≡ pushed s (g .names) next) where
+    -- the scopes inside
+    pub inside : Inside ws s′ (inner (g .names) (x .bind .names) next (h .scopes)) (s .depth)
+    inside = rw is (pushed-inside ws s (g .names) next (x .bind) (h .scopes) (h .holds) (h .long) (omega (arith, x .shallow)))
+
+    abbrev pub run-row : Row text ws (g .first) (g .have) s′ (g .words) (next + g .fresh)
+    run-row = record {
+      items = x .items;
+      rest = x .rest;
+      words = x .words;
+      many = x .many;
+      scopes = inner (g .names) (x .bind .names) next (h .scopes);
+      holds = inside .holds;
+      long = inside .long;
+      shallow = omega (arith, x .shallow, inside .shallow);
+      room = omega (arith, x .room, h .room);
+      bytes = h .bytes;
+    }
+
+    abbrev scopes′ : List Scope
+    scopes′ = inner (g .names) (x .bind .names) next (h .scopes)
+
+    module _ {o₁ : List ℕ} {b₁ : ℕ} {r : Progress} (y : Parsed (operandsW text count (x .items) (g .want) (inner (g .names) (x .bind .names) next (h .scopes)) (next + g .fresh)) (g .words) o′ o₁ b₁ r) where
+      pub run-refused : {e : ℕ} (o₂ : List ℕ) → r ≡ Refused e → Parsed (told count (child text (h .spot .tree) .plainly (h .scopes) next)) w o o₂ (most w next (h .spot .tree)) (Refused e)
+      run-refused {e} o₂ d = x .goes o₂ (Refused e) (out-no _ (g .words) o′ o₂ _ y d)
+
+      module _ {u m : ℕ} (d : r ≡ Done u m) (room : b₁ + factor * endSize (x .final) ≤ most w next (h .spot .tree)) where
+        pub last-end : (g .last ≡ 0 → ⊥) → End text ws at (g .last) (g .plain) (x .final)
+        last-end n = the-end text ws at (g .last) (g .plain) (x .final) (x .ends) n
+
+        module _ (e : End text ws at (g .last) (g .plain) (x .final)) where
+          abbrev pub last-spot : Spot ws (g .last)
+          last-spot = record { tree = e .tree; rest = e .place .rest; words = e .place .words }
+
+          abbrev pub last-here : {q : ℕ} → (k : Seen text (g .plain) ws (g .last) last-spot q) → Here text ws q s′ u m
+          last-here k =
+              let f : endSize (x .final) ≡ length (treeWords (e .tree)) = e .size in
+              let f′ : endNesting (x .final) ≡ nesting (e .tree) = e .deep in
+              record {
+                spot = k .spot;
+                scopes = inner (g .names) (x .bind .names) next (h .scopes);
+                holds = inside .holds;
+                long = inside .long;
+                shallow = omega (arith, x .endShallow, inside .shallow, f′, k .shallow);
+                room = omega (arith, room, h .room, out-room y d, f, k .short);
+                bytes = h .bytes;
+              }
+
+          pub last-done : {q : ℕ} (k : Seen text (g .plain) ws (g .last) last-spot q) {o₂ : List ℕ} {a : Progress}
+              → Parsed (told count (child text (k .spot .tree) .plainly (inner (g .names) (x .bind .names) next (h .scopes)) m)) u o₁ o₂ (most u m (k .spot .tree)) a
+              → Parsed (told count (child text (h .spot .tree) .plainly (h .scopes) next)) w o o₂ (most w next (h .spot .tree)) a
+          unfolding endW pick
+          last-done k {o₂} {a} z =
+              let f : endSize (x .final) ≡ length (treeWords (e .tree)) = e .size in
+              x .goes o₂ a (out-after _ y d (rw (e .is count (inner (g .names) (x .bind .names) next (h .scopes)) (x .bind .names) m, k .same) (out-wider (omega (arith, room, out-room y d, f, k .short)) z)))
+
+        pub none-last : g .last ≡ 0 → x .final ≡ noLast
+        none-last n = no-end ws at (g .last) (g .plain) (x .final) (x .ends) n
+
+        pub run-twice : g .last ≡ 0 → repeated text (x .bind .names) ≡ true
+            → Parsed (told count (child text (h .spot .tree) .plainly (h .scopes) next)) w o o₁ (most w next (h .spot .tree)) (Refused 10)
+        unfolding endW pick
+        run-twice n t = x .goes o₁ (Refused 10) (out-after _ y d (rw (none-last n, t) (refused refl)))
+
+        pub run-done : g .last ≡ 0 → repeated text (x .bind .names) ≡ false
+            → Parsed (told count (child text (h .spot .tree) .plainly (h .scopes) next)) w o o₁ (most w next (h .spot .tree)) (Done u m)
+        unfolding endW laid pick
+        run-done n t = x .goes o₁ (Done u m) (out-after _ y d (rw (none-last n, t) (out-empty u m o₁ _ (omega (arith, room, out-room y d)))))
+
+-- ---- some operands
+
+pub record More (ts : Trees) : Type 0 where
+  pub first : Tree
+  pub others : Trees
+  pub is : ts ≡ tcons first others
+
+pub some : (ts : Trees) → 0 < trees ts → More ts
+unfolding trees
+some tnil h = absurd (omega arith)
+some (tcons t ts) h = record { first = t; others = ts; is = refl }
+
+pub none : (ts : Trees) → trees ts ≡ 0 → ts ≡ tnil
+unfolding trees
+none tnil h = refl
+none (tcons t ts) h = absurd (omega arith)
+
+pub record Going (text : List ℕ) (count : ℕ) (ws : List ℕ) (at have want : ℕ) (s : Entries) (w next : ℕ) (h : Row text ws at have s w next) (o m : List ℕ) (i p n v : ℕ) : Type 0 where
+  pub items : Trees
+  pub words : drop p ws ≡ treesWords items ++ h .rest
+  pub many : have ≡ i + trees items
+  pub within : i ≤ want
+  pub forward : at ≤ p
+  pub shallow : s .depth + nestings items ≤ maxLists
+  pub room : v + n + factor * length (treesWords items) ≤ w + next + factor * length (treesWords (h .items))
+  pub goes : (o″ : List ℕ) (q : Progress)
+      → Parsed (operandsW text count items (want - i) (h .scopes) n) v m o″ (w + next + factor * length (treesWords (h .items))) q
+      → Parsed (operandsW text count (h .items) want (h .scopes) next) w o o″ (w + next + factor * length (treesWords (h .items))) q
+
+module _ (text : List ℕ) (count : ℕ) (ws : List ℕ) (at have want : ℕ) (s : Entries) (w next : ℕ) (h : Row text ws at have s w next) (o : List ℕ) where
+  same : (k : ℕ) → k - 0 ≡ k
+  same k = omega arith
+
+  pub progress-start : Going text count ws at have want s w next h o o 0 at next w
+  progress-start = record {
+    items = h .items;
+    words = h .words;
+    many = omega (arith, h .many);
+    within = omega arith;
+    forward = omega arith;
+    shallow = h .shallow;
+    room = omega arith;
+    goes = λ o″ q x. subst (λ (k : ℕ). Parsed (operandsW text count (h .items) k (h .scopes) next) w o o″ (w + next + factor * length (treesWords (h .items))) q) (same want) x;
+  }
+
+  module _ (m : List ℕ) (i p n v : ℕ) (g : Going text count ws at have want s w next h o m i p n v) where
+    -- all are read
+    pub progress-end : want ≤ i → Parsed (operandsW text count (h .items) want (h .scopes) next) w o m (w + next + factor * length (treesWords (h .items))) (Done v n)
+    unfolding operandsW laid
+    progress-end e =
+        let z : want - i ≡ 0 = omega (arith, g .within) in
+        g .goes m (Done v n) (rw z (out-empty v n m _ (omega (arith, g .room))))
+
+    -- one is missing
+    pub progress-short : i < want → have ≤ i → Parsed (operandsW text count (h .items) want (h .scopes) next) w o m (w + next + factor * length (treesWords (h .items))) (Refused 8)
+    unfolding operandsW
+    progress-short l e =
+        let z : want - i ≡ suc (want - (i + 1)) = omega arith in
+        g .goes m (Refused 8) (rw (z, none (g .items) (omega (arith, g .many))) (refused refl))
+
+    module _ (l : i < want) (e : i < have) where
+      pub next-tree : More (g .items)
+      next-tree = some (g .items) (omega (arith, g .many))
+
+      pub next-words : drop p ws ≡ treeWords (next-tree .first) ++ (treesWords (next-tree .others) ++ h .rest)
+      unfolding treesWords
+      next-words = g .words ∙ ap (λ (t : Trees). treesWords t ++ h .rest) (next-tree .is) ∙ append-assoc (treeWords (next-tree .first)) (treesWords (next-tree .others)) (h .rest)
+
+      abbrev pub next-spot : Spot ws p
+      next-spot = record { tree = next-tree .first; rest = treesWords (next-tree .others) ++ h .rest; words = next-words }
+
+      pub next-size : length (treesWords (g .items)) ≡ length (treeWords (next-tree .first)) + length (treesWords (next-tree .others))
+      unfolding treesWords
+      next-size = ap (λ (t : Trees). length (treesWords t)) (next-tree .is) ∙ length-append (treeWords (next-tree .first)) (treesWords (next-tree .others))
+
+      pub next-nesting : nestings (g .items) ≡ max (nesting (next-tree .first)) (nestings (next-tree .others))
+      unfolding nestings
+      next-nesting = ap nestings (next-tree .is)
+
+      pub next-trees : trees (g .items) ≡ suc (trees (next-tree .others))
+      unfolding trees
+      next-trees = ap trees (next-tree .is)
+
+      module _ {q : ℕ} (k : Seen text false ws p next-spot q) where
+        abbrev pub next-here : Here text ws q s v n
+        next-here = record {
+          spot = k .spot;
+          scopes = h .scopes;
+          holds = h .holds;
+          long = h .long;
+          shallow = omega (arith, g .shallow, next-nesting, k .shallow, le-max-left (nesting (next-tree .first)) (nestings (next-tree .others)));
+          room = omega (arith, g .room, h .room, next-size, k .short);
+          bytes = h .bytes;
+        }
+
+        -- the first refusal counts
+        pub progress-refused : {m′ : List ℕ} {b₁ : ℕ} {r : Progress} {f : ℕ} (o″ : List ℕ) → Parsed (told count (child text (k .spot .tree) .plainly (h .scopes) n)) v m m′ b₁ r → r ≡ Refused f
+            → Parsed (operandsW text count (h .items) want (h .scopes) next) w o o″ (w + next + factor * length (treesWords (h .items))) (Refused f)
+        unfolding operandsW pick
+        progress-refused {f = f} o″ x d =
+            let z : want - i ≡ suc (want - (i + 1)) = omega arith in
+            g .goes o″ (Refused f) (rw (z, next-tree .is, k .same) (out-no _ v m o″ _ x d))
+
+        pub progress-more : {m′ : List ℕ} {r : Progress} {u f : ℕ} → Parsed (told count (child text (k .spot .tree) .plainly (h .scopes) n)) v m m′ (most v n (k .spot .tree)) r → r ≡ Done u f
+            → (j : ℕ) → j ≡ length (treeWords (next-tree .first))
+            → Going text count ws at have want s w next h o m′ (i + 1) (p + j) f u
+        unfolding operandsW pick
+        progress-more {m′} {r} {u} {f} x d j is = record {
+          items = next-tree .others;
+          words = sym (drop-drop j p ws) ∙ ap (drop j) next-words ∙ drop-at (treeWords (next-tree .first)) (treesWords (next-tree .others) ++ h .rest) j (sym is);
+          many = omega (arith, g .many, next-trees);
+          within = omega arith;
+          forward = omega (arith, g .forward);
+          shallow = omega (arith, g .shallow, next-nesting, le-max-right (nesting (next-tree .first)) (nestings (next-tree .others)));
+          room = omega (arith, g .room, next-size, k .short, out-room x d);
+          goes = λ o″ q y.
+              (let z : want - i ≡ suc (want - (i + 1)) = omega arith in
+              g .goes o″ q (rw (z, next-tree .is, k .same) (out-after _ x d y)));
+        }

@@ -1,0 +1,110 @@
+// The expression that a tree is read as: a plan, its operands, and what comes behind them. These two functions are the whole cycle.
+ghost use Prim.Native.Nat.{_+_, _*_};
+ghost use lib.ListN.{length};
+ghost use Rattle.text.specs.Tree.{treesWords};
+ghost use Rattle.grammar.specs.ParseExpr.{child};
+ghost use Rattle.grammar.specs.Written.{told, operandsW};
+ghost use Rattle.exprs.specs.Plans.{Parsed, Here, Row, factor, most};
+use crate::place::reach;
+use crate::place::through;
+use crate::place::words_at;
+use crate::plan::Plan;
+use crate::plan::Run;
+use crate::plan::planned;
+use crate::scopes::Entries;
+use crate::scopes::opened;
+use crate::scopes::twice;
+
+// The place behind the words written and the next fresh number, or a refusal.
+pub enum Progress {
+    Done(usize, u64),
+    Refused(u32),
+}
+
+// The expression at a place of the tree, its words from w on. Fresh numbers are counted from the call's first one; the reader's count is
+// added where words are written.
+pub fn expr(
+    text: &[u8],
+    tree: &[u32],
+    at: usize,
+    scopes: Entries,
+    count: u64,
+    next: u64,
+    out: &mut [u32],
+    w: usize,
+) -> Progress
+    requires { ⌜ Here (now text) (now tree) at scopes w next ⌝ }
+    ensures { λ r. ⌜ ((h : Here (now (text .entry)) (now (tree .entry)) at scopes w next) → Parsed (told count (child (now (text .entry)) (h .spot .tree) .plainly (h .scopes) next)) w (now (out .entry)) (now (out .exit)) (most w next (h .spot .tree)) r) ⌝ }
+{
+    match planned(text, tree, at, scopes, count, next, out, w) {
+        Plan::Stop(e) => Progress::Refused(e),
+        Plan::Leaf(u) => Progress::Done(u, next),
+        Plan::Go(run) => {
+            let inner = opened(scopes, run.names, next);
+            match operands(
+                text,
+                tree,
+                run.first,
+                run.have,
+                run.want,
+                inner,
+                count,
+                next + run.fresh,
+                out,
+                run.words,
+            ) {
+                Progress::Refused(e) => Progress::Refused(e),
+                Progress::Done(u, m) => {
+                    if run.last != 0 {
+                        let q = reach(text, tree, run.last, run.plain);
+                        return expr(text, tree, q, inner, count, m, out, u);
+                    }
+                    if twice(text, tree, run.names) {
+                        return Progress::Refused(10);
+                    }
+                    Progress::Done(u, m)
+                }
+            }
+        }
+    }
+}
+
+// So many operands, one after the other; a missing one is refused when it is reached.
+fn operands(
+    text: &[u8],
+    tree: &[u32],
+    at: usize,
+    have: usize,
+    want: usize,
+    scopes: Entries,
+    count: u64,
+    next: u64,
+    out: &mut [u32],
+    w: usize,
+) -> Progress
+    requires { ⌜ Row (now text) (now tree) at have scopes w next ⌝ }
+    ensures { λ r. ⌜ ((h : Row (now (text .entry)) (now (tree .entry)) at have scopes w next) → Parsed (operandsW (now (text .entry)) count (h .items) want (h .scopes) next) w (now (out .entry)) (now (out .exit)) (w + next + factor * length (treesWords (h .items))) r) ⌝ }
+{
+    let mut i: usize = 0;
+    let mut p = at;
+    let mut n = next;
+    let mut v = w;
+    while i < want {
+        if have <= i {
+            return Progress::Refused(8);
+        }
+        let q = through(text, tree, p);
+        match expr(text, tree, q, scopes, count, n, out, v) {
+            Progress::Refused(e) => {
+                return Progress::Refused(e);
+            }
+            Progress::Done(u, m) => {
+                p += words_at(tree, p);
+                n = m;
+                v = u;
+                i += 1;
+            }
+        }
+    }
+    Progress::Done(v, n)
+}

@@ -1,0 +1,90 @@
+-- What holds of an expression holds of it with its fresh numbers raised: it is coded, and scoped.
+use Prim.Native.Nat.{ℕ, _+_}
+use mathlib.Core.List.{List, [], _∷_, _++_}
+use native.Mathlib.Omega.{arith}
+use Rattle.grammar.specs.Item.{raise, bound}
+use Rattle.grammar.specs.Expr.{Binder, Kind, kNum, kBool, kStr, kBitVec, kFresh, kNamed, kNeg, kBin, kIf, kAnd, kOr, kNot, kImp, kIff, kAtom, kLet, kTheory, kIsCtor, kExists, Expr, Exprs, node, app, enil, econs, exprs, kindItems}
+use Rattle.grammar.specs.Shape.{HasOperands, BindersCoded, KindCoded, Coded, CodedAll}
+use Rattle.grammar.specs.Scoped.{Scoped, ScopedAll}
+use Rattle.grammar.specs.Raise.{raiseBinders, raiseKind, raiseExpr, raiseExprs}
+use Rattle.grammar.proofs.Raise.{exprs-raise, kind-raise, raise-zero}
+
+module _ (c limit numbers : ℕ) where
+  -- Binders with numbers below a bound have them below the raised bound.
+  pub binders-coded-raise : (bs : List Binder) → BindersCoded bs limit numbers → BindersCoded (raiseBinders c bs) limit (c + numbers)
+  unfolding raiseBinders
+  binders-coded-raise [] h = tt
+  binders-coded-raise (b ∷ bs) h = (omega (arith, h .0), h .1, binders-coded-raise bs (h .2))
+
+  -- The fields of a kind.
+  kind-coded-raise : (k : Kind) → KindCoded k limit numbers → KindCoded (raiseKind c k) limit (c + numbers)
+  unfolding raiseKind
+  kind-coded-raise (kNum v) h = tt
+  kind-coded-raise (kBool b) h = tt
+  kind-coded-raise (kStr s) h = h
+  kind-coded-raise (kBitVec v width) h = tt
+  kind-coded-raise (kFresh k) h = omega (arith, h)
+  kind-coded-raise (kNamed x) h = h
+  kind-coded-raise kNeg h = tt
+  kind-coded-raise (kBin op) h = tt
+  kind-coded-raise kIf h = tt
+  kind-coded-raise kAnd h = tt
+  kind-coded-raise kOr h = tt
+  kind-coded-raise kNot h = tt
+  kind-coded-raise kImp h = tt
+  kind-coded-raise kIff h = tt
+  kind-coded-raise (kAtom r) h = tt
+  kind-coded-raise (kLet x) h = h
+  kind-coded-raise (kTheory k) h = h
+  kind-coded-raise (kIsCtor x) h = h
+  kind-coded-raise (kExists bs) h = binders-coded-raise bs h
+
+  -- Raising keeps how many operands are right.
+  operands-raise : (k : Kind) (n : ℕ) → HasOperands k n → HasOperands (raiseKind c k) n
+  unfolding raiseKind
+  operands-raise (kNum v) n h = h
+  operands-raise (kBool b) n h = h
+  operands-raise (kStr s) n h = h
+  operands-raise (kBitVec v width) n h = h
+  operands-raise (kFresh k) n h = h
+  operands-raise (kNamed x) n h = h
+  operands-raise kNeg n h = h
+  operands-raise (kBin op) n h = h
+  operands-raise kIf n h = h
+  operands-raise kAnd n h = h
+  operands-raise kOr n h = h
+  operands-raise kNot n h = h
+  operands-raise kImp n h = h
+  operands-raise kIff n h = h
+  operands-raise (kAtom r) n h = h
+  operands-raise (kLet x) n h = h
+  operands-raise (kTheory k) n h = h
+  operands-raise (kIsCtor x) n h = h
+  operands-raise (kExists bs) n h = h
+
+  mutual
+    unfolding raiseExpr
+
+    -- A coded expression is coded when it is raised.
+    pub coded-raise : (e : Expr) → Coded e limit numbers → Coded (raiseExpr c e) limit (c + numbers)
+    coded-raise (node k es) h = (rw (exprs-raise c es) (operands-raise k (exprs es) (h .0)), kind-coded-raise k (h .1), coded-all-raise es (h .2))
+    coded-raise (app o es e) h = (coded-all-raise es (h .0), h .1, coded-raise e (h .2))
+
+    -- The same for several expressions.
+    pub coded-all-raise : (es : Exprs) → CodedAll es limit numbers → CodedAll (raiseExprs c es) limit (c + numbers)
+    coded-all-raise enil h = tt
+    coded-all-raise (econs e es) h = (coded-raise e (h .0), coded-all-raise es (h .1))
+
+mutual
+  unfolding raiseExpr
+
+  -- An expression that is scoped when its numbers are raised by c is scoped once they are.
+  pub scoped-raise : (c : ℕ) (e : Expr) (around : List ℕ) → Scoped e c around → Scoped (raiseExpr c e) 0 around
+  scoped-raise c (node k es) around h =
+      rw (exprs-raise c es, kind-raise c k (exprs es), raise-zero (raise c (kindItems k (exprs es)))) (h .0, scoped-all-raise c es (bound (raise c (kindItems k (exprs es))) ++ around) (h .1))
+  scoped-raise c (app o es e) around h = (scoped-all-raise c es around (h .0), scoped-raise c e around (h .1))
+
+  -- The same for several expressions.
+  pub scoped-all-raise : (c : ℕ) (es : Exprs) (around : List ℕ) → ScopedAll es c around → ScopedAll (raiseExprs c es) 0 around
+  scoped-all-raise c enil around h = tt
+  scoped-all-raise c (econs e es) around h = (scoped-raise c e around (h .0), scoped-all-raise c es around (h .1))

@@ -1,0 +1,16 @@
+pub mod Sort
+pub mod ParseSort
+pub mod Item
+pub mod Expr
+pub mod Names
+pub mod Scope
+pub mod ParseExpr
+pub mod ParseBind
+pub mod ParseSolution
+pub mod Numbers
+pub mod Scoped
+pub mod Shape
+pub mod Raise
+pub mod Operations
+pub mod Compute
+pub mod Written

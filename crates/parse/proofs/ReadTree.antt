@@ -1,0 +1,98 @@
+-- The tree that read one leaves in a slice.
+use Prim.Native.Nat.{ℕ, _^_, _≤_, _<_}
+use mathlib.Core.Path.{_≡_, refl, sym, ap, _∙_}
+use mathlib.Core.Bool.{Bool, true, false}
+use mathlib.Core.List.{List, append-nil}
+use native.Mathlib.Omega.{arith}
+use lib.ListN.{length, take, drop}
+use lib.Seq.{take-at}
+use borrow.Author.Tests.{leb-true}
+use Rattle.text.specs.Tree.{Tree, Trees, treeWords, treesWords}
+use Rattle.text.specs.Answer.{Refusal, number, noRoom, Ans, got, bad, lifted, Final, accepts, refuses, finish, fitsIn, saidOf, over, outputOf}
+use Rattle.text.specs.Reading.{Read, readText, readWords, readReport, readFinal, readSaid, readOut}
+use Rattle.text.specs.Answers.{asAnswer}
+use Rattle.text.specs.declared.Answer.{Answer}
+use Rattle.text.specs.declared.Answer.the-variants as Answers
+use Rattle.text.proofs.Finish.{finish-short, finish-long}
+use Rattle.text.proofs.Over.{over-fits, over-length}
+use Rattle.text.proofs.Read.{read-size, read-short}
+use Rattle.text.proofs.TextTree.{TextTree, text-tree}
+use Rattle.grammar.specs.ParseSort.{treeAt}
+use Rattle.grammar.specs.Operations.{theTree}
+
+-- The first words of the slice are those of the tree.
+pub record TreeIn (text tree tree′ : List ℕ) (n : ℕ) : Type 0 where
+  pub it : Tree
+  pub is : theTree text tree ≡ got it
+  pub there : take n tree′ ≡ treeWords it
+  pub within : n ≤ length tree′
+  pub small : n < 2 ^ 32
+  pub fit : TextTree text it
+
+-- There is no tree, or no room for it.
+pub record NoTree (text tree : List ℕ) (n : ℕ) : Type 0 where
+  pub why : Refusal
+  pub is : theTree text tree ≡ bad why
+  pub tells : n ≡ number why
+
+module _ (text tree : List ℕ) where
+  final-bad : (e : Refusal) → readText false text ≡ bad e → readFinal false text tree ≡ refuses (number e)
+  unfolding readFinal finish
+  final-bad e p = rw p
+
+  final-short : (q : Read) → readText false text ≡ got q → fitsIn tree (readWords q) ≡ false → readFinal false text tree ≡ refuses (number noRoom)
+  unfolding readFinal
+  final-short q p b = ap (λ (x : Ans Read). finish (λ r. fitsIn tree (readWords r)) 0 (lifted x 0)) p ∙ finish-short (λ r. fitsIn tree (readWords r)) 0 q 0 (omega arith) b
+
+  final-long : (q : Read) → readText false text ≡ got q → fitsIn tree (readWords q) ≡ true → readFinal false text tree ≡ accepts q 0
+  unfolding readFinal
+  final-long q p b = ap (λ (x : Ans Read). finish (λ r. fitsIn tree (readWords r)) 0 (lifted x 0)) p ∙ finish-long (λ r. fitsIn tree (readWords r)) 0 q 0 (omega arith) b
+
+  said-of : {f : Final Read} → readFinal false text tree ≡ f → readSaid false text tree ≡ saidOf (readReport false) f
+  unfolding readSaid
+  said-of e = rw e
+
+  -- The tree of what was read.
+  tree-of : (q : Read) → readText false text ≡ got q → fitsIn tree (readWords q) ≡ true → {tree′ : List ℕ} {n : ℕ} → tree′ ≡ over (readWords q) tree → n ≡ length (readWords q) → TreeIn text tree tree′ n
+  unfolding theTree treeAt treeWords
+  tree-of q p b {tree′} {n} o k =
+      let t = text-tree text q p in
+      let w : readWords q ≡ treeWords (t .0) = ap treesWords (t .1) ∙ append-nil (treeWords (t .0)) in
+      let f : length (readWords q) ≤ length tree = leb-true (length (readWords q)) (length tree) b in
+      let l : length tree′ ≡ length tree = ap length o ∙ over-length (readWords q) tree in
+      record {
+        it = t .0;
+        is = rw (p, b) (ap (λ (ts : Trees). treeAt ts 0) (t .1));
+        there = ap (take n) (o ∙ over-fits (readWords q) tree f) ∙ take-at (readWords q) (drop (length (readWords q)) tree) n (sym k) ∙ w;
+        within = omega arith;
+        fit = t .2;
+        small = omega (arith, read-size false text q p, read-short false text q p);
+      }
+
+module _ {text tree tree′ : List ℕ} {r : Answer} (a : r ≡ asAnswer (readSaid false text tree)) (o : tree′ ≡ readOut false text tree) where
+  pub tree-in : {n m : ℕ} → r ≡ Answers.Accepted n m → TreeIn text tree tree′ n
+  unfolding readOut outputOf saidOf
+  tree-in {n} {m} e = go (readText false text) refl
+    where
+      room : (q : Read) → readText false text ≡ got q → (b : Bool) → fitsIn tree (readWords q) ≡ b → TreeIn text tree tree′ n
+      room q p false b = let s = said-of text tree (final-short text tree q p b) in let z : _≡_ {A = ℕ} 0 1 = cc in absurd (omega arith)
+      room q p true b =
+          let s = said-of text tree (final-long text tree q p b) in
+          let k : n ≡ length (readWords q) = cc in
+          tree-of text tree q p b (o ∙ rw (final-long text tree q p b) refl) k
+
+      go : (x : Ans Read) → readText false text ≡ x → TreeIn text tree tree′ n
+      go (bad w) p = let s = said-of text tree (final-bad text tree w p) in let z : _≡_ {A = ℕ} 0 1 = cc in absurd (omega arith)
+      go (got q) p = room q p (fitsIn tree (readWords q)) refl
+
+  pub no-tree : {n : ℕ} → r ≡ Answers.Refused n → NoTree text tree n
+  unfolding saidOf theTree
+  no-tree {n} e = go (readText false text) refl
+    where
+      room : (q : Read) → readText false text ≡ got q → (b : Bool) → fitsIn tree (readWords q) ≡ b → NoTree text tree n
+      room q p true b = let s = said-of text tree (final-long text tree q p b) in let z : _≡_ {A = ℕ} 0 1 = cc in absurd (omega arith)
+      room q p false b = let s = said-of text tree (final-short text tree q p b) in record { why = noRoom; is = rw (p, b) refl; tells = cc }
+
+      go : (x : Ans Read) → readText false text ≡ x → NoTree text tree n
+      go (bad w) p = let s = said-of text tree (final-bad text tree w p) in record { why = w; is = rw p refl; tells = cc }
+      go (got q) p = room q p (fitsIn tree (readWords q)) refl

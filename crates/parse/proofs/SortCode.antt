@@ -1,7 +1,0 @@
--- Laws for the code of sorts.
-pub mod Outcomes
-pub mod RowWords
-pub mod ListForms
-pub mod FuncShape
-pub mod RowLoop
-pub mod NamedSorts

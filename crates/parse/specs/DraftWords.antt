@@ -1,0 +1,64 @@
+-- The draft of a solution as the code makes it: parameters in the output, the body in the draft slice.
+use Prim.Native.Nat.{ℕ, _+_, _-_, _*_, _≤_}
+use mathlib.Core.Path.{_≡_}
+use mathlib.Core.List.{List, [], _∷_}
+use lib.Dec.{ltb}
+use lib.ListN.{length}
+use Rattle.text.specs.Limits.{maxBytes, maxLists, maxNumber}
+use Rattle.text.specs.Pick.{pick}
+use Rattle.text.specs.Bytes.{Span}
+use Rattle.text.specs.Tree.{Tree, treeWords, nesting}
+use Rattle.text.specs.Answer.{Refusal, number, Res, ok, no, chain, lifted, Final, zeros}
+use Rattle.grammar.specs.Expr.{Expr, Solution, exprItems}
+use Rattle.grammar.specs.Scope.{distinct}
+use Rattle.grammar.specs.ParseExpr.{child}
+use Rattle.exprs.specs.Spot.{Spot}
+use Rattle.exprs.specs.Scopes.{NameList}
+use Rattle.exprs.specs.Laid.{laid, bound}
+use Rattle.exprs.specs.Plans.{factor}
+use Rattle.parse.specs.Answers.{Laid, draftSaid, raisedWords, paramItems, bodyItems}
+use Rattle.parse.specs.declared.Drafted.{Drafted}
+use Rattle.parse.specs.declared.Drafted.the-variants as drafted
+use Rattle.parse.specs.declared.draft.Parts.{Parts}
+use Rattle.parse.specs.declared.draft.Parts.the-variants as parts
+
+-- Where the parameters and the body of a solution stand.
+pub record BodyHere (text ws : List ℕ) (params body next : ℕ) : Type 0 where
+  pub names : List Span
+  pub place : NameList ws params names
+  pub there : params ≡ 0 → ⊥
+  pub spot : Spot ws body
+  pub nests : 1 + nesting (spot .tree) ≤ maxLists
+  pub room : next + factor * length (treeWords (spot .tree)) ≤ bound
+  pub bytes : length text ≤ maxBytes
+
+-- The body under its parameters; 10 comes behind it.
+unfoldable pub bodyOf : List ℕ → Tree → List Span → ℕ → Res Expr
+bodyOf text t names next = chain (child text t .plainly (record { names = names; first = 0 } ∷ []) next) (λ e n. chain (lifted (distinct text names) n) (λ _ m. ok e m))
+
+-- What was made of the body: its words are laid in the draft slice, u words of the parameters being written before.
+pub data BodyDone (count u : ℕ) (d d′ : List ℕ) : Res Expr → Parts → Type 0 where
+  bodyWrote : {e : Expr} {n : ℕ} {r : Parts} → r ≡ parts.Done u (length (raisedWords exprItems count e)) n → d′ ≡ laid d 0 (raisedWords exprItems count e) → BodyDone count u d d′ (ok e n) r
+  bodyRefused : {x : Refusal} {r : Parts} → r ≡ parts.Refused (number x) → BodyDone count u d d′ (no x) r
+
+-- What was made of the whole.
+pub data PartsDone (count : ℕ) (d d′ o o′ : List ℕ) : Res Solution → Parts → Type 0 where
+  partsWrote : {s : Solution} {n : ℕ} {r : Parts} → r ≡ parts.Done (length (raisedWords paramItems count s)) (length (raisedWords bodyItems count s)) n → d′ ≡ laid d 0 (raisedWords bodyItems count s) → o′ ≡ laid o 0 (raisedWords paramItems count s)
+      → PartsDone count d d′ o o′ (ok s n) r
+  partsRefused : {x : Refusal} {r : Parts} → r ≡ parts.Refused (number x) → PartsDone count d d′ o o′ (no x) r
+
+-- Behind the refusals met in the tree: 13, and last 7 where the draft slice has room for fewer words.
+abbrev pub judgedBy : Parts → ℕ → ℕ → Drafted
+judgedBy (parts.Refused e) c room = drafted.Refused e
+judgedBy (parts.Done u w n) c room = pick (ltb (maxNumber - c) n) (drafted.Refused 13) (pick (ltb room w) (drafted.Refused 7) (drafted.Done u w (c + n)))
+
+-- The answer is given, and no slice is cleared yet.
+pub record AttemptedDraft (c : ℕ) (f : Final Solution) (d d′ o o′ : List ℕ) (r : Drafted) : Type 0 where
+  pub answer : r ≡ draftSaid c f
+  pub body : Laid (raisedWords bodyItems c) f d d′
+  pub params : Laid (raisedWords paramItems c) f o o′
+
+-- A slice is cleared after a refusal.
+abbrev pub clearedBy : Drafted → List ℕ → List ℕ
+clearedBy (drafted.Done u w n) l = l
+clearedBy (drafted.Refused e) l = zeros l

@@ -1,0 +1,59 @@
+// What an operation that takes fresh numbers begins with, and what it decides in the end.
+ghost use mathlib.Core.Path.{_≡_};
+ghost use lib.ListN.{length};
+ghost use Rattle.text.specs.Limits.{maxLists};
+ghost use Rattle.text.specs.Answer.{zeros};
+ghost use Rattle.parse.specs.Answers.{finishedBy, closedBy};
+use crate::Counted;
+use exprs::expr::Progress;
+use exprs::scopes::Entries;
+use exprs::scopes::Entry;
+use text::words::clear;
+
+// The largest count that a reader holds.
+pub const MAX_NUMBER: u64 = 18446744073709551615;
+
+// No scope is open.
+pub fn no_scopes() -> Entries
+    ensures { λ r. ⌜ (r .depth ≡ 0) × (length (r .entries) ≡ maxLists) ⌝ }
+{
+    let none = Entry { names: 0, first: 0 };
+    Entries {
+        entries: [none; 64],
+        depth: 0,
+    }
+}
+
+// 13 if the numbers run out, then 7 if there is room for fewer words.
+pub fn finished(p: Progress, count: u64, room: usize) -> Counted
+    ensures { λ r. ⌜ r ≡ finishedBy p count room ⌝ }
+{
+    match p {
+        Progress::Refused(e) => Counted::Refused(e),
+        Progress::Done(w, n) => {
+            if MAX_NUMBER - count < n {
+                return Counted::Refused(13);
+            }
+            if room < w {
+                return Counted::Refused(7);
+            }
+            Counted::Done(w, count + n)
+        }
+    }
+}
+
+// The tree is cleared, and the output too after a refusal.
+pub fn close(tree: &mut [u32], out: &mut [u32], answer: Counted) -> Counted
+    ensures answer { λ r. ⌜ r ≡ answer ⌝ }
+    ensures working { λ _. ⌜ now (tree .exit) ≡ zeros (now (tree .entry)) ⌝ }
+    ensures output { λ _. ⌜ now (out .exit) ≡ closedBy answer (now (out .entry)) ⌝ }
+{
+    clear(tree);
+    match answer {
+        Counted::Done(w, c) => Counted::Done(w, c),
+        Counted::Refused(n) => {
+            clear(out);
+            Counted::Refused(n)
+        }
+    }
+}

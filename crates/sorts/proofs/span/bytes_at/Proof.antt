@@ -1,0 +1,47 @@
+use Rattle.text.specs.Bytes.{bytesAt}
+use Rattle.sorts.proofs.Lend.{clipped}
+use borrow.Author.Needs.{needs}
+use Rattle.sorts.proofs.span.bytes_at.Statement.{statement}
+use Rattle.sorts.proofs.span.bytes_at.Tie as tie
+
+wide-requires : tie.Need-wide-requires
+wide-requires c κs = tt
+
+least-requires : tie.Need-least-requires
+least-requires c κs = tt
+
+wide-requires-2 : tie.Need-wide-requires-2
+wide-requires-2 c κs = tt
+
+add-least : tie.Need-add-least
+add-least c = search needs
+
+least-requires-2 : tie.Need-least-requires-2
+least-requires-2 c κs = tt
+
+sub-result : tie.Need-sub-result
+sub-result c = search needs
+
+part-result-start : tie.Need-part-result-start
+part-result-start c = search needs
+
+part-result-end : tie.Need-part-result-end
+part-result-end c = search needs
+
+returns : tie.Need-returns
+unfolding bytesAt
+returns c = rw (c .before .before .before .least .ensures, c .before .least2 .ensures, c .before .before .before .before .wide .ensures .0, c .before .before .wide2 .ensures .0) (clipped (c .before .before .before .before .before .before .args .text .now) (c .before .before .before .before .before .before .args .start) (c .before .before .before .before .before .before .args .len))
+
+pub bytes-at-spec : {M : Type 1} → statement M
+bytes-at-spec =
+    tie.close
+    (tie.spec
+    wide-requires
+    least-requires
+    wide-requires-2
+    add-least
+    least-requires-2
+    sub-result
+    part-result-start
+    part-result-end
+    returns)

@@ -1,0 +1,3 @@
+pub mod SortNames
+pub mod Rows
+pub mod Outcome
