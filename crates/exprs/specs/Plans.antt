@@ -102,6 +102,7 @@ EndsAt ws at l p noLast = l ≡ 0
 EndsAt ws at l p (seenLast t) = EndSpot ws at l t × (p ≡ false)
 EndsAt ws at l p (plainLast t) = EndSpot ws at l t × (p ≡ true)
 
+-- How deep that tree nests, and how many words it has.
 abbrev pub endNesting : Last → ℕ
 endNesting noLast = 0
 endNesting (seenLast t) = nesting t

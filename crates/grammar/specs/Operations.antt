@@ -20,6 +20,7 @@ theTree text tree =
     andThen (check (fitsIn tree (readWords r)) noRoom) λ _.
     treeAt (r .read) 0
 
+-- What is made of the tree that a text begins with: a sort, an expression, a bind, a solution before flattening.
 unfoldable pub makeSort : List ℕ → List ℕ → M Sort
 makeSort text tree = do
   t ← lifted (theTree text tree)
