@@ -78,8 +78,8 @@ pub extern "C" fn pinhkray_sort(
     ensures output { λ _. ⌜ now (out .exit) ≡ outputOf sortWords (sortFinal (now (text .entry)) (now (tree .entry)) (now (out .entry))) (now (out .entry)) ⌝ }
 {
     match parse::sort(text, tree, out) {
-        sorts::Answer::Done(n) => {
-            *words = n as u64;
+        sorts::Answer::Done(size) => {
+            *words = size as u64;
             0
         }
         sorts::Answer::Refused(r) => {
@@ -106,9 +106,9 @@ pub extern "C" fn pinhkray_expression(
     ensures output { λ _. ⌜ now (out .exit) ≡ outputOf (raisedWords exprItems count) (exprFinal (now (text .entry)) (now (tree .entry)) (now (out .entry)) count) (now (out .entry)) ⌝ }
 {
     match parse::expression(text, tree, out, count) {
-        parse::Counted::Done(n, c) => {
+        parse::Counted::Done(n, next) => {
             *words = n as u64;
-            *count_after = c;
+            *count_after = next;
             0
         }
         parse::Counted::Refused(r) => {
@@ -136,9 +136,9 @@ pub extern "C" fn pinhkray_bind(
     ensures output { λ _. ⌜ now (out .exit) ≡ outputOf (raisedWords bindItems count) (bindFinal (now (text .entry)) (now (tree .entry)) (now (out .entry)) count) (now (out .entry)) ⌝ }
 {
     match parse::bind(text, tree, out, count) {
-        parse::Counted::Done(n, c) => {
+        parse::Counted::Done(n, raised) => {
             *words = n as u64;
-            *count_after = c;
+            *count_after = raised;
             0
         }
         parse::Counted::Refused(r) => {

@@ -13,8 +13,8 @@ sort-requires : tie.Need-sort-requires
 sort-requires c κs = search needs
 
 -- src/lib.rt:79:29
-enum-known-n : tie.Need-enum-known-n
-enum-known-n c = search needs
+enum-known-size : tie.Need-enum-known-size
+enum-known-size c = search needs
 
 -- src/lib.rt:83:32
 enum-known-r : tie.Need-enum-known-r
@@ -31,7 +31,7 @@ same-length-2 c = search needs
 -- src/lib.rt:66:1
 returns : tie.Need-returns
 returns c =
-    let q = sort-done (sortFinal (c .before .before .before .before .before .before .before .before .before .before .before .before .before .args .text .now) (c .before .before .before .before .before .before .before .before .before .before .before .before .before .args .tree .now) (c .before .before .before .before .before .before .before .before .before .before .before .before .before .args .out .now)) _ (sym (c .before .before .before .before .before .before .before .sort .ensures .0) ∙ c .before .n .given .1) in
+    let q = sort-done (sortFinal (c .before .before .before .before .before .before .before .before .before .before .before .before .before .args .text .now) (c .before .before .before .before .before .before .before .before .before .before .before .before .before .args .tree .now) (c .before .before .before .before .before .before .before .before .before .before .before .before .before .args .out .now)) _ (sym (c .before .before .before .before .before .before .before .sort .ensures .0) ∙ c .before .size .given .1) in
     (q .0, (q .1, (c .before .before .before .before .before .before .before .sort .ensures .1 .0, c .before .before .before .before .before .before .before .sort .ensures .1 .1)))
 
 -- src/lib.rt:66:1
@@ -53,7 +53,7 @@ pinhkray-sort-spec =
     tie.close
     (tie.spec
     sort-requires
-    enum-known-n
+    enum-known-size
     enum-known-r
     same-length
     same-length-2
