@@ -8,3 +8,8 @@ pub mod KindBack
 pub mod Back
 pub mod Cases
 pub mod Parsed
+pub mod ReadFields
+pub mod SortWalk
+pub mod SortRead
+pub mod ReadHead
+pub mod ReadExpr

@@ -3,3 +3,5 @@ pub mod Flat
 pub mod Judge
 pub mod Operations
 pub mod Compute
+pub mod Ends
+pub mod SortFields
