@@ -13,3 +13,12 @@ pub mod SortWalk
 pub mod SortRead
 pub mod ReadHead
 pub mod ReadExpr
+pub mod Spell
+pub mod SpellSort
+pub mod SpellKind
+pub mod SpellExpr
+pub mod Wrote
+pub mod Taken
+pub mod WriteSteps
+pub mod FewOperands
+pub mod Decided

@@ -4,7 +4,7 @@ use mathlib.Core.Path.{_≡_, ap, subst}
 use mathlib.Core.List.{List, []}
 use native.Mathlib.Omega.{arith}
 use lib.ListN.{length}
-use Rattle.text.specs.Limits.{maxNumber}
+use Rattle.text.specs.Limits.{maxBytes, maxNumber}
 use Rattle.text.specs.Tree.{Tree, Within}
 use Rattle.text.proofs.Wider.{tree-wider}
 use Rattle.text.proofs.TextTree.{TextTree}
@@ -40,8 +40,9 @@ pub record ParsedExpr (text : List ℕ) (e : Expr) (n : ℕ) : Type 0 where
   pub back : JudgedBack e n
   pub size : length (wordsOf (exprItems e)) ≤ 15 * length text
 
--- The same of a solution before flattening; its parameters are a scope, too.
+-- The same of a solution before flattening; its parameters are a scope, too. The text is no longer than a text may be.
 pub record ParsedSolution (text : List ℕ) (s : Solution) (n : ℕ) : Type 0 where
+  pub short : length text ≤ maxBytes
   pub deep : depth (s .body) ≤ 65
   pub opens : suc (scopes (s .body)) ≤ 63
   pub back : JudgedBack (s .body) n
@@ -76,6 +77,7 @@ module _ (text : List ℕ) where
       let b = h .1 in
       let w : Within (a .bodyTree) noText = a .within noText (tree-wider t (length text) noText (omega (arith, i .short)) (i .within)) .1 in
       record {
+        short = i .short;
         deep = omega (arith, a .body .deep, a .nests, i .nests);
         opens = omega (arith, a .body .opens, a .nests, i .nests);
         back = coded-back (s .body) m (omega (arith, a .body .deep, a .nests, i .nests)) (a .body .coded noText w (omega (arith, a .binders .even), tt));

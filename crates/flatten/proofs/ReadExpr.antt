@@ -17,26 +17,26 @@ use Rattle.flatten.specs.Ends.{endOf, headOf}
 use Rattle.flatten.proofs.ReadFields.{ends-ret, word-in, word-out}
 
 -- A reading whose end or refusal is known.
-ends-at : {A : Type 0} (x : Judged A) {n : ℕ} → At n ≡ endOf x → (a : A) × (x ≡ reads a n)
+pub ends-at : {A : Type 0} (x : Judged A) {n : ℕ} → At n ≡ endOf x → (a : A) × (x ≡ reads a n)
 ends-at (reads a m) e = (a, cc)
 ends-at (fails r) e = let z : _≡_ {A = ℕ} 0 1 = cc in absurd (omega arith)
 
-ends-no : {A : Type 0} (x : Judged A) {r : ℕ} → No r ≡ endOf x → x ≡ fails r
+pub ends-no : {A : Type 0} (x : Judged A) {r : ℕ} → No r ≡ endOf x → x ≡ fails r
 ends-no (reads a m) e = let z : _≡_ {A = ℕ} 0 1 = cc in absurd (omega arith)
 ends-no (fails r) e = cc
 
 -- A header whose answer is known.
-head-operands : (x : Judged Plan) {a n : ℕ} → head.Operands a n ≡ headOf x → (k : Kind) × (x ≡ reads (operandsOf k n) a)
+pub head-operands : (x : Judged Plan) {a n : ℕ} → head.Operands a n ≡ headOf x → (k : Kind) × (x ≡ reads (operandsOf k n) a)
 head-operands (reads (operandsOf k m) b) e = (k, cc)
 head-operands (reads (argumentsOf f m) b) e = let z : _≡_ {A = ℕ} 0 1 = cc in absurd (omega arith)
 head-operands (fails r) e = let z : _≡_ {A = ℕ} 0 1 = cc in absurd (omega arith)
 
-head-arguments : (x : Judged Plan) {a n : ℕ} {f : Bool} → head.Arguments a f n ≡ headOf x → x ≡ reads (argumentsOf f n) a
+pub head-arguments : (x : Judged Plan) {a n : ℕ} {f : Bool} → head.Arguments a f n ≡ headOf x → x ≡ reads (argumentsOf f n) a
 head-arguments (reads (operandsOf k m) b) e = let z : _≡_ {A = ℕ} 0 1 = cc in absurd (omega arith)
 head-arguments (reads (argumentsOf f m) b) e = cc
 head-arguments (fails r) e = let z : _≡_ {A = ℕ} 0 1 = cc in absurd (omega arith)
 
-head-no : (x : Judged Plan) {r : ℕ} → head.No r ≡ headOf x → x ≡ fails r
+pub head-no : (x : Judged Plan) {r : ℕ} → head.No r ≡ headOf x → x ≡ fails r
 head-no (reads (operandsOf k m) b) e = let z : _≡_ {A = ℕ} 0 1 = cc in absurd (omega arith)
 head-no (reads (argumentsOf f m) b) e = let z : _≡_ {A = ℕ} 0 1 = cc in absurd (omega arith)
 head-no (fails r) e = cc

@@ -6,7 +6,7 @@ use lib.Dec.{ltb}
 use lib.ListN.{length}
 use Rattle.text.specs.Pick.{pick}
 use Rattle.text.specs.Answer.{number, noRoom, Final, accepts, refuses, finish, fitsIn, Said, accepted, saidOf, outputOf}
-use Rattle.grammar.specs.Item.{wordsOf}
+use Rattle.grammar.specs.Item.{Item, wordsOf}
 use Rattle.grammar.specs.Expr.{Expr, exprItems, Solution, solutionItems}
 use Rattle.grammar.specs.Operations.{makeSolution}
 use Rattle.flatten.specs.Uncurry.{uncurry, flattened, mostOperands}
@@ -39,9 +39,13 @@ flattenSaid words out = saidOf (λ e. accepted (length (exprWords e)) 0) (flatte
 unfoldable pub flattenOut : List ℕ → List ℕ → List ℕ
 flattenOut words out = outputOf exprWords (flattenFinal words out) out
 
+-- What the output of a solution is written from.
+abbrev pub flatItems : Solution → List Item
+flatItems s = solutionItems (flattened s)
+
 -- The draft takes the body before flattening, the output the flattened solution.
 unfoldable pub solutionFits : List ℕ → List ℕ → Solution → Bool
-solutionFits draft out s = pick (fitsIn draft (exprWords (s .body))) (fitsIn out (wordsOf (solutionItems (flattened s)))) false
+solutionFits draft out s = pick (fitsIn draft (exprWords (s .body))) (fitsIn out (wordsOf (flatItems s))) false
 
 -- The operation solution at the reader's count c, with a draft and an output of these words.
 unfoldable pub solutionFinal : List ℕ → List ℕ → List ℕ → List ℕ → ℕ → Final Solution

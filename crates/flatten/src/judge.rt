@@ -10,6 +10,9 @@ use crate::sort_words::binders_end;
 use crate::sort_words::sort_end;
 use crate::sort_words::span_end;
 
+// So many expressions may stand inside one another.
+pub const MAX_NODES: u32 = 128;
+
 // The place behind what was read, or the number of a refusal.
 pub enum End {
     At(usize),
@@ -146,7 +149,7 @@ fn no_room(words: &[u32], at: usize) -> End
 }
 
 // An output sort where the flag says that there is one.
-fn out_sort(words: &[u32], at: usize, limit: u64, flag: bool) -> End
+pub fn out_sort(words: &[u32], at: usize, limit: u64, flag: bool) -> End
     ensures { λ r. ⌜ r ≡ endOf (sortIf limit flag (now (words .entry)) at) ⌝ }
 {
     if flag {
@@ -176,7 +179,7 @@ pub fn expr_end(words: &[u32], at: usize, limit: u64, room: u32) -> End
 }
 
 // So many expressions, one after the other.
-fn exprs_end(words: &[u32], at: usize, n: u32, limit: u64, room: u32) -> End
+pub fn exprs_end(words: &[u32], at: usize, n: u32, limit: u64, room: u32) -> End
     ensures { λ r. ⌜ r ≡ endOf (several (exprDeep limit room) enil econs n (now (words .entry)) at) ⌝ }
 {
     let mut a = at;
@@ -199,7 +202,7 @@ fn exprs_end(words: &[u32], at: usize, n: u32, limit: u64, room: u32) -> End
 pub fn judge(words: &[u32], limit: u64) -> End
     ensures { λ r. ⌜ r ≡ endOf (judgeExpr limit (now (words .entry))) ⌝ }
 {
-    match expr_end(words, 0, limit, 128) {
+    match expr_end(words, 0, limit, MAX_NODES) {
         End::At(n) => {
             if n == words.len() {
                 End::At(n)

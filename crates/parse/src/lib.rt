@@ -10,7 +10,7 @@ ghost use Rattle.parse.specs.Answers.{sortSaid, exprSaid, bindSaid, draf
 use sorts::Answer;
 
 mod draft;
-mod ending;
+pub mod ending;
 mod operation;
 mod preds;
 

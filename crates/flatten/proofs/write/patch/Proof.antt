@@ -1,0 +1,50 @@
+use native.Mathlib.Omega.{arith}
+use mathlib.Core.Path.{_≡_, refl}
+use borrow.Author.Needs.{needs}
+use Rattle.flatten.proofs.write.patch.Statement.{statement}
+use Rattle.flatten.proofs.write.patch.Tie as tie
+use Rattle.flatten.proofs.write.patch.Reads as reads
+use Rattle.flatten.proofs.write.patch.Lts as lts
+use Rattle.text.proofs.words.put.Reads as put-reads
+
+-- src/write.rt:91:16
+add-result : tie.Need-add-result
+add-result c = search needs
+
+-- src/write.rt:91:9
+returns : tie.Need-returns
+returns c = record { kept = refl; stored = λ h _. absurd (omega (arith, h, c .if1 .taken)); over = λ _. refl }
+
+-- src/write.rt:94:18
+sub-put : tie.Need-sub-put
+sub-put c = search needs
+
+-- src/write.rt:94:29
+cast-put : tie.Need-cast-put
+cast-put c = search needs
+
+-- src/write.rt:94:9
+put-requires : tie.Need-put-requires
+put-requires c κs = search needs
+
+-- src/write.rt:87:1
+same-length : tie.Need-same-length
+same-length c = search needs
+
+-- src/write.rt:87:1
+returns-2 : tie.Need-returns-2
+returns-2 c =
+    record {
+      kept = c .before .before .put .kept .0;
+      stored = λ h _. (refl, c .before .before .put .ensures);
+      over = λ h. absurd (omega (arith, h, c .before .before .before .before .before .if1 .left));
+    }
+
+-- src/write.rt:87:1
+returns-3 : tie.Need-returns-3
+returns-3 c = record { kept = refl; stored = λ _ h. absurd (omega (arith, h, c .if2 .left)); over = λ h. absurd (omega (arith, h, c .before .if1 .left)) }
+
+pub patch-spec : {M : Type 1} → statement M
+patch-spec =
+    tie.close
+    (tie.spec add-result returns sub-put cast-put put-requires same-length returns-2 returns-3)

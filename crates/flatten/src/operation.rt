@@ -1,0 +1,88 @@
+// The operations: words judged and flattened; a text parsed into a draft, which is flattened into the output.
+ghost use mathlib.Core.Path.{_≡_};
+ghost use Rattle.text.specs.Answer.{zeros, outputOf};
+ghost use Rattle.parse.specs.Answers.{Attempted, AttemptedAt, raisedWords};
+ghost use Rattle.flatten.specs.Operations.{exprWords, flattenFinal, flattenOut, flatItems, solutionFinal};
+ghost use Rattle.flatten.specs.Answers.{flattenAnswer, solutionAnswer};
+use crate::judge::End;
+use crate::judge::MAX_NODES;
+use crate::judge::judge;
+use crate::write::NO_TEXT;
+use crate::write::flat;
+use parse::Counted;
+use parse::Drafted;
+use parse::ending::close;
+use parse::solution_draft;
+use sorts::Answer;
+use text::words::clear;
+
+// The flattened words; the output is not cleared yet.
+fn attempt(words: &[u32], out: &mut [u32]) -> Answer
+    ensures { λ r. ⌜ Attempted exprWords (flattenFinal (now (words .entry)) (now (out .entry))) (now (out .entry)) (now (out .exit)) r ⌝ }
+{
+    match judge(words, NO_TEXT) {
+        End::No(r) => Answer::Refused(r),
+        End::At(_) => {
+            let p = flat(words, 0, MAX_NODES, out, 0);
+            if out.len() < p.place {
+                return Answer::Refused(7);
+            }
+            Answer::Done(p.place)
+        }
+    }
+}
+
+// Words flattened. The output is cleared if they are refused.
+pub fn flatten(words: &[u32], out: &mut [u32]) -> Answer
+    ensures answer { λ r. ⌜ r ≡ flattenAnswer (flattenFinal (now (words .entry)) (now (out .entry))) ⌝ }
+    ensures output { λ _. ⌜ now (out .exit) ≡ flattenOut (now (words .entry)) (now (out .entry)) ⌝ }
+{
+    match attempt(words, out) {
+        Answer::Done(n) => Answer::Done(n),
+        Answer::Refused(r) => {
+            clear(out);
+            Answer::Refused(r)
+        }
+    }
+}
+
+// The solution and its words; draft and output are not cleared yet.
+fn attempt_solution(
+    text: &[u8],
+    tree: &mut [u32],
+    draft: &mut [u32],
+    out: &mut [u32],
+    count: u64,
+) -> Counted
+    ensures answer { λ r. ⌜ AttemptedAt flatItems count (solutionFinal (now (text .entry)) (now (tree .entry)) (now (draft .entry)) (now (out .entry)) count) (now (out .entry)) (now (out .exit)) r ⌝ }
+    ensures working { λ _. ⌜ now (tree .exit) ≡ zeros (now (tree .entry)) ⌝ }
+    ensures body { λ _. ⌜ zeros (now (draft .exit)) ≡ zeros (now (draft .entry)) ⌝ }
+{
+    match solution_draft(text, tree, draft, out, count) {
+        Drafted::Refused(r) => Counted::Refused(r),
+        Drafted::Done(p, w, next) => {
+            let q = flat(&draft[..w], 0, MAX_NODES, out, p);
+            if out.len() < q.place {
+                return Counted::Refused(7);
+            }
+            Counted::Done(q.place, next)
+        }
+    }
+}
+
+// The solution that a text is, flattened. The draft is cleared afterwards, and the output too if the text is refused.
+pub fn solution(
+    text: &[u8],
+    tree: &mut [u32],
+    draft: &mut [u32],
+    out: &mut [u32],
+    count: u64,
+) -> Counted
+    ensures answer { λ r. ⌜ r ≡ solutionAnswer count (solutionFinal (now (text .entry)) (now (tree .entry)) (now (draft .entry)) (now (out .entry)) count) ⌝ }
+    ensures working { λ _. ⌜ now (tree .exit) ≡ zeros (now (tree .entry)) ⌝ }
+    ensures body { λ _. ⌜ now (draft .exit) ≡ zeros (now (draft .entry)) ⌝ }
+    ensures output { λ _. ⌜ now (out .exit) ≡ outputOf (raisedWords flatItems count) (solutionFinal (now (text .entry)) (now (tree .entry)) (now (draft .entry)) (now (out .entry)) count) (now (out .entry)) ⌝ }
+{
+    let answer = attempt_solution(text, tree, draft, out, count);
+    close(draft, out, answer)
+}
