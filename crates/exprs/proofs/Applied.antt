@@ -7,11 +7,11 @@ use native.Mathlib.Omega.{arith}
 use native.Mathlib.Nat.{add-zero, le-max-left, le-max-right}
 use lib.ListN.{length, getD, drop}
 use lib.Seq.{getD-drop}
-use Rattle.text.specs.Limits.{maxLists}
-use Rattle.text.specs.Pick.{pick}
-use Rattle.text.specs.Bytes.{ascii, sameBytes, bytesAt}
-use Rattle.text.specs.Tree.{symbol, quoted, integer, decimal, boolean, Tree, Trees, atom, list, tnil, tcons, trees, atomWords, treeWords, treesWords, nesting, nestings}
-use Rattle.text.specs.Answer.{Refusal, malformed, got, bad, no}
+use Rattle.reading.specs.Limits.{maxLists}
+use Rattle.reading.specs.Pick.{pick}
+use Rattle.reading.specs.Bytes.{ascii, sameBytes, bytesAt}
+use Rattle.reading.specs.Tree.{symbol, quoted, integer, decimal, boolean, Tree, Trees, atom, list, tnil, tcons, trees, atomWords, treeWords, treesWords, nesting, nestings}
+use Rattle.reading.specs.Answer.{Refusal, malformed, got, bad, no}
 use Rattle.grammar.specs.Sort.{Sort, sortWords}
 use Rattle.grammar.specs.ParseSort.{inList, treeAt, parseSort}
 use Rattle.grammar.specs.Scope.{Scope, repeated}

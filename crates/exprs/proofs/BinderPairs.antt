@@ -8,9 +8,9 @@ use native.Mathlib.Nat.{add-zero}
 use lib.Dec.{eqb}
 use lib.ListN.{length, getD, drop, length-append}
 use borrow.Author.Tests.{ne-eqb}
-use Rattle.text.specs.Bytes.{Span}
-use Rattle.text.specs.Tree.{symbol, quoted, integer, decimal, boolean, Tree, Trees, atom, list, tnil, tcons, trees, atomWords, treeWords, treesWords}
-use Rattle.text.specs.Answer.{malformed, Ans, got, bad, andThen}
+use Rattle.reading.specs.Bytes.{Span}
+use Rattle.reading.specs.Tree.{symbol, quoted, integer, decimal, boolean, Tree, Trees, atom, list, tnil, tcons, trees, atomWords, treeWords, treesWords}
+use Rattle.reading.specs.Answer.{malformed, Ans, got, bad, andThen}
 use Rattle.grammar.specs.Sort.{Sort, sortWords, two}
 use Rattle.grammar.specs.ParseSort.{inList, inAtom, inSymbol, symbolIn, treeAt, parseSort}
 use Rattle.grammar.specs.Item.{raise, wordsOf}

@@ -8,10 +8,10 @@ use native.Mathlib.Nat.{le-max-left, le-max-right}
 use lib.Dec.{eqb}
 use lib.ListN.{length, getD, drop}
 use borrow.Author.Tests.{ne-eqb}
-use Rattle.text.specs.Pick.{pick}
-use Rattle.text.specs.Bytes.{Span}
-use Rattle.text.specs.Tree.{symbol, Tree, Trees, atom, list, tnil, tcons, trees, atomWords, treeWords, treesWords, nesting, nestings}
-use Rattle.text.specs.Answer.{Refusal, malformed, got, bad, no}
+use Rattle.reading.specs.Pick.{pick}
+use Rattle.reading.specs.Bytes.{Span}
+use Rattle.reading.specs.Tree.{symbol, Tree, Trees, atom, list, tnil, tcons, trees, atomWords, treeWords, treesWords, nesting, nestings}
+use Rattle.reading.specs.Answer.{Refusal, malformed, got, bad, no}
 use Rattle.grammar.specs.Sort.{Sort}
 use Rattle.grammar.specs.ParseSort.{inList}
 use Rattle.grammar.specs.Item.{raise, wordsOf}

@@ -1,7 +1,7 @@
 -- The form of a list, as the code finds it in the table of keywords.
 use mathlib.Core.Bool.{Bool}
 use mathlib.Core.Path.{_≡_, refl, sym, ap, subst}
-use Rattle.text.specs.Bytes.{Maybe, nothing, just}
+use Rattle.reading.specs.Bytes.{Maybe, nothing, just}
 use Rattle.grammar.specs.Names.{Form}
 use Rattle.grammar.specs.ParseExpr.{orElseForm}
 use Rattle.exprs.specs.FormNames.{FormIs}

@@ -5,7 +5,7 @@ use mathlib.Core.List.{List, [], _∷_, _++_}
 use native.Mathlib.Omega.{arith}
 use native.Mathlib.Nat.{add-zero}
 use lib.ListN.{length, set, length-set, length-append}
-use Rattle.text.specs.Answer.{ok}
+use Rattle.reading.specs.Answer.{ok}
 use Rattle.grammar.specs.Written.{W, ahead, after}
 use Rattle.exprs.specs.Laid.{laid, Put}
 use Rattle.exprs.specs.Plans.{Wrote, Parsed, wrote, refused}

@@ -6,16 +6,16 @@ use mathlib.Core.List.{List, [], _∷_}
 use native.Mathlib.Omega.{arith}
 use lib.ListN.{length, take, drop}
 use borrow.Author.Tests.{lt-ltb, le-ltb}
-use Rattle.text.specs.Pick.{pick}
-use Rattle.text.specs.Bytes.{ascii, beginsWith, Span, bytesAt, Maybe, nothing, just, lookup}
-use Rattle.text.specs.Number.{Wide, wideOf, minusOf, valueOf, unsigned}
-use Rattle.text.specs.Quads.{asQuad, asWide, asMag}
-use Rattle.text.specs.declared.quad.Quad.{Quad}
-use Rattle.text.specs.declared.number.Mag.{Mag}
-use Rattle.text.specs.declared.number.Mag.the-variants as mag
-use Rattle.text.specs.Tree.{wideWords}
-use Rattle.text.specs.Answer.{Ans, got, bad, andThen, orBad, malformed, badLiteral}
-use Rattle.text.proofs.Lexing.Parts.{tail}
+use Rattle.reading.specs.Pick.{pick}
+use Rattle.reading.specs.Bytes.{ascii, beginsWith, Span, bytesAt, Maybe, nothing, just, lookup}
+use Rattle.reading.specs.Number.{Wide, wideOf, minusOf, valueOf, unsigned}
+use Rattle.lexing.specs.Quads.{asQuad, asWide, asMag}
+use Rattle.lexing.specs.declared.quad.Quad.{Quad}
+use Rattle.lexing.specs.declared.number.Mag.{Mag}
+use Rattle.lexing.specs.declared.number.Mag.the-variants as mag
+use Rattle.reading.specs.Tree.{wideWords}
+use Rattle.reading.specs.Answer.{Ans, got, bad, andThen, orBad, malformed, badLiteral}
+use Rattle.lexing.proofs.Lexing.Parts.{tail}
 use Rattle.grammar.specs.Item.{raise, wordsOf}
 use Rattle.grammar.specs.Expr.{exprs, exprItems, exprsItems, kindItems}
 use Rattle.grammar.specs.Names.{theory}

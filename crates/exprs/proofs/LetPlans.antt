@@ -6,10 +6,10 @@ use mathlib.Core.List.{List, [], _∷_, _++_, append-nil}
 use native.Mathlib.Omega.{arith}
 use native.Mathlib.Nat.{add-zero, le-max-left, le-max-right}
 use lib.ListN.{length, getD, drop, length-append}
-use Rattle.text.specs.Pick.{pick}
-use Rattle.text.specs.Bytes.{Span}
-use Rattle.text.specs.Tree.{symbol, Tree, Trees, atom, list, tnil, tcons, trees, atomWords, treeWords, treesWords, nesting, nestings}
-use Rattle.text.specs.Answer.{got, bad, malformed, Res, ok, no}
+use Rattle.reading.specs.Pick.{pick}
+use Rattle.reading.specs.Bytes.{Span}
+use Rattle.reading.specs.Tree.{symbol, Tree, Trees, atom, list, tnil, tcons, trees, atomWords, treeWords, treesWords, nesting, nestings}
+use Rattle.reading.specs.Answer.{got, bad, malformed, Res, ok, no}
 use Rattle.grammar.specs.Scope.{Scope, repeated}
 use Rattle.grammar.specs.Item.{raise, wordsOf}
 use Rattle.grammar.specs.Expr.{Expr, kindItems}

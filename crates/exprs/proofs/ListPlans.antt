@@ -9,11 +9,11 @@ use lib.Dec.{ltb}
 use lib.ListN.{length, getD, drop, length-append}
 use lib.Seq.{drop-drop}
 use borrow.Author.Tests.{lt-ltb, le-ltb}
-use Rattle.text.specs.Limits.{maxLists}
-use Rattle.text.specs.Pick.{pick}
-use Rattle.text.specs.Bytes.{Span}
-use Rattle.text.specs.Tree.{symbol, quoted, integer, decimal, boolean, Tree, Trees, atom, list, tnil, tcons, trees, atomWords, treeWords, treesWords, nesting, nestings}
-use Rattle.text.specs.Answer.{no, malformed}
+use Rattle.reading.specs.Limits.{maxLists}
+use Rattle.reading.specs.Pick.{pick}
+use Rattle.reading.specs.Bytes.{Span}
+use Rattle.reading.specs.Tree.{symbol, quoted, integer, decimal, boolean, Tree, Trees, atom, list, tnil, tcons, trees, atomWords, treeWords, treesWords, nesting, nestings}
+use Rattle.reading.specs.Answer.{no, malformed}
 use Rattle.grammar.specs.Scope.{Scope, repeated}
 use Rattle.grammar.specs.Item.{plain}
 use Rattle.grammar.specs.Expr.{Kind}

@@ -5,13 +5,13 @@ use mathlib.Core.List.{List, [], _∷_, _++_}
 use native.Mathlib.Omega.{arith}
 use lib.ListN.{length, getD}
 use borrow.Author.Tests.{ne-eqb}
-use Rattle.text.specs.Bytes.{Span, bytesAt}
-use Rattle.text.specs.Number.{Wide, wideOf}
-use Rattle.text.specs.Quads.{asWide}
-use Rattle.text.specs.Tree.{symbol, quoted, integer, decimal, boolean, Tree, Trees, atom, list, tnil, tcons, trees, atomWords, treeWords}
-use Rattle.text.specs.Answer.{Refusal, Ans, got, bad, andThen, orBad, malformed, Res, ok, no}
-use Rattle.text.specs.declared.quad.Quad.{Quad}
-use Rattle.text.specs.declared.number.Word32.{Word32}
+use Rattle.reading.specs.Bytes.{Span, bytesAt}
+use Rattle.reading.specs.Number.{Wide, wideOf}
+use Rattle.lexing.specs.Quads.{asWide}
+use Rattle.reading.specs.Tree.{symbol, quoted, integer, decimal, boolean, Tree, Trees, atom, list, tnil, tcons, trees, atomWords, treeWords}
+use Rattle.reading.specs.Answer.{Refusal, Ans, got, bad, andThen, orBad, malformed, Res, ok, no}
+use Rattle.lexing.specs.declared.quad.Quad.{Quad}
+use Rattle.lexing.specs.declared.number.Word32.{Word32}
 use Rattle.grammar.specs.Scope.{Scope}
 use Rattle.grammar.specs.Item.{raise, wordsOf}
 use Rattle.grammar.specs.Expr.{kBitVec, Expr, leaf, exprs, exprItems, exprsItems, kindItems}

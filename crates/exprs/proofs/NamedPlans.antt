@@ -7,11 +7,11 @@ use native.Mathlib.Omega.{arith}
 use lib.Dec.{ltb}
 use lib.ListN.{length, getD, take, drop, length-take, length-drop}
 use borrow.Author.Tests.{eq-eqb, ne-eqb}
-use Rattle.text.specs.Limits.{maxBytes}
-use Rattle.text.specs.Pick.{pick}
-use Rattle.text.specs.Bytes.{ascii, beginsWith, Span, bytesAt, Maybe, nothing, just, lookup}
-use Rattle.text.specs.Tree.{symbol, Trees, atom, tnil, tcons, trees}
-use Rattle.text.proofs.Bytes.{begins-length}
+use Rattle.reading.specs.Limits.{maxBytes}
+use Rattle.reading.specs.Pick.{pick}
+use Rattle.reading.specs.Bytes.{ascii, beginsWith, Span, bytesAt, Maybe, nothing, just, lookup}
+use Rattle.reading.specs.Tree.{symbol, Trees, atom, tnil, tcons, trees}
+use Rattle.reading.proofs.Bytes.{begins-length}
 use Rattle.grammar.specs.Scope.{Scope, varOf}
 use Rattle.grammar.specs.Item.{raise, wordsOf}
 use Rattle.grammar.specs.Expr.{Kind, kBin, opSub, kNeg, kIsCtor, kindItems}

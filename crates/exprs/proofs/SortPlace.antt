@@ -6,8 +6,8 @@ use native.Mathlib.Omega.{arith}
 use native.Mathlib.Nat.{zero-add}
 use lib.ListN.{length, take, drop, set}
 use lib.Seq.{take-at}
-use Rattle.text.specs.Tree.{Tree, treeWords}
-use Rattle.text.specs.Answer.{Refusal, number, Ans, got, bad, over}
+use Rattle.reading.specs.Tree.{Tree, treeWords}
+use Rattle.reading.specs.Answer.{Refusal, number, Ans, got, bad, over}
 use Rattle.grammar.specs.Sort.{Sort, sortWords}
 use Rattle.grammar.specs.ParseSort.{parseSort}
 use Rattle.sorts.specs.Outcome.{Outcome, wrote, refused}

@@ -10,10 +10,10 @@ use lib.Dec.{eqb}
 use lib.ListN.{length, set, drop, length-set, length-append}
 use lib.Seq.{getD-set-same, getD-set-other, drop-drop, drop-at}
 use borrow.Author.Tests.{eqb-false}
-use Rattle.text.specs.Limits.{maxLists}
-use Rattle.text.specs.Pick.{pick}
-use Rattle.text.specs.Bytes.{Span}
-use Rattle.text.specs.Tree.{Tree, Trees, tnil, tcons, trees, treeWords, treesWords, nesting, nestings}
+use Rattle.reading.specs.Limits.{maxLists}
+use Rattle.reading.specs.Pick.{pick}
+use Rattle.reading.specs.Bytes.{Span}
+use Rattle.reading.specs.Tree.{Tree, Trees, tnil, tcons, trees, treeWords, treesWords, nesting, nestings}
 use Rattle.grammar.specs.Scope.{Scope, repeated}
 use Rattle.grammar.specs.ParseExpr.{child}
 use Rattle.grammar.specs.Written.{W, told, operandsW, endW, Last, noLast, seenLast, plainLast}

@@ -4,9 +4,9 @@ use mathlib.Core.Path.{_≡_, refl, sym, ap, _∙_}
 use mathlib.Core.List.{List, [], _∷_, _++_}
 use native.Mathlib.Omega.{arith}
 use lib.ListN.{length, getD, drop}
-use Rattle.text.specs.Limits.{maxLists}
-use Rattle.text.specs.Tree.{symbol, quoted, integer, decimal, boolean, Tree, Trees, atom, list, atomWords, treeWords, nesting}
-use Rattle.text.specs.Answer.{ok}
+use Rattle.reading.specs.Limits.{maxLists}
+use Rattle.reading.specs.Tree.{symbol, quoted, integer, decimal, boolean, Tree, Trees, atom, list, atomWords, treeWords, nesting}
+use Rattle.reading.specs.Answer.{ok}
 use Rattle.grammar.specs.Scope
 use Rattle.grammar.specs.Scope.{Scope}
 use Rattle.grammar.specs.Item.{raise, wordsOf}

@@ -3,7 +3,7 @@ use Prim.Native.Nat.{ℕ, _+_, _*_, _^_, _≤_, _<_}
 use mathlib.Core.Path.{_≡_}
 use mathlib.Core.List.{List, _++_}
 use lib.ListN.{length, drop}
-use Rattle.text.specs.Tree.{Trees, trees, treesWords}
+use Rattle.reading.specs.Tree.{Trees, trees, treesWords}
 use Rattle.grammar.specs.Item.{raise, wordsOf}
 use Rattle.grammar.specs.Expr.{binderItems}
 use Rattle.grammar.specs.Scope.{numbered}

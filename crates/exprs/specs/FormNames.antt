@@ -2,10 +2,10 @@
 use Prim.Native.Nat.{ℕ}
 use mathlib.Core.Path.{_≡_}
 use mathlib.Core.List.{[], _∷_}
-use Rattle.text.specs.Bytes.{Maybe, nothing, just}
-use Rattle.text.specs.Number.{Wide}
-use Rattle.text.specs.Quads.{asWide}
-use Rattle.text.specs.Answer.{Ans, got, bad, malformed, badLiteral}
+use Rattle.reading.specs.Bytes.{Maybe, nothing, just}
+use Rattle.reading.specs.Number.{Wide}
+use Rattle.lexing.specs.Quads.{asWide}
+use Rattle.reading.specs.Answer.{Ans, got, bad, malformed, badLiteral}
 use Rattle.grammar.specs.Item.{plain}
 use Rattle.grammar.specs.Expr.{Kind, kindItems}
 use Rattle.grammar.specs.Names.{Form, fixed, many, cast, exists, letIn, lit, minus, isCtor, apply}

@@ -3,7 +3,7 @@ use Prim.Native.Nat.{ℕ, _+_, _^_}
 use mathlib.Core.Path.{_≡_}
 use mathlib.Core.List.{List, [], _∷_}
 use lib.ListN.{length, set}
-use Rattle.text.specs.Answer.{Refusal, number, Ans, got, bad}
+use Rattle.reading.specs.Answer.{Refusal, number, Ans, got, bad}
 use Rattle.sorts.specs.declared.Answer.{Answer}
 use Rattle.sorts.specs.declared.Answer.the-variants.{Done, Refused}
 

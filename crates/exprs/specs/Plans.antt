@@ -4,10 +4,10 @@ use mathlib.Core.Path.{_≡_}
 use mathlib.Core.Bool.{Bool, true, false}
 use mathlib.Core.List.{List, _++_}
 use lib.ListN.{length, drop}
-use Rattle.text.specs.Limits.{maxBytes, maxLists}
-use Rattle.text.specs.Bytes.{Span}
-use Rattle.text.specs.Tree.{symbol, Tree, Trees, atom, list, tcons, trees, treeWords, treesWords, nesting, nestings}
-use Rattle.text.specs.Answer.{Refusal, number, ok, no}
+use Rattle.reading.specs.Limits.{maxBytes, maxLists}
+use Rattle.reading.specs.Bytes.{Span}
+use Rattle.reading.specs.Tree.{symbol, Tree, Trees, atom, list, tcons, trees, treeWords, treesWords, nesting, nestings}
+use Rattle.reading.specs.Answer.{Refusal, number, ok, no}
 use Rattle.grammar.specs.Scope.{Scope}
 use Rattle.grammar.specs.ParseExpr.{child}
 use Rattle.grammar.specs.Written.{W, told, after, operandsW, endW, Last, noLast, seenLast, plainLast}

@@ -4,10 +4,10 @@ use mathlib.Core.Path.{_≡_}
 use mathlib.Core.List.{List, [], _∷_, _++_}
 use lib.Dec.{eqb}
 use lib.ListN.{length, drop, set, getD}
-use Rattle.text.specs.Limits.{maxLists}
-use Rattle.text.specs.Pick.{pick}
-use Rattle.text.specs.Bytes.{Span, Maybe, nothing, just}
-use Rattle.text.specs.Tree.{Tree, Trees, symbol, atom, list, tnil, tcons, treeWords, treesWords}
+use Rattle.reading.specs.Limits.{maxLists}
+use Rattle.reading.specs.Pick.{pick}
+use Rattle.reading.specs.Bytes.{Span, Maybe, nothing, just}
+use Rattle.reading.specs.Tree.{Tree, Trees, symbol, atom, list, tnil, tcons, treeWords, treesWords}
 use Rattle.grammar.specs.Scope.{Scope, sameName}
 use Rattle.exprs.specs.declared.scopes.Entry.{Entry}
 use Rattle.exprs.specs.declared.scopes.Entries.{Entries}

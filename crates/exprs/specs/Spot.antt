@@ -4,8 +4,8 @@ use mathlib.Core.Path.{_≡_}
 use mathlib.Core.Bool.{Bool, false}
 use mathlib.Core.List.{List, _++_}
 use lib.ListN.{length, getD, drop}
-use Rattle.text.specs.Pick.{pick}
-use Rattle.text.specs.Tree.{Tree, treeWords, nesting}
+use Rattle.reading.specs.Pick.{pick}
+use Rattle.reading.specs.Tree.{Tree, treeWords, nesting}
 use Rattle.grammar.specs.ParseExpr.{child}
 
 -- The words from a place on begin with those of a tree.

@@ -1,6 +1,6 @@
 // The plan of an application.
 ghost use mathlib.Core.Path.{_≡_};
-ghost use Rattle.text.specs.Tree.{Tree, Trees, tcons};
+ghost use Rattle.reading.specs.Tree.{Tree, Trees, tcons};
 ghost use Rattle.grammar.specs.ParseExpr.{children, isApply, applyForm};
 ghost use Rattle.grammar.specs.Written.{told};
 ghost use Rattle.exprs.specs.Spot.{Spot};
@@ -13,11 +13,11 @@ use crate::place::words_at;
 use crate::plan::Plan;
 use crate::plan::Run;
 use crate::sort_at::sort_at;
+use lexing::byte::same;
 use sorts::Answer;
 use sorts::number::wide;
 use sorts::span::bytes_at;
 use sorts::tree::SYMBOL;
-use text::byte::same;
 
 // Whether a tree is the symbol `apply`.
 fn is_apply(text: &[u8], tree: &[u32], at: usize) -> bool

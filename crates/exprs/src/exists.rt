@@ -1,6 +1,6 @@
 // The plan of an exists.
-ghost use Rattle.text.specs.Bytes.{Span};
-ghost use Rattle.text.specs.Tree.{Trees, symbol, atom, tcons};
+ghost use Rattle.reading.specs.Bytes.{Span};
+ghost use Rattle.reading.specs.Tree.{Trees, symbol, atom, tcons};
 ghost use Rattle.grammar.specs.ParseExpr.{children, existsForm};
 ghost use Rattle.grammar.specs.Written.{told};
 ghost use Rattle.exprs.specs.Plans.{Listed, Headed, PlannedList};

@@ -1,7 +1,7 @@
 // The expression that a tree is read as: a plan, its operands, and what comes behind them. These two functions are the whole cycle.
 ghost use Prim.Native.Nat.{_+_, _*_};
 ghost use lib.ListN.{length};
-ghost use Rattle.text.specs.Tree.{treesWords};
+ghost use Rattle.reading.specs.Tree.{treesWords};
 ghost use Rattle.grammar.specs.ParseExpr.{child};
 ghost use Rattle.grammar.specs.Written.{told, operandsW};
 ghost use Rattle.exprs.specs.Plans.{Parsed, Here, Row, factor, most};

@@ -1,13 +1,13 @@
 // The words of expressions, laid from a place on. What does not fit is dropped; the answer is the place behind the words.
 ghost use mathlib.Core.List.{[], _∷_};
 ghost use Prim.Native.Nat.{ℕ, _+_, _≤_};
-ghost use Rattle.text.specs.Quads.{asWide};
+ghost use Rattle.lexing.specs.Quads.{asWide};
 ghost use Rattle.grammar.specs.ParseExpr.{numeral as numeralOf};
 ghost use Rattle.grammar.specs.Written.{exprWords};
 ghost use Rattle.exprs.specs.Laid.{bound, Put};
-use text::quad::Quad;
-use text::quad::negate;
-use text::words::put;
+use lexing::quad::Quad;
+use lexing::quad::negate;
+use lexing::words::put;
 
 // The kinds of expressions.
 pub const NUMERAL: u32 = 32;

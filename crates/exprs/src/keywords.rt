@@ -1,6 +1,6 @@
 // How a list is read as an expression, by the name that it begins with.
 ghost use lib.ListN.{drop};
-ghost use Rattle.text.specs.Bytes.{ascii, beginsWith, lookup};
+ghost use Rattle.reading.specs.Bytes.{ascii, beginsWith, lookup};
 ghost use Rattle.grammar.specs.Names.{keywords};
 ghost use Rattle.grammar.specs.ParseExpr.{orElseForm};
 ghost use Rattle.exprs.specs.FormNames.{FormIs};
@@ -12,8 +12,8 @@ use crate::expr_words::IFF;
 use crate::expr_words::IMP;
 use crate::expr_words::NOT;
 use crate::expr_words::OR;
-use text::byte::begins_with;
-use text::byte::same;
+use lexing::byte::begins_with;
+use lexing::byte::same;
 
 // A kind, or a kind and its code, with so many operands; a kind with any number of them; or a form of its own.
 pub enum Form {

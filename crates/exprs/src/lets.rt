@@ -1,7 +1,7 @@
 // The plan of a let.
 ghost use Prim.Native.Nat.{ℕ};
-ghost use Rattle.text.specs.Bytes.{Span};
-ghost use Rattle.text.specs.Tree.{Trees, symbol, atom, tcons};
+ghost use Rattle.reading.specs.Bytes.{Span};
+ghost use Rattle.reading.specs.Tree.{Trees, symbol, atom, tcons};
 ghost use Rattle.grammar.specs.ParseExpr.{children, letForm};
 ghost use Rattle.grammar.specs.Written.{told};
 ghost use Rattle.exprs.specs.Plans.{Listed, Headed, PlannedList};

@@ -1,14 +1,14 @@
 // The bits of a literal.
 ghost use mathlib.Core.Path.{_≡_};
-ghost use Rattle.text.specs.Number.{wideOf};
-ghost use Rattle.text.specs.Answer.{got, andThen};
+ghost use Rattle.reading.specs.Number.{wideOf};
+ghost use Rattle.reading.specs.Answer.{got, andThen};
 ghost use Rattle.grammar.specs.ParseExpr.{bitsOf};
 ghost use Rattle.exprs.specs.FormNames.{bitsIn};
+use lexing::byte::begins_with;
+use lexing::number::Mag;
+use lexing::number::unsigned;
+use lexing::quad::Quad;
 use sorts::number::least;
-use text::byte::begins_with;
-use text::number::Mag;
-use text::number::unsigned;
-use text::quad::Quad;
 
 // The value of `#b..`; bits that are none, or too many; or a string that does not begin so.
 pub enum Bits {

@@ -1,9 +1,9 @@
 // The plan of a literal of bits.
 ghost use mathlib.Core.Path.{_≡_};
 ghost use Prim.Native.Nat.{ℕ};
-ghost use Rattle.text.specs.Bytes.{Span};
-ghost use Rattle.text.specs.Tree.{Trees, symbol, atom, tcons};
-ghost use Rattle.text.specs.Answer.{orBad, malformed};
+ghost use Rattle.reading.specs.Bytes.{Span};
+ghost use Rattle.reading.specs.Tree.{Trees, symbol, atom, tcons};
+ghost use Rattle.reading.specs.Answer.{orBad, malformed};
 ghost use Rattle.grammar.specs.ParseExpr.{children, widthOf, litForm};
 ghost use Rattle.sorts.specs.SortNames.{widthIn};
 ghost use Rattle.grammar.specs.Written.{told};
@@ -16,12 +16,12 @@ use crate::literal::Bits;
 use crate::literal::bits_of;
 use crate::place::words_at;
 use crate::plan::Plan;
+use lexing::number::Word32;
 use sorts::names::size_named;
 use sorts::span::bytes_at;
 use sorts::tree::LIST;
 use sorts::tree::QUOTED;
 use sorts::tree::SYMBOL;
-use text::number::Word32;
 
 // The width that the second of two items is, whatever the first is.
 fn width_at(text: &[u8], tree: &[u32], at: usize) -> Word32

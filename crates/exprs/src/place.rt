@@ -2,10 +2,10 @@
 ghost use mathlib.Core.Path.{_≡_};
 ghost use mathlib.Core.Bool.{false};
 ghost use lib.ListN.{length, getD};
-ghost use Rattle.text.specs.Tree.{treeWords};
+ghost use Rattle.reading.specs.Tree.{treeWords};
 ghost use Prim.Native.Nat.{_+_};
 ghost use lib.Dec.{eqb};
-ghost use Rattle.text.specs.Pick.{pick};
+ghost use Rattle.reading.specs.Pick.{pick};
 ghost use Rattle.exprs.specs.Spot.{Spot, Seen};
 ghost use Rattle.exprs.specs.declared.place.Node.the-variants.{List, Other};
 use sorts::tree::LIST;

@@ -9,8 +9,8 @@ use crate::expr_words::put2;
 use crate::lists::list_plan;
 use crate::scopes::Entries;
 use crate::variable::variable;
+use lexing::quad::Quad;
 use sorts::tree;
-use text::quad::Quad;
 
 // Operands that are left to read: where the first is, how many there are, how many are wanted; where one more stands behind them and
 // whether it is not seen through; the place of the names of a new scope, and how many numbers it takes; the place behind the words that

@@ -1,13 +1,13 @@
 // Open scopes: an array of entries by value, one for each scope.
 ghost use mathlib.Core.Path.{_≡_};
 ghost use Prim.Native.Nat.{_<_};
-ghost use Rattle.text.specs.Bytes.{Span};
+ghost use Rattle.reading.specs.Bytes.{Span};
 ghost use Rattle.grammar.specs.Scope.{sameName, numberIn, repeated};
 ghost use Rattle.exprs.specs.Scopes.{Bound, pushed, Pairs, placeAmong, OpenScopes, Meant};
+use lexing::byte::same;
 use sorts::number::long;
 use sorts::number::wide;
 use sorts::span::bytes_at;
-use text::byte::same;
 
 // An open scope: the place of its list of names in the tree, and its first fresh number.
 pub struct Entry {

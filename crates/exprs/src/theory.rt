@@ -1,10 +1,10 @@
 // The names of theory functions.
 ghost use mathlib.Core.Path.{_≡_};
 ghost use lib.ListN.{drop};
-ghost use Rattle.text.specs.Bytes.{lookup};
+ghost use Rattle.reading.specs.Bytes.{lookup};
 ghost use Rattle.grammar.specs.Names.{theory};
 ghost use Rattle.exprs.specs.FormNames.{theoryIn};
-use text::byte::same;
+use lexing::byte::same;
 
 // The number of a theory function, or another name.
 pub enum Theory {

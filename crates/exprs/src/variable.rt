@@ -1,6 +1,6 @@
 // A symbol as an expression.
 ghost use Prim.Native.Nat.{_+_, _≤_};
-ghost use Rattle.text.specs.Bytes.{Span};
+ghost use Rattle.reading.specs.Bytes.{Span};
 ghost use Rattle.grammar.specs.Scope.{symbolExpr};
 ghost use Rattle.grammar.specs.Written.{exprWords};
 ghost use Rattle.exprs.specs.Scopes.{OpenScopes};

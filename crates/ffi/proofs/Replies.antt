@@ -3,7 +3,7 @@ use Prim.Native.Nat.{ℕ}
 use mathlib.Core.Path.{_≡_, refl}
 use mathlib.Core.List.{List}
 use native.Mathlib.Omega.{arith}
-use Rattle.text.specs.Answer.{Final, accepts, refuses, Said, accepted, refused, saidOf, countOf}
+use Rattle.reading.specs.Answer.{Final, accepts, refuses, Said, accepted, refused, saidOf, countOf}
 use Rattle.text.specs.Answers.{asAnswer}
 use Rattle.text.specs.declared.Answer.the-variants.{Accepted, Refused}
 use Rattle.grammar.specs.Sort.{Sort}

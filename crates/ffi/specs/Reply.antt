@@ -2,7 +2,7 @@
 use Prim.Native.Nat.{ℕ}
 use mathlib.Core.List.{List}
 use lib.ListN.{length}
-use Rattle.text.specs.Answer.{Final, Said, accepted, refused, saidOf}
+use Rattle.reading.specs.Answer.{Final, Said, accepted, refused, saidOf}
 use Rattle.grammar.specs.Sort.{Sort, sortWords}
 use Rattle.grammar.specs.Item.{Item, wordsOf}
 use Rattle.grammar.specs.Expr.{Expr, exprItems, Bind, bindItems}

@@ -2,8 +2,8 @@
 // elements. After a refusal the reported numbers are 0, and the count is as it was.
 ghost use mathlib.Core.Path.{_≡_};
 ghost use mathlib.Core.Bool.{true, false};
-ghost use Rattle.text.specs.Answer.{zeros, outputOf, countOf};
-ghost use Rattle.text.specs.Reading.{readSaid, readOut};
+ghost use Rattle.reading.specs.Answer.{zeros, outputOf, countOf};
+ghost use Rattle.reading.specs.Reading.{readSaid, readOut};
 ghost use Rattle.grammar.specs.Sort.{sortWords};
 ghost use Rattle.grammar.specs.Expr.{exprItems, bindItems};
 ghost use Rattle.grammar.specs.Operations.{sortFinal, exprFinal, bindFinal};

@@ -3,7 +3,7 @@ use Prim.Native.Nat.{ℕ}
 use mathlib.Core.Path.{_≡_, ap, _∙_}
 use mathlib.Core.List.{List, _++_}
 use lib.ListN.{length}
-use Rattle.text.specs.Bytes.{Maybe, nothing, just}
+use Rattle.reading.specs.Bytes.{Maybe, nothing, just}
 use Rattle.grammar.specs.Sort.{Sort, sortWords}
 use Rattle.grammar.specs.Item.{Item, bound, raise}
 use Rattle.grammar.specs.Expr.{Expr, Exprs, node, app, enil, econs, exprs, kindItems, outSort, exprItems, exprsItems, Solution, binderItems, solutionItems}

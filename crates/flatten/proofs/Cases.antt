@@ -3,7 +3,7 @@ use Prim.Native.Nat.{ℕ}
 use mathlib.Core.Path.{_≡_, refl}
 use mathlib.Core.List.{List, [], _∷_, _++_}
 use lib.ListN.{replicate}
-use Rattle.text.specs.Answer.{Final, accepts, refuses}
+use Rattle.reading.specs.Answer.{Final, accepts, refuses}
 use Rattle.grammar.specs.Expr.{Expr}
 use Rattle.flatten.specs.Operations.{exprWords, flattenFinal}
 use Rattle.flatten.specs.Compute.{flattenComputes}

@@ -9,11 +9,11 @@ use lib.Dec.{eqb, ltb, leb}
 use lib.ListN.{length, take, drop}
 use lib.Seq.{take-append-seam}
 use borrow.Author.Tests.{lt-ltb, le-ltb, le-leb, lt-leb, ltb-true, ltb-false, leb-true, leb-false}
-use Rattle.text.specs.Limits.{maxNumber, maxNodes}
-use Rattle.text.specs.Pick.{pick}
-use Rattle.text.specs.Answer.{number, Res, ok, no, Final, accepts, refuses, finish, fitsIn, over, outputOf}
-use Rattle.text.proofs.Finish.{finish-spent, finish-short, finish-long}
-use Rattle.text.proofs.Over.{over-fits, over-length}
+use Rattle.reading.specs.Limits.{maxNumber, maxNodes}
+use Rattle.reading.specs.Pick.{pick}
+use Rattle.reading.specs.Answer.{number, Res, ok, no, Final, accepts, refuses, finish, fitsIn, over, outputOf}
+use Rattle.reading.proofs.Finish.{finish-spent, finish-short, finish-long}
+use Rattle.reading.proofs.Over.{over-fits, over-length}
 use Rattle.grammar.specs.Item.{raise, wordsOf}
 use Rattle.grammar.specs.Expr.{Expr, exprItems, Solution, solutionItems}
 use Rattle.grammar.specs.Raise.{raiseExpr}
@@ -29,18 +29,18 @@ use Rattle.parse.specs.declared.Counted.the-variants as counted
 use Rattle.parse.specs.declared.Drafted.the-variants as drafted
 use Rattle.sorts.specs.declared.Answer.the-variants as answer
 use Rattle.flatten.specs.Uncurry.{uncurry, mostOperands}
-use Rattle.flatten.specs.Judge.{Judged, reads, fails, exprDeep, exprAt, atEnd, judgeExpr}
-use Rattle.flatten.specs.Ends.{endOf}
+use Rattle.judge.specs.Judge.{Judged, reads, fails, exprDeep, exprAt, atEnd, judgeExpr}
+use Rattle.judge.specs.Ends.{endOf}
 use Rattle.flatten.specs.Operations.{exprWords, noText, flatFits, flattenBy, flattenFinal, flatItems, solutionFits, solutionFinal}
 use Rattle.flatten.specs.Writing.{mostCount, Wrote, WroteExpr}
-use Rattle.flatten.specs.declared.judge.End.the-variants as end
+use Rattle.judge.specs.declared.expr_words.End.the-variants as end
 use Rattle.flatten.specs.declared.write.Places.{Places}
-use Rattle.flatten.proofs.ReadExpr.{ends-at, ends-no}
+use Rattle.judge.proofs.ReadExpr.{ends-at, ends-no}
 use Rattle.flatten.proofs.Raise.{uncurry-raise}
 use Rattle.flatten.proofs.Uncurry.{shorter}
 use Rattle.flatten.proofs.FewOperands.{most-size}
 use Rattle.flatten.proofs.Parsed.{ParsedSolution, parsed-solution}
-use Rattle.flatten.proofs.Taken.{first-read, never-reads}
+use Rattle.judge.proofs.Taken.{first-read, never-reads}
 use Rattle.flatten.proofs.Wrote.{either, wrote-laid, wrote-seq, wrote-as}
 
 -- Words that are judged as an expression are read as it.

@@ -3,15 +3,15 @@ use Prim.Native.Nat.{ℕ, suc, _^_, _≤_, max}
 use mathlib.Core.Path.{_≡_}
 use native.Mathlib.Omega.{arith}
 use lib.ListN.{length}
-use Rattle.text.specs.Limits.{maxNodes}
-use Rattle.text.specs.Bytes.{Maybe}
+use Rattle.reading.specs.Limits.{maxNodes}
+use Rattle.reading.specs.Bytes.{Maybe}
 use Rattle.grammar.specs.Sort.{Sort}
 use Rattle.grammar.specs.Item.{wordsOf}
 use Rattle.grammar.specs.Expr.{Expr, Exprs, node, app, enil, econs, exprItems}
 use Rattle.grammar.specs.Shape.{MaybeSortCoded, Coded, CodedAll, depth, depths}
 use Rattle.flatten.specs.Uncurry.{join, applied, uncurry, uncurryAll}
-use Rattle.flatten.specs.Judge.{reads, judgeExpr}
-use Rattle.flatten.proofs.Back.{judged-back}
+use Rattle.judge.specs.Judge.{reads, judgeExpr}
+use Rattle.judge.proofs.Back.{judged-back}
 use Rattle.flatten.proofs.Uncurry.{exprs-uncurry}
 
 module _ (limit numbers : ℕ) where

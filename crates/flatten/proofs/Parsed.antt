@@ -4,10 +4,10 @@ use mathlib.Core.Path.{_≡_, ap, subst}
 use mathlib.Core.List.{List, []}
 use native.Mathlib.Omega.{arith}
 use lib.ListN.{length}
-use Rattle.text.specs.Limits.{maxBytes, maxNumber}
-use Rattle.text.specs.Tree.{Tree, Within}
-use Rattle.text.proofs.Wider.{tree-wider}
-use Rattle.text.proofs.TextTree.{TextTree}
+use Rattle.reading.specs.Limits.{maxBytes, maxNumber}
+use Rattle.reading.specs.Tree.{Tree, Within}
+use Rattle.reading.proofs.Wider.{tree-wider}
+use Rattle.reading.proofs.TextTree.{TextTree}
 use Rattle.grammar.specs.Item.{raise, wordsOf}
 use Rattle.grammar.specs.Expr.{Expr, exprItems, Solution, binderItems, solutionItems}
 use Rattle.grammar.specs.ParseExpr.{parseExpr}
@@ -24,9 +24,9 @@ use Rattle.grammar.proofs.SolutionOf.{SolutionOf, solution-of}
 use Rattle.grammar.proofs.Small.{Small, SmallAll, small}
 use Rattle.grammar.proofs.Size.{Sized, SizedAll, sized}
 use Rattle.grammar.proofs.TheTree.{the-tree}
-use Rattle.flatten.specs.Judge.{reads, judgeExpr}
+use Rattle.judge.specs.Judge.{reads, judgeExpr}
 use Rattle.flatten.specs.Operations.{noText}
-use Rattle.flatten.proofs.Back.{judged-back}
+use Rattle.judge.proofs.Back.{judged-back}
 
 -- The words of an expression, with its numbers raised by any count that has room for them, are judged as that expression.
 abbrev pub JudgedBack : Expr → ℕ → Type 0

@@ -1,7 +1,7 @@
 -- Flattening a raised expression raises the flattened one.
 use Prim.Native.Nat.{ℕ}
 use mathlib.Core.Path.{_≡_, refl, ap, ap₂, _∙_}
-use Rattle.text.specs.Bytes.{Maybe}
+use Rattle.reading.specs.Bytes.{Maybe}
 use Rattle.grammar.specs.Sort.{Sort}
 use Rattle.grammar.specs.Expr.{Expr, Exprs, node, app, enil, econs, Solution}
 use Rattle.grammar.specs.Raise.{raiseBinders, raiseKind, raiseExpr, raiseExprs, raiseSolution}

@@ -4,7 +4,7 @@ use mathlib.Core.Path.{_≡_, refl, sym, ap, ap₂, _∙_}
 use mathlib.Core.List.{_++_, append-assoc}
 use native.Mathlib.Omega.{arith}
 use lib.ListN.{length}
-use Rattle.text.specs.Bytes.{Maybe}
+use Rattle.reading.specs.Bytes.{Maybe}
 use Rattle.grammar.specs.Sort.{Sort}
 use Rattle.grammar.specs.Item.{wordsOf}
 use Rattle.grammar.specs.Expr.{Expr, Exprs, node, app, enil, econs, exprs, kindItems, outSort, exprItems, exprsItems, Solution, solutionItems}

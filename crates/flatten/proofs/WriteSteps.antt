@@ -5,30 +5,31 @@ use mathlib.Core.Path.{_≡_, refl, sym, ap, ap₂, _∙_}
 use mathlib.Core.List.{List, [], _∷_, _++_}
 use native.Mathlib.Omega.{arith}
 use lib.ListN.{length, getD, set}
-use Rattle.text.specs.Bytes.{Maybe}
-use Rattle.text.specs.Tree.{bit}
-use Rattle.text.proofs.Placed.{at-below, at-word, at-tail}
+use Rattle.reading.specs.Bytes.{Maybe}
+use Rattle.reading.specs.Tree.{bit}
+use Rattle.reading.proofs.Placed.{at-below, at-word, at-tail}
 use Rattle.grammar.specs.Sort.{Sort}
 use Rattle.grammar.specs.Item.{wordsOf}
 use Rattle.grammar.specs.Expr.{Kind, Expr, Exprs, node, app, enil, econs, exprs, flag, kindItems, outSort, exprItems, exprsItems}
 use Rattle.grammar.proofs.Items.{words-append}
 use Rattle.flatten.specs.Uncurry.{join, uncurry, uncurryAll, mostOperands, mostOperandsAll}
 use Rattle.flatten.specs.Flat.{gathered, spine}
-use Rattle.flatten.specs.Judge.{Judged, reads, fails, Reader, operandsOf, argumentsOf, several, sortIf, header, exprDeep}
-use Rattle.flatten.specs.Ends.{endOf, headOf}
+use Rattle.judge.specs.Judge.{Judged, reads, fails, Reader, operandsOf, argumentsOf, several, sortIf, header, exprDeep}
+use Rattle.judge.specs.Ends.{endOf, headOf}
 use Rattle.flatten.specs.Operations.{noText}
-use Rattle.flatten.specs.Writing.{Spelled, mostCount, Wrote, WroteExpr, WroteExprs, Patched, Chained, behindOf}
-use Rattle.flatten.specs.declared.judge.End.{End}
-use Rattle.flatten.specs.declared.judge.End.the-variants as end
-use Rattle.flatten.specs.declared.judge.Header.the-variants as head
+use Rattle.judge.specs.Spelled.{Spelled}
+use Rattle.flatten.specs.Writing.{mostCount, Wrote, WroteExpr, WroteExprs, Patched, Chained, behindOf}
+use Rattle.judge.specs.declared.expr_words.End.{End}
+use Rattle.judge.specs.declared.expr_words.End.the-variants as end
+use Rattle.judge.specs.declared.expr_words.Header.the-variants as head
 use Rattle.flatten.specs.declared.write.Places.{Places}
 use Rattle.flatten.specs.declared.write.Joined.{Joined}
-use Rattle.flatten.proofs.ReadExpr.{siblings, head-operands, head-arguments, head-no}
+use Rattle.judge.proofs.ReadExpr.{siblings, head-operands, head-arguments, head-no}
 use Rattle.flatten.proofs.Uncurry.{exprs-uncurry, exprs-join, items-join, uncurry-join, uncurry-chain, most-join}
-use Rattle.flatten.proofs.Spell.{Low, spelled-inside}
-use Rattle.flatten.proofs.SpellKind.{operands-spelled, arguments-spelled}
-use Rattle.flatten.proofs.SpellExpr.{out-spelled, several-count, exprs-spelled}
-use Rattle.flatten.proofs.Taken.{read-no-room, read-no-header, read-operands, read-arguments, read-none, read-more}
+use Rattle.judge.proofs.Spell.{Low, spelled-inside}
+use Rattle.judge.proofs.SpellKind.{operands-spelled, arguments-spelled}
+use Rattle.judge.proofs.SpellExpr.{out-spelled, several-count, exprs-spelled}
+use Rattle.judge.proofs.Taken.{read-no-room, read-no-header, read-operands, read-arguments, read-none, read-more}
 use Rattle.flatten.proofs.Wrote.{wrote-none, wrote-seq, wrote-more, wrote-as, wrote-first, wrote-full, wrote-patched}
 
 -- The words of flattened expressions, and their largest count.

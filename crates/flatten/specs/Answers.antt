@@ -1,6 +1,6 @@
 -- What flatten and solution decide, as the code answers it.
 use Prim.Native.Nat.{ℕ}
-use Rattle.text.specs.Answer.{Final}
+use Rattle.reading.specs.Answer.{Final}
 use Rattle.grammar.specs.Expr.{Expr, Solution}
 use Rattle.sorts.specs.declared.Answer.{Answer}
 use Rattle.parse.specs.Answers.{saidBy, countedBy}

@@ -1,9 +1,6 @@
 pub mod Uncurry
 pub mod Flat
-pub mod Judge
 pub mod Operations
 pub mod Answers
-pub mod Compute
-pub mod Ends
-pub mod SortFields
 pub mod Writing
+pub mod Compute

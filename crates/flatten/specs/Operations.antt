@@ -4,13 +4,13 @@ use mathlib.Core.Bool.{Bool, false}
 use mathlib.Core.List.{List}
 use lib.Dec.{ltb}
 use lib.ListN.{length}
-use Rattle.text.specs.Pick.{pick}
-use Rattle.text.specs.Answer.{number, noRoom, Final, accepts, refuses, finish, fitsIn, Said, accepted, saidOf, outputOf}
+use Rattle.reading.specs.Pick.{pick}
+use Rattle.reading.specs.Answer.{number, noRoom, Final, accepts, refuses, finish, fitsIn, Said, accepted, saidOf, outputOf}
 use Rattle.grammar.specs.Item.{Item, wordsOf}
 use Rattle.grammar.specs.Expr.{Expr, exprItems, Solution, solutionItems}
 use Rattle.grammar.specs.Operations.{makeSolution}
 use Rattle.flatten.specs.Uncurry.{uncurry, flattened, mostOperands}
-use Rattle.flatten.specs.Judge.{Judged, reads, fails, judgeExpr}
+use Rattle.judge.specs.Judge.{Judged, reads, fails, judgeExpr}
 
 abbrev pub exprWords : Expr → List ℕ
 exprWords e = wordsOf (exprItems e)

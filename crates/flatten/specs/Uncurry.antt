@@ -1,6 +1,6 @@
 -- `uncurry`: applications of applications joined into one.
 use Prim.Native.Nat.{ℕ, max}
-use Rattle.text.specs.Bytes.{Maybe}
+use Rattle.reading.specs.Bytes.{Maybe}
 use Rattle.grammar.specs.Sort.{Sort}
 use Rattle.grammar.specs.Expr.{Expr, Exprs, node, app, enil, econs, exprs, Solution}
 

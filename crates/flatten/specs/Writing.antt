@@ -3,22 +3,16 @@ use Prim.Native.Nat.{ℕ, _+_, _-_, _^_, _≤_, _<_, min}
 use mathlib.Core.Path.{_≡_}
 use mathlib.Core.List.{List}
 use lib.ListN.{length, set}
-use Rattle.text.specs.At.{At}
 use Rattle.grammar.specs.Item.{wordsOf}
 use Rattle.grammar.specs.Expr.{Expr, Exprs, exprItems, exprsItems, exprs}
 use Rattle.exprs.specs.Laid.{laid}
 use Rattle.flatten.specs.Uncurry.{uncurry, uncurryAll, mostOperands, mostOperandsAll}
-use Rattle.flatten.specs.Judge.{reads, exprDeep}
+use Rattle.judge.specs.Judge.{reads, exprDeep}
 use Rattle.flatten.specs.Operations.{noText}
-use Rattle.flatten.specs.declared.judge.End.{End}
-use Rattle.flatten.specs.declared.judge.End.the-variants as end
+use Rattle.judge.specs.declared.expr_words.End.{End}
+use Rattle.judge.specs.declared.expr_words.End.the-variants as end
 use Rattle.flatten.specs.declared.write.Places.{Places}
 use Rattle.flatten.specs.declared.write.Joined.{Joined}
-
--- The words xs stand from one place to another.
-pub record Spelled (ws : List ℕ) (from to : ℕ) (xs : List ℕ) : Type 0 where
-  pub stands : At ws from xs
-  pub ends : to ≡ from + length xs
 
 -- One more than the largest count that a word holds.
 abbrev pub mostCount : ℕ

@@ -1,17 +1,15 @@
 // Flattening: words that may come from anywhere are judged, and applications of applications are joined into one, as `uncurry` does. The
-// operation solution flattens what the parser makes of a text. What is answered stands in specs/Operations.antt; specs/Judge.antt says
-// which words are an expression, specs/Uncurry.antt what flattening makes of it.
+// operation solution flattens what the parser makes of a text. What is answered stands in specs/Operations.antt; crates/judge/specs/Judge.antt
+// says which words are an expression, specs/Uncurry.antt what flattening makes of it.
 ghost use mathlib.Core.Path.{_≡_};
-ghost use Rattle.text.specs.Answer.{zeros, outputOf};
+ghost use Rattle.reading.specs.Answer.{zeros, outputOf};
 ghost use Rattle.parse.specs.Answers.{raisedWords};
 ghost use Rattle.flatten.specs.Operations.{exprWords, flattenFinal, flattenOut, flatItems, solutionFinal};
 ghost use Rattle.flatten.specs.Answers.{flattenAnswer, solutionAnswer};
 use parse::Counted;
 use sorts::Answer;
 
-pub mod judge;
 mod operation;
-pub mod sort_words;
 mod write;
 
 // Flattens words: how many there are afterwards, written from the start of the output and nothing behind them. The refusals are 14 for

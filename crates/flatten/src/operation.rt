@@ -1,20 +1,20 @@
 // The operations: words judged and flattened; a text parsed into a draft, which is flattened into the output.
 ghost use mathlib.Core.Path.{_≡_};
-ghost use Rattle.text.specs.Answer.{zeros, outputOf};
+ghost use Rattle.reading.specs.Answer.{zeros, outputOf};
 ghost use Rattle.parse.specs.Answers.{Attempted, AttemptedAt, raisedWords};
 ghost use Rattle.flatten.specs.Operations.{exprWords, flattenFinal, flattenOut, flatItems, solutionFinal};
 ghost use Rattle.flatten.specs.Answers.{flattenAnswer, solutionAnswer};
-use crate::judge::End;
-use crate::judge::MAX_NODES;
-use crate::judge::judge;
 use crate::write::NO_TEXT;
 use crate::write::flat;
+use judge::expr_words::End;
+use judge::expr_words::MAX_NODES;
+use judge::expr_words::judge;
+use lexing::words::clear;
 use parse::Counted;
 use parse::Drafted;
 use parse::ending::close;
 use parse::solution_draft;
 use sorts::Answer;
-use text::words::clear;
 
 // The flattened words; the output is not cleared yet.
 fn attempt(words: &[u32], out: &mut [u32]) -> Answer

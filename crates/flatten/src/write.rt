@@ -3,20 +3,21 @@
 ghost use mathlib.Core.Path.{_≡_};
 ghost use mathlib.Core.List.{List};
 ghost use Prim.Native.Nat.{ℕ, _^_, _≤_, min, _+_};
-ghost use Rattle.text.specs.Bytes.{Maybe};
+ghost use Rattle.reading.specs.Bytes.{Maybe};
 ghost use Rattle.grammar.specs.Sort.{Sort};
 ghost use Rattle.grammar.specs.Expr.{Expr, Exprs, enil, econs};
 ghost use Rattle.flatten.specs.Uncurry.{join};
 ghost use Rattle.flatten.specs.Flat.{gathered, spine};
-ghost use Rattle.flatten.specs.Judge.{reads, several, sortIf, exprDeep};
+ghost use Rattle.judge.specs.Judge.{reads, several, sortIf, exprDeep};
 ghost use Rattle.flatten.specs.Operations.{noText};
-ghost use Rattle.flatten.specs.Writing.{Spelled, Wrote, WroteExpr, WroteExprs, Patched, Chained, behindOf, mostCount};
-use crate::judge::End;
-use crate::judge::Header;
-use crate::judge::exprs_end;
-use crate::judge::head;
-use crate::judge::out_sort;
-use text::words::put;
+ghost use Rattle.judge.specs.Spelled.{Spelled};
+ghost use Rattle.flatten.specs.Writing.{Wrote, WroteExpr, WroteExprs, Patched, Chained, behindOf, mostCount};
+use judge::expr_words::End;
+use judge::expr_words::Header;
+use judge::expr_words::exprs_end;
+use judge::expr_words::head;
+use judge::expr_words::out_sort;
+use lexing::words::put;
 
 // No text is lent with the words: no span ends behind this.
 pub const NO_TEXT: u64 = 8589934592;

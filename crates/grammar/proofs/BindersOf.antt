@@ -4,8 +4,8 @@ use mathlib.Core.Path.{_≡_, refl, ap}
 use mathlib.Core.List.{List, [], _∷_}
 use native.Mathlib.Omega.{arith}
 use lib.ListN.{length, length-append}
-use Rattle.text.specs.Bytes.{Span}
-use Rattle.text.specs.Tree.{Tree, Trees, list, tnil, tcons, treeWords, treesWords, nesting, Within, AllWithin, weight, weights}
+use Rattle.reading.specs.Bytes.{Span}
+use Rattle.reading.specs.Tree.{Tree, Trees, list, tnil, tcons, treeWords, treesWords, nesting, Within, AllWithin, weight, weights}
 use Rattle.grammar.specs.Sort.{Sort, sortWords}
 use Rattle.grammar.specs.ParseSort.{inList, treeAt, parseSort}
 use Rattle.grammar.specs.Item.{wordsOf}
@@ -14,7 +14,7 @@ use Rattle.grammar.specs.Scope.{numbered}
 use Rattle.grammar.specs.ParseExpr
 use Rattle.grammar.specs.ParseExpr.{nameOf}
 use Rattle.grammar.specs.Shape.{BindersCoded}
-use Rattle.text.proofs.Weight.{weight-some}
+use Rattle.reading.proofs.Weight.{weight-some}
 use Rattle.grammar.proofs.Items.{words-front}
 use Rattle.grammar.proofs.Post.{Every, then-every, any-every, map-every}
 use Rattle.grammar.proofs.SortOf.{SortOf, in-list, sort-of}

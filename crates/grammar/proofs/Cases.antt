@@ -4,8 +4,8 @@ use Prim.Native.String.{String}
 use mathlib.Core.Path.{_≡_, refl}
 use mathlib.Core.List.{List, [], _∷_}
 use lib.ListN.{replicate}
-use Rattle.text.specs.Bytes.{ascii}
-use Rattle.text.specs.Answer.{number, Res, ok, no, chain, lifted}
+use Rattle.reading.specs.Bytes.{ascii}
+use Rattle.reading.specs.Answer.{number, Res, ok, no, chain, lifted}
 use Rattle.grammar.specs.Sort.{sortWords}
 use Rattle.grammar.specs.Item.{wordsOf}
 use Rattle.grammar.specs.Expr.{exprItems, solutionItems}

@@ -7,7 +7,7 @@ use native.Mathlib.Omega.{arith}
 use lib.Dec.{eqb, ltb}
 use lib.ListN.{length, length-append}
 use borrow.Author.Tests.{eqb-true, eqb-false, eq-eqb, ne-eqb, ltb-true, ltb-false}
-use Rattle.text.specs.Pick.{pick}
+use Rattle.reading.specs.Pick.{pick}
 use Rattle.grammar.specs.Item.{Item, plain, uses, binds, raise, used, bound}
 use Rattle.grammar.specs.Numbers.{hit, times, Exactly}
 use Rattle.grammar.proofs.Same.{times-append}

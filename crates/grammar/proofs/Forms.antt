@@ -3,9 +3,9 @@ use Prim.Native.Nat.{ℕ, _-_, _≤_}
 use mathlib.Core.Path.{_≡_, refl}
 use mathlib.Core.Bool.{Bool, true, false}
 use native.Mathlib.Omega.{arith}
-use Rattle.text.specs.Bytes.{Span, SpanWithin, Maybe, nothing, just}
-use Rattle.text.specs.Number.{Wide}
-use Rattle.text.specs.Tree.{Tree, Trees, Within, AllWithin}
+use Rattle.reading.specs.Bytes.{Span, SpanWithin, Maybe, nothing, just}
+use Rattle.reading.specs.Number.{Wide}
+use Rattle.reading.specs.Tree.{Tree, Trees, Within, AllWithin}
 use Rattle.grammar.specs.Item.{wordsOf, used, bound}
 use Rattle.grammar.specs.Expr.{kBitVec, kNeg, BinOp, opAdd, opMul, opDiv, opMod, Relation, relEq, relNe, relGt, relGe, relLt, relLe, kBin, kNot, kOr, kAnd, kIf, kAtom, kIff, kImp, kLet, kIsCtor, kindItems}
 use Rattle.grammar.specs.Names.{Form, fixed, many, cast, exists, letIn, lit, minus, isCtor, apply, keywords}

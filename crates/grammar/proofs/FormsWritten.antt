@@ -4,10 +4,10 @@ use mathlib.Core.Path.{_≡_, refl, sym, ap, ap₂, _∙_}
 use mathlib.Core.Bool.{Bool, true, false, not}
 use mathlib.Core.List.{List, [], _∷_, _++_, append-assoc, append-nil}
 use lib.ListN.{length}
-use Rattle.text.specs.Pick.{pick}
-use Rattle.text.specs.Bytes.{Span, nothing, just}
-use Rattle.text.specs.Tree.{Tree, Trees, tnil, tcons, trees}
-use Rattle.text.specs.Answer.{check, repeatedName, Res, ok, no, chain, lifted}
+use Rattle.reading.specs.Pick.{pick}
+use Rattle.reading.specs.Bytes.{Span, nothing, just}
+use Rattle.reading.specs.Tree.{Tree, Trees, tnil, tcons, trees}
+use Rattle.reading.specs.Answer.{check, repeatedName, Res, ok, no, chain, lifted}
 use Rattle.grammar.specs.Sort.{Sort, sortWords}
 use Rattle.grammar.specs.Item.{Item, raise, wordsOf}
 use Rattle.grammar.specs.Expr.{Kind, kExists, kLet, Expr, Exprs, node, app, oneOf, enil, econs, exprs, exprItems, exprsItems, kindItems}

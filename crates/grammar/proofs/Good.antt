@@ -6,10 +6,10 @@ use mathlib.Core.List.{List, [], _∷_, _++_, append-nil}
 use native.Mathlib.Omega.{arith}
 use lib.Dec.{ltb}
 use lib.ListN.{length}
-use Rattle.text.specs.Bytes.{Span, bytesAt, Maybe, nothing, just, lookup}
-use Rattle.text.specs.Number.{Wide, valueOf, minusOf}
-use Rattle.text.specs.Tree.{symbol, quoted, integer, boolean, Tree, Trees, atom, list, tcons}
-use Rattle.text.proofs.Picks.{pick-holds}
+use Rattle.reading.specs.Bytes.{Span, bytesAt, Maybe, nothing, just, lookup}
+use Rattle.reading.specs.Number.{Wide, valueOf, minusOf}
+use Rattle.reading.specs.Tree.{symbol, quoted, integer, boolean, Tree, Trees, atom, list, tcons}
+use Rattle.reading.proofs.Picks.{pick-holds}
 use Rattle.grammar.specs.Sort.{Sort, sortWords}
 use Rattle.grammar.specs.Item.{Item, raise, used, bound}
 use Rattle.grammar.specs.Expr.{Kind, kNum, kBool, kStr, kNeg, kNamed, kTheory, kExists, Expr, Exprs, node, leaf, oneOf, enil, exprs, kindItems, binderItems, exprItems, exprsItems, outSort}

@@ -4,9 +4,9 @@ use mathlib.Core.Path.{_≡_}
 use mathlib.Core.Bool.{Bool}
 use mathlib.Core.List.{List, [], _∷_}
 use lib.ListN.{length}
-use Rattle.text.specs.Bytes.{Span, nothing, just}
-use Rattle.text.specs.Number.{Wide}
-use Rattle.text.specs.Tree.{symbol, quoted, integer, boolean, Tree, Trees, atom, list, tcons, nesting, Within, AllWithin, weight}
+use Rattle.reading.specs.Bytes.{Span, nothing, just}
+use Rattle.reading.specs.Number.{Wide}
+use Rattle.reading.specs.Tree.{symbol, quoted, integer, boolean, Tree, Trees, atom, list, tcons, nesting, Within, AllWithin, weight}
 use Rattle.grammar.specs.Sort.{Sort}
 use Rattle.grammar.specs.Item.{wordsOf, used, bound}
 use Rattle.grammar.specs.Expr.{Kind, kBool, kStr, kExists, Expr, Exprs, node, app, leaf, oneOf, enil, econs, exprs, kindItems, binderItems}

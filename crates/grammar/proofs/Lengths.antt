@@ -4,7 +4,7 @@ use mathlib.Core.Path.{_≡_}
 use mathlib.Core.List.{_++_}
 use native.Mathlib.Omega.{arith}
 use lib.ListN.{length}
-use Rattle.text.specs.Bytes.{Maybe}
+use Rattle.reading.specs.Bytes.{Maybe}
 use Rattle.grammar.specs.Sort.{Sort}
 use Rattle.grammar.specs.Item.{wordsOf}
 use Rattle.grammar.specs.Expr.{Kind, Expr, Exprs, node, app, econs, exprs, Solution, binderItems, kindItems, outSort, exprItems, exprsItems, solutionItems}

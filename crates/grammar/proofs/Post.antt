@@ -4,10 +4,10 @@ use mathlib.Core.Path.{_≡_, refl}
 use mathlib.Core.Bool.{Bool, true, false}
 use lib.ListN.{length}
 use mathlib.Core.List.{List, [], _∷_}
-use Rattle.text.specs.Pick.{pick}
-use Rattle.text.specs.Bytes.{ascii, sameBytes, Maybe, nothing, just, Named, named, lookup}
-use Rattle.text.proofs.Bytes.{same-equal}
-use Rattle.text.specs.Answer.{Ans, got, bad, andThen, Res, ok, no, chain, lifted}
+use Rattle.reading.specs.Pick.{pick}
+use Rattle.reading.specs.Bytes.{ascii, sameBytes, Maybe, nothing, just, Named, named, lookup}
+use Rattle.reading.proofs.Bytes.{same-equal}
+use Rattle.reading.specs.Answer.{Ans, got, bad, andThen, Res, ok, no, chain, lifted}
 
 abbrev pub Post : {A : Type 0} → Res A → (A → ℕ → Type 0) → Type 0
 Post (ok a n) Q = Q a n

@@ -5,11 +5,11 @@ use mathlib.Core.List.{List, [], _++_, append-nil}
 use native.Mathlib.Omega.{arith}
 use lib.Dec.{ltb}
 use lib.ListN.{length, length-append}
-use Rattle.text.specs.Bytes.{Span, bytesAt, Maybe, nothing, just, lookup}
-use Rattle.text.specs.Number.{Wide, valueOf, minusOf}
-use Rattle.text.specs.Tree.{symbol, quoted, integer, boolean, Tree, Trees, atom, weight, weights}
-use Rattle.text.proofs.Weight.{weight-some}
-use Rattle.text.proofs.Picks.{pick-holds}
+use Rattle.reading.specs.Bytes.{Span, bytesAt, Maybe, nothing, just, lookup}
+use Rattle.reading.specs.Number.{Wide, valueOf, minusOf}
+use Rattle.reading.specs.Tree.{symbol, quoted, integer, boolean, Tree, Trees, atom, weight, weights}
+use Rattle.reading.proofs.Weight.{weight-some}
+use Rattle.reading.proofs.Picks.{pick-holds}
 use Rattle.grammar.specs.Sort.{Sort, sortWords}
 use Rattle.grammar.specs.Item.{Item, wordsOf}
 use Rattle.grammar.specs.Expr.{Kind, kNum, kBool, kStr, kNeg, kNamed, kFresh, kTheory, Expr, Exprs, node, leaf, oneOf, exprs, kindItems, binderItems, exprItems, exprsItems, sortItems}

@@ -8,11 +8,11 @@ use native.Mathlib.Omega.{arith}
 use lib.Dec.{ltb}
 use lib.ListN.{length}
 use borrow.Author.Tests.{ltb-true}
-use Rattle.text.specs.Pick.{pick}
-use Rattle.text.specs.Bytes.{Span, bytesAt, Maybe, nothing, just, Named, named, lookup}
-use Rattle.text.specs.Number.{Wide, valueOf, minusOf}
-use Rattle.text.specs.Tree.{symbol, quoted, integer, boolean, Tree, Trees, atom, list, tcons, nesting, nestings, Within, AllWithin}
-use Rattle.text.proofs.Picks.{pick-holds}
+use Rattle.reading.specs.Pick.{pick}
+use Rattle.reading.specs.Bytes.{Span, bytesAt, Maybe, nothing, just, Named, named, lookup}
+use Rattle.reading.specs.Number.{Wide, valueOf, minusOf}
+use Rattle.reading.specs.Tree.{symbol, quoted, integer, boolean, Tree, Trees, atom, list, tcons, nesting, nestings, Within, AllWithin}
+use Rattle.reading.proofs.Picks.{pick-holds}
 use Rattle.grammar.specs.Sort.{Sort}
 use Rattle.grammar.specs.Expr.{Binder, Kind, kNum, kBool, kStr, kBitVec, kFresh, kNamed, kNeg, kBin, kIf, kAnd, kOr, kNot, kImp, kIff, kAtom, kLet, kTheory, kIsCtor, kExists, Expr, Exprs, node, app, leaf, oneOf, enil, econs, exprs}
 use Rattle.grammar.specs.Names.{theory}

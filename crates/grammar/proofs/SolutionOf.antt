@@ -5,9 +5,9 @@ use mathlib.Core.List.{List, [], _∷_}
 use native.Mathlib.Omega.{arith}
 use lib.Dec.{eqb}
 use lib.ListN.{length}
-use Rattle.text.specs.Bytes.{Span}
-use Rattle.text.specs.Tree.{Tree, Trees, atom, list, tnil, tcons, trees, nesting, Within, weight}
-use Rattle.text.specs.Answer.{check, malformed}
+use Rattle.reading.specs.Bytes.{Span}
+use Rattle.reading.specs.Tree.{Tree, Trees, atom, list, tnil, tcons, trees, nesting, Within, weight}
+use Rattle.reading.specs.Answer.{check, malformed}
 use Rattle.grammar.specs.Sort.{Sort}
 use Rattle.grammar.specs.Expr.{Expr, Exprs, Solution}
 use Rattle.grammar.specs.ParseSort.{inList, treeAt}

@@ -8,20 +8,20 @@ use native.Mathlib.Omega.{arith}
 use lib.Dec.{eqb, leb, ltb}
 use lib.ListN.{length, length-append, take, drop, getD}
 use borrow.Author.Tests.{leb-true, ltb-true}
-use Rattle.text.specs.Limits.{maxFunc}
-use Rattle.text.specs.Pick.{pick}
-use Rattle.text.specs.Bytes.{ascii, beginsWith, Span, SpanWithin, bytesAt, Maybe, nothing, just, lookup}
-use Rattle.text.specs.Number.{Wide, valueOf, below, unsigned}
-use Rattle.text.specs.Tree.{Atom, symbol, quoted, integer, decimal, boolean, Tree, Trees, atom, list, tnil, tcons, atomWords, treeWords, treesWords, Within, AllWithin, weight, weights}
-use Rattle.text.specs.Answer.{got, andThen, check, Refusal, badFunc}
-use Rattle.text.proofs.Picks.{pick-holds}
+use Rattle.reading.specs.Limits.{maxFunc}
+use Rattle.reading.specs.Pick.{pick}
+use Rattle.reading.specs.Bytes.{ascii, beginsWith, Span, SpanWithin, bytesAt, Maybe, nothing, just, lookup}
+use Rattle.reading.specs.Number.{Wide, valueOf, below, unsigned}
+use Rattle.reading.specs.Tree.{Atom, symbol, quoted, integer, decimal, boolean, Tree, Trees, atom, list, tnil, tcons, atomWords, treeWords, treesWords, Within, AllWithin, weight, weights}
+use Rattle.reading.specs.Answer.{got, andThen, check, Refusal, badFunc}
+use Rattle.reading.proofs.Picks.{pick-holds}
 use Rattle.grammar.specs.Sort.{Ctor, cSet, cMap, cData, Sort, Sorts, sSize, sApp, snil, scons, sorts, ctorWords, sortWords, sortsWords, funcs, abstracted}
 use Rattle.grammar.specs.Names.{plainSorts, SortForm, func, function, bitVec, applied, oneSort, twoSorts, threeItems}
 use Rattle.grammar.specs.ParseSort
 use Rattle.grammar.specs.ParseSort.{inList, inAtom, symbolIn, inSymbol, inInteger, sizeNamed, indexNamed, orData, otherSort, sortTable, orApplied, funcNumber, View, viewAt, eachSort, funcSort, functionSort}
 use Rattle.grammar.specs.Shape.{SortCoded, SortsCoded, CtorWithin}
-use Rattle.text.proofs.Bytes.{bytes-length}
-use Rattle.text.proofs.Weight.{weight-some}
+use Rattle.reading.proofs.Bytes.{bytes-length}
+use Rattle.reading.proofs.Weight.{weight-some}
 use Rattle.grammar.proofs.TreeHead.{tree-two}
 use Rattle.grammar.proofs.Post.{Every, map-every, then-every, any-every, AllRows, IfThere, lookup-holds}
 

@@ -3,10 +3,10 @@ use Prim.Native.Nat.{ℕ}
 use mathlib.Core.Path.{_≡_, refl, sym, subst}
 use mathlib.Core.Bool.{false}
 use mathlib.Core.List.{List}
-use Rattle.text.specs.Tree.{Trees}
-use Rattle.text.specs.Answer.{Ans, got, bad, andThen, check, noRoom, fitsIn}
-use Rattle.text.specs.Reading.{Read, readText, readWords}
-use Rattle.text.proofs.TextTree.{TextTree, text-tree}
+use Rattle.reading.specs.Tree.{Trees}
+use Rattle.reading.specs.Answer.{Ans, got, bad, andThen, check, noRoom, fitsIn}
+use Rattle.reading.specs.Reading.{Read, readText, readWords}
+use Rattle.reading.proofs.TextTree.{TextTree, text-tree}
 use Rattle.grammar.specs.ParseSort.{treeAt}
 use Rattle.grammar.specs.Operations.{theTree}
 use Rattle.grammar.proofs.Post.{Every, any-every}

@@ -5,9 +5,9 @@ use mathlib.Core.List.{List, [], _++_, append-nil}
 use native.Mathlib.Omega.{arith}
 use lib.ListN.{length, getD, take, drop, length-append}
 use lib.Seq.{take-at, drop-at}
-use Rattle.text.specs.Tree.{symbol, quoted, integer, decimal, boolean, Tree, Trees, atom, list, tnil, tcons, trees, atomWords, treeWords, treesWords}
-use Rattle.text.specs.Answer.{bad, malformed}
-use Rattle.text.proofs.Token.{atom-size}
+use Rattle.reading.specs.Tree.{symbol, quoted, integer, decimal, boolean, Tree, Trees, atom, list, tnil, tcons, trees, atomWords, treeWords, treesWords}
+use Rattle.reading.specs.Answer.{bad, malformed}
+use Rattle.reading.proofs.Token.{atom-size}
 use Rattle.grammar.specs.ParseSort
 use Rattle.grammar.specs.ParseSort.{symbolIn}
 

@@ -5,12 +5,12 @@ use mathlib.Core.List.{List, [], _∷_}
 use native.Mathlib.Omega.{arith}
 use lib.Dec.{eqb}
 use lib.ListN.{length}
-use Rattle.text.specs.Bytes.{ascii, beginsWith, Span, bytesAt, lookup}
-use Rattle.text.specs.Number.{wideOf}
-use Rattle.text.specs.Tree.{Atom, symbol, quoted, integer, decimal, boolean, Tree, Trees, atom, list, tnil, tcons}
-use Rattle.text.specs.Answer.{check, malformed, chain, lifted}
-use Rattle.text.proofs.Bytes.{begins-length, bytes-length}
-use Rattle.text.proofs.Picks.{pick-holds}
+use Rattle.reading.specs.Bytes.{ascii, beginsWith, Span, bytesAt, lookup}
+use Rattle.reading.specs.Number.{wideOf}
+use Rattle.reading.specs.Tree.{Atom, symbol, quoted, integer, decimal, boolean, Tree, Trees, atom, list, tnil, tcons}
+use Rattle.reading.specs.Answer.{check, malformed, chain, lifted}
+use Rattle.reading.proofs.Bytes.{begins-length, bytes-length}
+use Rattle.reading.proofs.Picks.{pick-holds}
 use Rattle.grammar.specs.ParseSort.{inList, inAtom, inSymbol, treeAt, parseSort}
 use Rattle.grammar.specs.Expr.{Kind, kBitVec, kNeg, opSub, kBin, kLet, kIsCtor, Expr, Exprs, oneOf, enil, econs, exprs}
 use Rattle.grammar.specs.Names.{Form, fixed, many, cast, exists, letIn, lit, minus, isCtor, apply, keywords}

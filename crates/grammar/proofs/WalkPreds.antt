@@ -4,11 +4,11 @@ use mathlib.Core.Path.{_≡_, refl, sym, ap, subst}
 use mathlib.Core.List.{List, [], _∷_, _++_}
 use lib.Dec.{ltb}
 use lib.ListN.{length}
-use Rattle.text.specs.Pick.{pick}
-use Rattle.text.specs.Bytes.{ascii, sameBytes, beginsWith, Span, bytesAt}
-use Rattle.text.specs.Tree.{symbol, quoted, integer, decimal, boolean, Tree, Trees, atom, list, tnil, tcons, trees}
-use Rattle.text.specs.Answer.{check, malformed}
-use Rattle.text.proofs.Picks.{pick-holds}
+use Rattle.reading.specs.Pick.{pick}
+use Rattle.reading.specs.Bytes.{ascii, sameBytes, beginsWith, Span, bytesAt}
+use Rattle.reading.specs.Tree.{symbol, quoted, integer, decimal, boolean, Tree, Trees, atom, list, tnil, tcons, trees}
+use Rattle.reading.specs.Answer.{check, malformed}
+use Rattle.reading.proofs.Picks.{pick-holds}
 use Rattle.grammar.specs.ParseSort.{inSymbol}
 use Rattle.grammar.specs.Expr.{VarName, Expr, Exprs, Pred, kvar, expr}
 use Rattle.grammar.specs.Scope.{Scope}

@@ -1,5 +1,5 @@
 -- Opens every definition of this crate at once, for claims that are proved by computing.
-use Rattle.text.specs.Compute.{textComputes}
+use Rattle.reading.specs.Compute.{textComputes}
 use Rattle.grammar.specs.Expr.{exprs, binderItems, kindItems, nameItems, predItems, predsItems, bindItems, solutionItems, exprItems}
 use Rattle.grammar.specs.Item.{raise, wordsOf, used, bound}
 use Rattle.grammar.specs.Names.{keywords, theory, plainSorts, oneSort, twoSorts, threeItems}

@@ -3,9 +3,9 @@ use Prim.Native.Nat.{ℕ, suc}
 use mathlib.Core.Bool.{Bool}
 use mathlib.Core.List.{List, [], _∷_, _++_}
 use lib.ListN.{length}
-use Rattle.text.specs.Bytes.{Span, Maybe, nothing, just}
-use Rattle.text.specs.Number.{Wide}
-use Rattle.text.specs.Tree.{bit, spanWords, wideWords}
+use Rattle.reading.specs.Bytes.{Span, Maybe, nothing, just}
+use Rattle.reading.specs.Number.{Wide}
+use Rattle.reading.specs.Tree.{bit, spanWords, wideWords}
 use Rattle.grammar.specs.Sort.{Sort, sortWords}
 use Rattle.grammar.specs.Item.{Item, plain, plains, uses, binds}
 

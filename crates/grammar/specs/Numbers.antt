@@ -5,7 +5,7 @@ use mathlib.Core.Logic.{_⊎_}
 use mathlib.Core.List.{List, [], _∷_}
 use lib.Dec.{eqb}
 use lib.ListN.{length}
-use Rattle.text.specs.Pick.{pick}
+use Rattle.reading.specs.Pick.{pick}
 
 -- A number stands in a list.
 abbrev pub In : ℕ → List ℕ → Type 0

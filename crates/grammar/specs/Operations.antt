@@ -2,9 +2,9 @@
 use Prim.Native.Nat.{ℕ}
 use mathlib.Core.Bool.{false}
 use mathlib.Core.List.{List}
-use Rattle.text.specs.Tree.{Tree}
-use Rattle.text.specs.Reading.{readText, readWords}
-use Rattle.text.specs.Answer.{Ans, andThen, check, noRoom, M, _>>=_, chain, lifted, Final, finish, fitsIn}
+use Rattle.reading.specs.Tree.{Tree}
+use Rattle.reading.specs.Reading.{readText, readWords}
+use Rattle.reading.specs.Answer.{Ans, andThen, check, noRoom, M, _>>=_, chain, lifted, Final, finish, fitsIn}
 use Rattle.grammar.specs.Sort.{Sort, sortWords}
 use Rattle.grammar.specs.Item.{wordsOf}
 use Rattle.grammar.specs.Expr.{Expr, exprItems, Bind, bindItems, Solution}

@@ -1,8 +1,8 @@
 -- The bind that a tree is read as: `parse_bind`.
 use Prim.Native.Nat.{ℕ}
 use mathlib.Core.List.{List}
-use Rattle.text.specs.Tree.{Tree}
-use Rattle.text.specs.Answer.{andThen, M, _>>=_, chain, done, lifted}
+use Rattle.reading.specs.Tree.{Tree}
+use Rattle.reading.specs.Answer.{andThen, M, _>>=_, chain, done, lifted}
 use Rattle.grammar.specs.ParseSort.{inList, inSymbol, treeAt, parseSort}
 use Rattle.grammar.specs.Expr.{Bind}
 use Rattle.grammar.specs.Scope.{varOf}

@@ -5,11 +5,11 @@ use mathlib.Core.Bool.{Bool, true, false}
 use mathlib.Core.List.{List, [], _∷_, _++_}
 use lib.Dec.{eqb, ltb}
 use lib.ListN.{length, drop}
-use Rattle.text.specs.Pick.{pick}
-use Rattle.text.specs.Bytes.{ascii, sameBytes, beginsWith, Span, bytesAt, Maybe, nothing, just, lookup}
-use Rattle.text.specs.Number.{Wide, wideOf, minusOf, valueOf, unsigned}
-use Rattle.text.specs.Tree.{Atom, symbol, quoted, integer, decimal, boolean, Tree, Trees, atom, list, tnil, tcons, trees}
-use Rattle.text.specs.Answer.{Ans, got, bad, andThen, orBad, check, malformed, decimalRead, badLiteral, M, _>>=_, chain, done, lifted, fresh}
+use Rattle.reading.specs.Pick.{pick}
+use Rattle.reading.specs.Bytes.{ascii, sameBytes, beginsWith, Span, bytesAt, Maybe, nothing, just, lookup}
+use Rattle.reading.specs.Number.{Wide, wideOf, minusOf, valueOf, unsigned}
+use Rattle.reading.specs.Tree.{Atom, symbol, quoted, integer, decimal, boolean, Tree, Trees, atom, list, tnil, tcons, trees}
+use Rattle.reading.specs.Answer.{Ans, got, bad, andThen, orBad, check, malformed, decimalRead, badLiteral, M, _>>=_, chain, done, lifted, fresh}
 use Rattle.grammar.specs.Sort.{Sort}
 use Rattle.grammar.specs.ParseSort.{inList, inAtom, inSymbol, treeAt, sizeOf, parseSort}
 use Rattle.grammar.specs.Expr.{VarName, Kind, kNum, kBool, kStr, kBitVec, kNeg, kBin, opSub, kLet, kIsCtor, kExists, Expr, Exprs, node, app, leaf, oneOf, enil, econs, Pred, kvar, expr}

@@ -3,9 +3,9 @@ use Prim.Native.Nat.{ℕ}
 use mathlib.Core.List.{List, [], _∷_}
 use lib.Dec.{eqb}
 use lib.ListN.{length}
-use Rattle.text.specs.Bytes.{Span}
-use Rattle.text.specs.Tree.{Tree, Trees, tnil, tcons, trees}
-use Rattle.text.specs.Answer.{Ans, got, andThen, check, malformed, M, _>>=_, chain, done, lifted, fresh}
+use Rattle.reading.specs.Bytes.{Span}
+use Rattle.reading.specs.Tree.{Tree, Trees, tnil, tcons, trees}
+use Rattle.reading.specs.Answer.{Ans, got, andThen, check, malformed, M, _>>=_, chain, done, lifted, fresh}
 use Rattle.grammar.specs.Sort.{Sort}
 use Rattle.grammar.specs.ParseSort.{inList, treeAt}
 use Rattle.grammar.specs.Expr.{Solution}

@@ -3,12 +3,12 @@ use Prim.Native.Nat.{ℕ, zero, suc, _-_, _^_}
 use mathlib.Core.List.{List, [], _∷_}
 use lib.Dec.{eqb, leb}
 use lib.ListN.{length, take, drop, getD}
-use Rattle.text.specs.Limits.{maxFunc}
-use Rattle.text.specs.Pick.{pick}
-use Rattle.text.specs.Bytes.{ascii, beginsWith, Span, bytesAt, Maybe, nothing, just, Named, lookup}
-use Rattle.text.specs.Number.{Wide, valueOf, unsigned}
-use Rattle.text.specs.Tree.{Atom, symbol, quoted, integer, decimal, boolean, Tree, Trees, atom, list, tnil, tcons}
-use Rattle.text.specs.Answer.{Ans, got, bad, andThen, orBad, check, malformed, badFunc}
+use Rattle.reading.specs.Limits.{maxFunc}
+use Rattle.reading.specs.Pick.{pick}
+use Rattle.reading.specs.Bytes.{ascii, beginsWith, Span, bytesAt, Maybe, nothing, just, Named, lookup}
+use Rattle.reading.specs.Number.{Wide, valueOf, unsigned}
+use Rattle.reading.specs.Tree.{Atom, symbol, quoted, integer, decimal, boolean, Tree, Trees, atom, list, tnil, tcons}
+use Rattle.reading.specs.Answer.{Ans, got, bad, andThen, orBad, check, malformed, badFunc}
 use Rattle.grammar.specs.Sort.{cData, Sort, Sorts, sBitVec, sSize, sVar, sFunc, sApp, snil, scons, funcs, abstracted}
 use Rattle.grammar.specs.Names.{plainSorts, SortForm, func, function, bitVec, applied, oneSort, twoSorts, threeItems}
 

@@ -1,10 +1,10 @@
 -- Parsing as far as words go: what the parser writes of a tree at the reader's count, piece by piece.
 use Prim.Native.Nat.{ℕ, zero, suc}
 use mathlib.Core.List.{List, [], _++_}
-use Rattle.text.specs.Pick.{pick}
-use Rattle.text.specs.Bytes.{Span}
-use Rattle.text.specs.Tree.{Tree, Trees, tnil, tcons}
-use Rattle.text.specs.Answer.{malformed, repeatedName, Res, ok, no}
+use Rattle.reading.specs.Pick.{pick}
+use Rattle.reading.specs.Bytes.{Span}
+use Rattle.reading.specs.Tree.{Tree, Trees, tnil, tcons}
+use Rattle.reading.specs.Answer.{malformed, repeatedName, Res, ok, no}
 use Rattle.grammar.specs.Item.{Item, raise, wordsOf}
 use Rattle.grammar.specs.Expr.{Kind, Expr, Exprs, exprItems, exprsItems, kindItems}
 use Rattle.grammar.specs.Scope.{Scope, repeated}

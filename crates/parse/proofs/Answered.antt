@@ -5,9 +5,9 @@ use mathlib.Core.List.{List}
 use native.Mathlib.Omega.{arith}
 use lib.ListN.{length, take, replicate, length-take}
 use borrow.Author.Tests.{le-leb, lt-leb}
-use Rattle.text.specs.Tree.{Tree}
-use Rattle.text.specs.Answer.{Refusal, number, noRoom, Ans, got, bad, lifted, Final, accepts, refuses, finish, fitsIn, zeros, outputOf}
-use Rattle.text.proofs.Finish.{finish-short, finish-long}
+use Rattle.reading.specs.Tree.{Tree}
+use Rattle.reading.specs.Answer.{Refusal, number, noRoom, Ans, got, bad, lifted, Final, accepts, refuses, finish, fitsIn, zeros, outputOf}
+use Rattle.reading.proofs.Finish.{finish-short, finish-long}
 use Rattle.grammar.specs.Sort.{Sort, sortWords}
 use Rattle.grammar.specs.ParseSort.{parseSort}
 use Rattle.grammar.specs.Operations.{theTree, makeSort, sortFinal}

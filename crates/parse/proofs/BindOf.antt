@@ -5,10 +5,10 @@ use mathlib.Core.List.{List, [], _∷_, _++_}
 use native.Mathlib.Omega.{arith}
 use native.Mathlib.Nat.{le-max-left, le-max-right}
 use lib.ListN.{length, getD, drop, length-append}
-use Rattle.text.specs.Limits.{maxLists}
-use Rattle.text.specs.Bytes.{Span}
-use Rattle.text.specs.Tree.{symbol, quoted, integer, decimal, boolean, Tree, Trees, atom, list, tnil, tcons, trees, atomWords, treeWords, treesWords, nesting, nestings}
-use Rattle.text.specs.Answer.{Refusal, malformed, number, got, bad, Res, ok, no, chain}
+use Rattle.reading.specs.Limits.{maxLists}
+use Rattle.reading.specs.Bytes.{Span}
+use Rattle.reading.specs.Tree.{symbol, quoted, integer, decimal, boolean, Tree, Trees, atom, list, tnil, tcons, trees, atomWords, treeWords, treesWords, nesting, nestings}
+use Rattle.reading.specs.Answer.{Refusal, malformed, number, got, bad, Res, ok, no, chain}
 use Rattle.grammar.specs.Sort.{Sort, sortWords}
 use Rattle.grammar.specs.ParseSort.{inList, inAtom, inSymbol, symbolIn, treeAt, parseSort}
 use Rattle.grammar.specs.Item.{raise, wordsOf}

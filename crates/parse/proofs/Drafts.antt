@@ -7,11 +7,11 @@ use native.Mathlib.Omega.{arith}
 use lib.Dec.{ltb}
 use lib.ListN.{length, replicate}
 use borrow.Author.Tests.{ltb-true, ltb-false, le-leb, lt-leb}
-use Rattle.text.specs.Limits.{maxNumber}
-use Rattle.text.specs.Pick.{pick}
-use Rattle.text.specs.Tree.{Tree}
-use Rattle.text.specs.Answer.{got, Res, ok, no, Final, accepts, refuses, finish, fitsIn, outputOf}
-use Rattle.text.proofs.Finish.{finish-spent, finish-short, finish-long}
+use Rattle.reading.specs.Limits.{maxNumber}
+use Rattle.reading.specs.Pick.{pick}
+use Rattle.reading.specs.Tree.{Tree}
+use Rattle.reading.specs.Answer.{got, Res, ok, no, Final, accepts, refuses, finish, fitsIn, outputOf}
+use Rattle.reading.proofs.Finish.{finish-spent, finish-short, finish-long}
 use Rattle.grammar.specs.Item.{wordsOf}
 use Rattle.grammar.specs.Expr.{Solution, exprItems}
 use Rattle.grammar.specs.ParseSolution.{parseSolution}

@@ -8,11 +8,11 @@ use native.Mathlib.Nat.{zero-add}
 use lib.Dec.{ltb}
 use lib.ListN.{length, take, replicate, length-take}
 use borrow.Author.Tests.{ltb-true, ltb-false, le-leb, lt-leb}
-use Rattle.text.specs.Limits.{maxNumber}
-use Rattle.text.specs.Pick.{pick}
-use Rattle.text.specs.Tree.{Tree, treeWords}
-use Rattle.text.specs.Answer.{got, Res, ok, no, Final, accepts, refuses, finish, fitsIn, over, outputOf}
-use Rattle.text.proofs.Finish.{finish-spent, finish-short, finish-long}
+use Rattle.reading.specs.Limits.{maxNumber}
+use Rattle.reading.specs.Pick.{pick}
+use Rattle.reading.specs.Tree.{Tree, treeWords}
+use Rattle.reading.specs.Answer.{got, Res, ok, no, Final, accepts, refuses, finish, fitsIn, over, outputOf}
+use Rattle.reading.proofs.Finish.{finish-spent, finish-short, finish-long}
 use Rattle.grammar.specs.Item.{Item, raise, wordsOf}
 use Rattle.grammar.specs.Expr.{exprItems, bindItems}
 use Rattle.grammar.specs.ParseExpr

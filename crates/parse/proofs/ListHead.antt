@@ -4,7 +4,7 @@ use mathlib.Core.Path.{_≡_, ap, _∙_}
 use mathlib.Core.List.{List, _++_}
 use native.Mathlib.Omega.{arith}
 use lib.ListN.{length, drop}
-use Rattle.text.specs.Tree.{Tree, list, tcons, trees, treeWords, treesWords}
+use Rattle.reading.specs.Tree.{Tree, list, tcons, trees, treeWords, treesWords}
 use Rattle.exprs.specs.Spot.{Spot}
 use Rattle.exprs.proofs.Steps.{More, some}
 use Rattle.exprs.proofs.Places.Spots.{IsList, as-list}

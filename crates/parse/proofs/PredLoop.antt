@@ -6,9 +6,9 @@ use native.Mathlib.Omega.{arith}
 use native.Mathlib.Nat.{le-max-left, le-max-right}
 use lib.ListN.{length, set, drop, length-append}
 use lib.Seq.{set-comm}
-use Rattle.text.specs.Limits.{maxLists}
-use Rattle.text.specs.Tree.{symbol, Tree, Trees, atom, tnil, tcons, atomWords, treeWords, treesWords, nesting, nestings}
-use Rattle.text.specs.Answer.{Refusal, number, Res, ok, no, chain, M}
+use Rattle.reading.specs.Limits.{maxLists}
+use Rattle.reading.specs.Tree.{symbol, Tree, Trees, atom, tnil, tcons, atomWords, treeWords, treesWords, nesting, nestings}
+use Rattle.reading.specs.Answer.{Refusal, number, Res, ok, no, chain, M}
 use Rattle.grammar.specs.Item.{raise, wordsOf}
 use Rattle.grammar.specs.Expr.{Pred, predItems, predsItems}
 use Rattle.grammar.specs.ParseExpr.{child, children, eachPred}

@@ -8,9 +8,9 @@ use native.Mathlib.Nat.{add-zero}
 use lib.Dec.{ltb}
 use lib.ListN.{length, getD, drop}
 use borrow.Author.Tests.{lt-ltb, le-ltb}
-use Rattle.text.specs.Bytes.{Span}
-use Rattle.text.specs.Tree.{symbol, Tree, Trees, atom, list, tnil, tcons, trees, atomWords, treeWords, treesWords}
-use Rattle.text.specs.Answer.{malformed, Ans, got, bad, andThen, M, ok, chain, lifted}
+use Rattle.reading.specs.Bytes.{Span}
+use Rattle.reading.specs.Tree.{symbol, Tree, Trees, atom, list, tnil, tcons, trees, atomWords, treeWords, treesWords}
+use Rattle.reading.specs.Answer.{malformed, Ans, got, bad, andThen, M, ok, chain, lifted}
 use Rattle.grammar.specs.ParseSort.{inSymbol, inAtom, symbolIn}
 use Rattle.grammar.specs.Item.{raise, wordsOf}
 use Rattle.grammar.specs.Expr.{VarName, Pred, kvar, nameItems, predItems}

@@ -5,11 +5,11 @@ use mathlib.Core.Bool.{Bool, true, false}
 use mathlib.Core.List.{List, [], _∷_, _++_}
 use native.Mathlib.Omega.{arith}
 use lib.ListN.{length, getD, drop}
-use Rattle.text.specs.Limits.{maxLists}
-use Rattle.text.specs.Pick.{pick}
-use Rattle.text.specs.Bytes.{ascii, sameBytes, beginsWith, Span, bytesAt}
-use Rattle.text.specs.Tree.{symbol, quoted, integer, decimal, boolean, Tree, Trees, atom, list, tnil, tcons, atomWords, treeWords, treesWords, nesting}
-use Rattle.text.specs.Answer.{malformed, M, Res, ok, no, chain}
+use Rattle.reading.specs.Limits.{maxLists}
+use Rattle.reading.specs.Pick.{pick}
+use Rattle.reading.specs.Bytes.{ascii, sameBytes, beginsWith, Span, bytesAt}
+use Rattle.reading.specs.Tree.{symbol, quoted, integer, decimal, boolean, Tree, Trees, atom, list, tnil, tcons, atomWords, treeWords, treesWords, nesting}
+use Rattle.reading.specs.Answer.{malformed, M, Res, ok, no, chain}
 use Rattle.grammar.specs.Item.{raise, wordsOf}
 use Rattle.grammar.specs.Expr.{Expr, Pred, expr, predItems}
 use Rattle.grammar.specs.ParseExpr

@@ -7,16 +7,16 @@ use native.Mathlib.Omega.{arith}
 use lib.ListN.{length, take, drop}
 use lib.Seq.{take-at}
 use borrow.Author.Tests.{leb-true}
-use Rattle.text.specs.Tree.{Tree, Trees, treeWords, treesWords}
-use Rattle.text.specs.Answer.{Refusal, number, noRoom, Ans, got, bad, lifted, Final, accepts, refuses, finish, fitsIn, saidOf, over, outputOf}
-use Rattle.text.specs.Reading.{Read, readText, readWords, readReport, readFinal, readSaid, readOut}
+use Rattle.reading.specs.Tree.{Tree, Trees, treeWords, treesWords}
+use Rattle.reading.specs.Answer.{Refusal, number, noRoom, Ans, got, bad, lifted, Final, accepts, refuses, finish, fitsIn, saidOf, over, outputOf}
+use Rattle.reading.specs.Reading.{Read, readText, readWords, readReport, readFinal, readSaid, readOut}
 use Rattle.text.specs.Answers.{asAnswer}
 use Rattle.text.specs.declared.Answer.{Answer}
 use Rattle.text.specs.declared.Answer.the-variants as Answers
-use Rattle.text.proofs.Finish.{finish-short, finish-long}
-use Rattle.text.proofs.Over.{over-fits, over-length}
-use Rattle.text.proofs.Read.{read-size, read-short}
-use Rattle.text.proofs.TextTree.{TextTree, text-tree}
+use Rattle.reading.proofs.Finish.{finish-short, finish-long}
+use Rattle.reading.proofs.Over.{over-fits, over-length}
+use Rattle.reading.proofs.Read.{read-size, read-short}
+use Rattle.reading.proofs.TextTree.{TextTree, text-tree}
 use Rattle.grammar.specs.ParseSort.{treeAt}
 use Rattle.grammar.specs.Operations.{theTree}
 

@@ -7,11 +7,11 @@ use native.Mathlib.Omega.{arith}
 use native.Mathlib.Nat.{zero-add, le-max-left, le-max-right}
 use lib.ListN.{length, getD, drop}
 use borrow.Author.Tests.{ne-eqb}
-use Rattle.text.specs.Limits.{maxLists}
-use Rattle.text.specs.Pick.{pick}
-use Rattle.text.specs.Bytes.{Span}
-use Rattle.text.specs.Tree.{Tree, Trees, list, tnil, tcons, trees, treeWords, treesWords, nesting}
-use Rattle.text.specs.Answer.{Refusal, number, malformed, Ans, got, bad, andThen, Res, ok, no, chain, lifted}
+use Rattle.reading.specs.Limits.{maxLists}
+use Rattle.reading.specs.Pick.{pick}
+use Rattle.reading.specs.Bytes.{Span}
+use Rattle.reading.specs.Tree.{Tree, Trees, list, tnil, tcons, trees, treeWords, treesWords, nesting}
+use Rattle.reading.specs.Answer.{Refusal, number, malformed, Ans, got, bad, andThen, Res, ok, no, chain, lifted}
 use Rattle.grammar.specs.Sort.{Sort}
 use Rattle.grammar.specs.Item.{raise, wordsOf}
 use Rattle.grammar.specs.Expr.{Expr, exprItems, Solution}

@@ -4,9 +4,9 @@ use mathlib.Core.Path.{_≡_}
 use mathlib.Core.List.{List, _∷_}
 use lib.Dec.{ltb}
 use lib.ListN.{length}
-use Rattle.text.specs.Limits.{maxNumber}
-use Rattle.text.specs.Pick.{pick}
-use Rattle.text.specs.Answer.{Final, accepts, refuses, over, zeros}
+use Rattle.reading.specs.Limits.{maxNumber}
+use Rattle.reading.specs.Pick.{pick}
+use Rattle.reading.specs.Answer.{Final, accepts, refuses, over, zeros}
 use Rattle.grammar.specs.Item.{Item, plain, raise, wordsOf}
 use Rattle.grammar.specs.Expr.{Expr, exprItems, Bind, bindItems, Solution, binderItems}
 use Rattle.grammar.specs.Sort.{Sort, sortWords}

@@ -4,11 +4,11 @@ use mathlib.Core.Path.{_≡_}
 use mathlib.Core.List.{List, [], _∷_}
 use lib.Dec.{ltb}
 use lib.ListN.{length}
-use Rattle.text.specs.Limits.{maxBytes, maxLists, maxNumber}
-use Rattle.text.specs.Pick.{pick}
-use Rattle.text.specs.Bytes.{Span}
-use Rattle.text.specs.Tree.{Tree, treeWords, nesting}
-use Rattle.text.specs.Answer.{Refusal, number, Res, ok, no, chain, lifted, Final, zeros}
+use Rattle.reading.specs.Limits.{maxBytes, maxLists, maxNumber}
+use Rattle.reading.specs.Pick.{pick}
+use Rattle.reading.specs.Bytes.{Span}
+use Rattle.reading.specs.Tree.{Tree, treeWords, nesting}
+use Rattle.reading.specs.Answer.{Refusal, number, Res, ok, no, chain, lifted, Final, zeros}
 use Rattle.grammar.specs.Expr.{Expr, Solution, exprItems}
 use Rattle.grammar.specs.Scope.{distinct}
 use Rattle.grammar.specs.ParseExpr.{child}

@@ -3,10 +3,10 @@ use Prim.Native.Nat.{ℕ, _+_, _*_, _^_, _≤_, _<_}
 use mathlib.Core.Path.{_≡_}
 use mathlib.Core.List.{List, [], _∷_, _++_}
 use lib.ListN.{length, drop}
-use Rattle.text.specs.Limits.{maxBytes, maxLists}
-use Rattle.text.specs.Bytes.{Span}
-use Rattle.text.specs.Tree.{symbol, Tree, Trees, atom, list, tcons, trees, treeWords, treesWords, nesting}
-use Rattle.text.specs.Answer.{Refusal, number, ok, no}
+use Rattle.reading.specs.Limits.{maxBytes, maxLists}
+use Rattle.reading.specs.Bytes.{Span}
+use Rattle.reading.specs.Tree.{symbol, Tree, Trees, atom, list, tcons, trees, treeWords, treesWords, nesting}
+use Rattle.reading.specs.Answer.{Refusal, number, ok, no}
 use Rattle.grammar.specs.Item.{Item, plain, raise, wordsOf}
 use Rattle.grammar.specs.Expr.{VarName, Pred, predItems, predsItems, nameItems}
 use Rattle.grammar.specs.ParseExpr.{child, children, eachPred, kvarForm}

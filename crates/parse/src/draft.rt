@@ -1,6 +1,6 @@
 // The draft of a solution: `(lambda (parameters) body)`.
 ghost use mathlib.Core.Path.{_≡_};
-ghost use Rattle.text.specs.Answer.{zeros, outputOf};
+ghost use Rattle.reading.specs.Answer.{zeros, outputOf};
 ghost use Rattle.grammar.specs.ParseSolution.{allNames, parseSolution};
 ghost use Rattle.sorts.specs.Rows.{isGot};
 ghost use Rattle.grammar.specs.Operations.{draftFinal};
@@ -21,11 +21,11 @@ use exprs::place::node_at;
 use exprs::place::words_at;
 use exprs::scopes::opened;
 use exprs::scopes::twice;
+use lexing::words::clear;
 use sorts::Answer;
 use sorts::number::long;
 use sorts::number::wide;
 use text::read_one;
-use text::words::clear;
 
 // How many words the parameters and the body have, and how many fresh numbers they take; or a refusal.
 pub enum Parts {

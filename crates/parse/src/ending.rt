@@ -1,14 +1,14 @@
 // What an operation that takes fresh numbers begins with, and what it decides in the end.
 ghost use mathlib.Core.Path.{_≡_};
 ghost use lib.ListN.{length};
-ghost use Rattle.text.specs.Limits.{maxLists};
-ghost use Rattle.text.specs.Answer.{zeros};
+ghost use Rattle.reading.specs.Limits.{maxLists};
+ghost use Rattle.reading.specs.Answer.{zeros};
 ghost use Rattle.parse.specs.Answers.{finishedBy, closedBy};
 use crate::Counted;
 use exprs::expr::Progress;
 use exprs::scopes::Entries;
 use exprs::scopes::Entry;
-use text::words::clear;
+use lexing::words::clear;
 
 // The largest count that a reader holds.
 pub const MAX_NUMBER: u64 = 18446744073709551615;

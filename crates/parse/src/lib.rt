@@ -2,7 +2,7 @@
 // solution that is not flattened yet. The definitions are in crates/grammar/specs, Operations.antt first; Answers.antt here says what is
 // answered of them.
 ghost use mathlib.Core.Path.{_≡_};
-ghost use Rattle.text.specs.Answer.{zeros, outputOf};
+ghost use Rattle.reading.specs.Answer.{zeros, outputOf};
 ghost use Rattle.grammar.specs.Sort.{sortWords};
 ghost use Rattle.grammar.specs.Expr.{exprItems, bindItems};
 ghost use Rattle.grammar.specs.Operations.{sortFinal, exprFinal, bindFinal, draftFinal};

@@ -1,6 +1,6 @@
 // The operations: a text is read into the tree slice, and its tree is parsed into the output.
 ghost use mathlib.Core.Path.{_≡_};
-ghost use Rattle.text.specs.Answer.{zeros, outputOf};
+ghost use Rattle.reading.specs.Answer.{zeros, outputOf};
 ghost use Rattle.grammar.specs.Sort.{sortWords};
 ghost use Rattle.grammar.specs.Expr.{exprItems, bindItems};
 ghost use Rattle.grammar.specs.Operations.{sortFinal, exprFinal, bindFinal};
@@ -11,9 +11,9 @@ use crate::ending::finished;
 use crate::ending::no_scopes;
 use crate::preds::bind_at;
 use exprs::expr::expr;
+use lexing::words::clear;
 use sorts::Answer;
 use text::read_one;
-use text::words::clear;
 
 // The sort and its words; no slice is cleared yet.
 fn attempt_sort(text: &[u8], tree: &mut [u32], out: &mut [u32]) -> Answer

@@ -1,7 +1,7 @@
 // A bind: a name, its sort, and predicates. `and` is stepped into, so one loop reads all predicates, however they nest.
 ghost use mathlib.Core.List.{[], _∷_};
 ghost use Prim.Native.Nat.{ℕ, _+_, _≤_};
-ghost use Rattle.text.specs.Tree.{symbol, atom, list, tcons};
+ghost use Rattle.reading.specs.Tree.{symbol, atom, list, tcons};
 ghost use Rattle.grammar.specs.Expr.{bindItems};
 ghost use Rattle.grammar.specs.ParseExpr.{child, children, symbols};
 ghost use Rattle.grammar.specs.ParseBind.{parseBind};
@@ -23,13 +23,13 @@ use exprs::place::node_at;
 use exprs::place::through;
 use exprs::place::words_at;
 use exprs::sort_at::sort_at;
+use lexing::byte::begins_with;
+use lexing::byte::same;
+use lexing::words::put;
 use sorts::Answer;
 use sorts::number::wide;
 use sorts::span::bytes_at;
 use sorts::tree::SYMBOL;
-use text::byte::begins_with;
-use text::byte::same;
-use text::words::put;
 
 // The kinds of predicates.
 const KVAR: u32 = 64;

@@ -4,11 +4,11 @@ use mathlib.Core.Path.{_≡_, refl, sym, _∙_}
 use mathlib.Core.Bool.{true, false, false≢true}
 use mathlib.Core.List.{List, []}
 use native.Mathlib.Omega.{arith}
-use Rattle.text.specs.Limits.{maxBytes}
-use Rattle.text.specs.Tree.{Tree, list, weight, weights}
-use Rattle.text.specs.Answer.{Ans, got, bad, andThen, Res, ok, chain, lifted}
-use Rattle.text.specs.Reading.{readText, readWords}
-use Rattle.text.proofs.TextTree.{TextTree}
+use Rattle.reading.specs.Limits.{maxBytes}
+use Rattle.reading.specs.Tree.{Tree, list, weight, weights}
+use Rattle.reading.specs.Answer.{Ans, got, bad, andThen, Res, ok, chain, lifted}
+use Rattle.reading.specs.Reading.{readText, readWords}
+use Rattle.reading.proofs.TextTree.{TextTree}
 use Rattle.grammar.specs.Item.{bound}
 use Rattle.grammar.specs.Sort.{sortWords}
 use Rattle.grammar.specs.ParseSort.{inList, inSymbol, treeAt, parseSort}

@@ -3,8 +3,8 @@ use Prim.Native.Nat.{ℕ, _+_}
 use mathlib.Core.Path.{_≡_, refl, sym, ap, subst, _∙_}
 use mathlib.Core.List.{List, [], _∷_, _++_, append-nil, append-assoc}
 use lib.ListN.{length}
-use Rattle.text.specs.Tree.{Tree}
-use Rattle.text.specs.Answer.{andThen}
+use Rattle.reading.specs.Tree.{Tree}
+use Rattle.reading.specs.Answer.{andThen}
 use Rattle.grammar.specs.Sort.{sortWords}
 use Rattle.grammar.specs.Item.{Item, plain, raise, bound}
 use Rattle.grammar.specs.Numbers.{Exactly}

@@ -7,8 +7,8 @@ use mathlib.Core.List.{List, [], _∷_}
 use native.Mathlib.Omega.{arith}
 use lib.Dec.{ltb}
 use borrow.Author.Tests.{ltb-true, ltb-false}
-use Rattle.text.specs.Limits.{maxNumber}
-use Rattle.text.specs.Answer.{number, noRoom, numbersSpent, Res, ok, no, accepts, refuses, refused}
+use Rattle.reading.specs.Limits.{maxNumber}
+use Rattle.reading.specs.Answer.{number, noRoom, numbersSpent, Res, ok, no, accepts, refuses, refused}
 use Rattle.grammar.specs.Item.{wordsOf}
 use Rattle.grammar.specs.Numbers.{Exactly}
 use Rattle.grammar.proofs.Exact.{exactly-none, exactly-append, exactly-raise}

@@ -3,7 +3,7 @@ use Prim.Native.Nat.{ℕ, zero, suc, _-_, _*_, _^_}
 use mathlib.Core.Path.{_≡_, refl}
 use mathlib.Core.List.{List, [], _∷_, _++_}
 use lib.ListN.{replicate}
-use Rattle.text.specs.Bytes.{ascii}
+use Rattle.reading.specs.Bytes.{ascii}
 use Rattle.reader.specs.Session.{readOne, readAll, sort, expression, bind, solution}
 use Rattle.reader.specs.Shown.{refusal, words, callOn, Asked, asks, askedBytes, lending, tells, told, Flat, flat, flatInto, flattensTo, flatAnswers}
 

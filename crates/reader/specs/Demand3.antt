@@ -5,8 +5,8 @@ use mathlib.Core.Logic.{_⊎_}
 use mathlib.Core.Bool.{Bool, true, false}
 use mathlib.Core.List.{List, [], _∷_}
 use lib.ListN.{length}
-use Rattle.text.specs.Limits.{maxNumber}
-use Rattle.text.specs.Answer.{Refusal, number, noRoom, numbersSpent, no, ok, Final, accepts, refuses, refused, zeros, over}
+use Rattle.reading.specs.Limits.{maxNumber}
+use Rattle.reading.specs.Answer.{Refusal, number, noRoom, numbersSpent, no, ok, Final, accepts, refuses, refused, zeros, over}
 use Rattle.grammar.specs.Item.{raise, wordsOf, bound}
 use Rattle.grammar.specs.Numbers.{Exactly}
 use Rattle.grammar.specs.Scoped.{Scoped, ScopedPreds, ScopedSolution}

@@ -4,8 +4,8 @@ use Prim.Native.String.{String}
 use mathlib.Core.Path.{_≡_, refl}
 use mathlib.Core.List.{List, [], _∷_, _++_}
 use lib.ListN.{replicate}
-use Rattle.text.specs.Bytes.{ascii}
-use Rattle.text.specs.Answer.{accepted, refused}
+use Rattle.reading.specs.Bytes.{ascii}
+use Rattle.reading.specs.Answer.{accepted, refused}
 use Rattle.reader.specs.Session.{readOne, readAll, sort, expression, bind, solution}
 use Rattle.reader.specs.Shown.{refusal, words, callOn, Row, row, expected, Asked, asks, asked, askedBytes, lending, tells, told, Reported, reported, reports, saidIn, inTurn, Flat, flat, flatInto, flattensTo, flatAnswers}
 

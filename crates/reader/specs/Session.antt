@@ -3,9 +3,9 @@ use Prim.Native.Nat.{ℕ, _+_}
 use mathlib.Core.Bool.{Bool, true, false}
 use mathlib.Core.List.{List, [], _∷_, _++_}
 use lib.ListN.{length}
-use Rattle.text.specs.Pick.{pick}
-use Rattle.text.specs.Answer.{Res, M, _>>=_, chain, done, lifted, Final, accepts, refuses, finish, fitsIn, Said, accepted, zeros, outputOf, saidOf, countOf}
-use Rattle.text.specs.Reading.{Read, readText, readWords, readReport}
+use Rattle.reading.specs.Pick.{pick}
+use Rattle.reading.specs.Answer.{Res, M, _>>=_, chain, done, lifted, Final, accepts, refuses, finish, fitsIn, Said, accepted, zeros, outputOf, saidOf, countOf}
+use Rattle.reading.specs.Reading.{Read, readText, readWords, readReport}
 use Rattle.grammar.specs.Sort.{Sort, sortWords}
 use Rattle.grammar.specs.Item.{Item, plains, raise, wordsOf, bound}
 use Rattle.grammar.specs.Expr.{Expr, exprItems, Bind, bindItems, Solution, solutionItems}

@@ -3,8 +3,8 @@ use Prim.Native.Nat.{ℕ}
 use Prim.Native.String.{String}
 use mathlib.Core.List.{List, [], _∷_, map}
 use lib.ListN.{replicate}
-use Rattle.text.specs.Bytes.{ascii}
-use Rattle.text.specs.Answer.{Final, accepts, refuses, Said}
+use Rattle.reading.specs.Bytes.{ascii}
+use Rattle.reading.specs.Answer.{Final, accepts, refuses, Said}
 use Rattle.flatten.specs.Operations.{exprWords, flattenFinal}
 use Rattle.reader.specs.Session.{Op, Call, termWords, final, outcome}
 use Rattle.reader.specs.Compute.{readerComputes}

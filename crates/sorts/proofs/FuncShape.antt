@@ -8,11 +8,11 @@ use lib.Dec.{leb}
 use lib.ListN.{length, getD, take, drop, length-append, length-drop}
 use lib.Seq.{getD-drop, drop-drop}
 use borrow.Author.Tests.{leb-true, le-leb, lt-leb}
-use Rattle.text.specs.Limits.{maxFunc}
-use Rattle.text.specs.Number.{Wide, valueOf}
-use Rattle.text.specs.Tree.{Tree, Trees, list, tnil, tcons, trees, treeWords, treesWords}
-use Rattle.text.specs.Answer.{Refusal, Ans, got, bad, andThen, check, malformed, badFunc, over}
-use Rattle.text.proofs.Lexing.Parts.{tail}
+use Rattle.reading.specs.Limits.{maxFunc}
+use Rattle.reading.specs.Number.{Wide, valueOf}
+use Rattle.reading.specs.Tree.{Tree, Trees, list, tnil, tcons, trees, treeWords, treesWords}
+use Rattle.reading.specs.Answer.{Refusal, Ans, got, bad, andThen, check, malformed, badFunc, over}
+use Rattle.lexing.proofs.Lexing.Parts.{tail}
 use Rattle.grammar.specs.Sort.{Sort, Sorts, scons, sorts, sortWords, funcs, abstracted}
 use Rattle.grammar.specs.ParseSort
 use Rattle.grammar.specs.ParseSort.{inList, inAtom, inInteger, integerIn, funcNumber, viewAt, eachSort, funcSort}

@@ -7,8 +7,8 @@ use native.Mathlib.Omega.{arith}
 use native.Mathlib.Nat.{min-eq-left, min-eq-right, le-refl}
 use lib.ListN.{length, take, drop, length-drop, drop-of-length-le}
 use lib.Seq.{sets, take-all}
-use Rattle.text.specs.Answer.{over}
-use Rattle.text.proofs.Over.{over-append, over-more}
+use Rattle.reading.specs.Answer.{over}
+use Rattle.reading.proofs.Over.{over-append, over-more}
 
 -- One of two numbers is at most the other.
 pub order : (a b : ℕ) → (a ≤ b) ⊎ (b ≤ a)

@@ -8,13 +8,13 @@ use lib.Dec.{eqb}
 use lib.ListN.{length, getD, take, drop, length-drop}
 use lib.Seq.{getD-drop}
 use borrow.Author.Tests.{eqb-true}
-use Rattle.text.specs.Pick.{pick}
-use Rattle.text.specs.Bytes.{ascii, sameBytes, beginsWith, Span, bytesAt, Maybe, nothing, just, Named, named, lookup}
-use Rattle.text.specs.Number.{unsigned}
-use Rattle.text.specs.Tree.{symbol, quoted, integer, decimal, boolean, Tree, Trees, atom, list, tnil, tcons, trees, atomWords, treeWords, treesWords}
-use Rattle.text.specs.Answer.{Refusal, number, Ans, got, bad, andThen, orBad, check, malformed}
-use Rattle.text.proofs.Bytes.{same-equal}
-use Rattle.text.proofs.Lexing.Parts.{tail}
+use Rattle.reading.specs.Pick.{pick}
+use Rattle.reading.specs.Bytes.{ascii, sameBytes, beginsWith, Span, bytesAt, Maybe, nothing, just, Named, named, lookup}
+use Rattle.reading.specs.Number.{unsigned}
+use Rattle.reading.specs.Tree.{symbol, quoted, integer, decimal, boolean, Tree, Trees, atom, list, tnil, tcons, trees, atomWords, treeWords, treesWords}
+use Rattle.reading.specs.Answer.{Refusal, number, Ans, got, bad, andThen, orBad, check, malformed}
+use Rattle.reading.proofs.Bytes.{same-equal}
+use Rattle.lexing.proofs.Lexing.Parts.{tail}
 use Rattle.grammar.specs.Sort.{Ctor, cSet, cMap, cData, Sort, Sorts, sBitVec, sSize, sFunc, sApp, snil, scons, sorts, ctorWords, sortWords, sortsWords}
 use Rattle.grammar.specs.Names.{plainSorts, SortForm, func, function, bitVec, applied, oneSort, twoSorts, threeItems}
 use Rattle.grammar.specs.ParseSort

@@ -8,18 +8,18 @@ use lib.Dec.{ltb}
 use lib.ListN.{length, getD, take, drop}
 use lib.Seq.{getD-take}
 use borrow.Author.Tests.{eq-eqb, ne-eqb, ltb-true, ltb-false}
-use Rattle.text.specs.Pick.{pick}
-use Rattle.text.specs.Bytes.{ascii, beginsWith, Span, bytesAt, Maybe, nothing, just, Named, lookup}
-use Rattle.text.specs.Number.{unsigned}
-use Rattle.text.specs.Quads.{asWord32, asWord64}
-use Rattle.text.specs.declared.number.Word32.{Word32}
-use Rattle.text.specs.declared.number.Word64.{Word64}
-use Rattle.text.specs.declared.number.Word64.the-variants as word64
-use Rattle.text.specs.Tree.{Tree, Trees, tnil, tcons, treeWords, treesWords}
-use Rattle.text.specs.Answer.{got, bad, orBad, malformed, over}
-use Rattle.text.proofs.Picks.{pick-true, pick-false}
-use Rattle.text.proofs.Bytes.{same-equal, begins-take, begins-length}
-use Rattle.text.proofs.Lexing.Parts.{tail}
+use Rattle.reading.specs.Pick.{pick}
+use Rattle.reading.specs.Bytes.{ascii, beginsWith, Span, bytesAt, Maybe, nothing, just, Named, lookup}
+use Rattle.reading.specs.Number.{unsigned}
+use Rattle.lexing.specs.Quads.{asWord32, asWord64}
+use Rattle.lexing.specs.declared.number.Word32.{Word32}
+use Rattle.lexing.specs.declared.number.Word64.{Word64}
+use Rattle.lexing.specs.declared.number.Word64.the-variants as word64
+use Rattle.reading.specs.Tree.{Tree, Trees, tnil, tcons, treeWords, treesWords}
+use Rattle.reading.specs.Answer.{got, bad, orBad, malformed, over}
+use Rattle.reading.proofs.Picks.{pick-true, pick-false}
+use Rattle.reading.proofs.Bytes.{same-equal, begins-take, begins-length}
+use Rattle.lexing.proofs.Lexing.Parts.{tail}
 use Rattle.grammar.specs.Sort.{Sort, sorts, two, sortWords}
 use Rattle.grammar.specs.Names.{plainSorts, SortForm, oneSort, twoSorts, threeItems}
 use Rattle.grammar.specs.ParseSort

@@ -4,7 +4,7 @@ use mathlib.Core.Path.{_≡_, sym, ap, _∙_}
 use mathlib.Core.List.{List, _++_}
 use native.Mathlib.Omega.{arith}
 use lib.ListN.{length, take, drop, length-append}
-use Rattle.text.specs.Answer.{Ans, got, bad, andThen, over}
+use Rattle.reading.specs.Answer.{Ans, got, bad, andThen, over}
 use Rattle.sorts.specs.declared.Answer.{Answer}
 use Rattle.sorts.specs.declared.Answer.the-variants.{Done, Refused}
 use Rattle.sorts.specs.Outcome.{Outcome, wrote, refused}

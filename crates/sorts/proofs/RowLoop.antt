@@ -5,10 +5,10 @@ use mathlib.Core.List.{List, [], _++_, append-nil, append-assoc}
 use native.Mathlib.Omega.{arith}
 use lib.ListN.{length, take, drop, length-append, length-drop}
 use lib.Seq.{drop-drop, sets}
-use Rattle.text.specs.Tree.{Tree, Trees, tnil, tcons, treeWords, treesWords}
-use Rattle.text.specs.Answer.{Ans, got, bad, andThen, over}
-use Rattle.text.proofs.Over.{over-more}
-use Rattle.text.proofs.Lexing.Parts.{tail}
+use Rattle.reading.specs.Tree.{Tree, Trees, tnil, tcons, treeWords, treesWords}
+use Rattle.reading.specs.Answer.{Ans, got, bad, andThen, over}
+use Rattle.reading.proofs.Over.{over-more}
+use Rattle.lexing.proofs.Lexing.Parts.{tail}
 use Rattle.grammar.specs.Sort.{Sort, Sorts, scons, sortWords}
 use Rattle.grammar.specs.ParseSort
 use Rattle.grammar.specs.ParseSort.{eachSort}

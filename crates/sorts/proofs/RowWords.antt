@@ -7,8 +7,8 @@ use native.Mathlib.Nat.{add-suc, suc-add, add-zero}
 use native.Mathlib.Numerals.{add-one}
 use lib.ListN.{length, length-append, set}
 use lib.Seq.{sets}
-use Rattle.text.specs.Answer.{over}
-use Rattle.text.proofs.Over.{over-more}
+use Rattle.reading.specs.Answer.{over}
+use Rattle.reading.proofs.Over.{over-more}
 use Rattle.grammar.specs.Sort.{Sort, Sorts, snil, scons, sorts, sortWords, sortsWords, funcs, abstracted}
 use Rattle.sorts.specs.Rows.{mark, rowWords, absWords}
 

@@ -3,8 +3,8 @@ use Prim.Native.Nat.{ℕ, _^_, _<_}
 use mathlib.Core.Path.{_≡_}
 use mathlib.Core.List.{List, _++_}
 use lib.ListN.{length}
-use Rattle.text.specs.Tree.{Tree, Trees, list, trees, treeWords, treesWords}
-use Rattle.text.specs.Answer.{Refusal, number, Ans, got, bad, over}
+use Rattle.reading.specs.Tree.{Tree, Trees, list, trees, treeWords, treesWords}
+use Rattle.reading.specs.Answer.{Refusal, number, Ans, got, bad, over}
 use Rattle.sorts.specs.declared.Answer.{Answer}
 use Rattle.sorts.specs.declared.Answer.the-variants.{Done, Refused}
 

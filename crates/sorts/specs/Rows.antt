@@ -2,8 +2,8 @@
 use Prim.Native.Nat.{ℕ, zero, suc}
 use mathlib.Core.Bool.{Bool, true, false}
 use mathlib.Core.List.{List, [], _∷_, _++_}
-use Rattle.text.specs.Tree.{Trees, tnil, tcons, trees}
-use Rattle.text.specs.Answer.{number, Ans, got, bad, andThen, malformed}
+use Rattle.reading.specs.Tree.{Trees, tnil, tcons, trees}
+use Rattle.reading.specs.Answer.{number, Ans, got, bad, andThen, malformed}
 use Rattle.grammar.specs.Sort.{Sorts, snil, scons, ctorWords, sortWords}
 use Rattle.grammar.specs.Names.{SortForm, func, function, bitVec, applied}
 use Rattle.grammar.specs.ParseSort.{inSymbol, sizeOf, sortForm}

@@ -1,9 +1,9 @@
 -- The names of sorts as the code has them.
 use Prim.Native.Nat.{ℕ}
-use Rattle.text.specs.Bytes.{Maybe, nothing, just}
-use Rattle.text.specs.Answer.{Ans, got, bad, malformed, badFunc}
-use Rattle.text.specs.declared.number.Word32.{Word32}
-use Rattle.text.specs.declared.number.Word32.the-variants as word32
+use Rattle.reading.specs.Bytes.{Maybe, nothing, just}
+use Rattle.reading.specs.Answer.{Ans, got, bad, malformed, badFunc}
+use Rattle.lexing.specs.declared.number.Word32.{Word32}
+use Rattle.lexing.specs.declared.number.Word32.the-variants as word32
 use Rattle.grammar.specs.Sort.{cSet, cMap, cData, Sort, sInt, sBool, sReal, sStr}
 use Rattle.grammar.specs.Names.{SortForm, func, function, bitVec, applied}
 use Rattle.sorts.specs.declared.names.Plain.{Plain}

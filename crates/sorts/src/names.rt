@@ -1,18 +1,18 @@
 // The names of sorts.
 ghost use mathlib.Core.Path.{_≡_};
-ghost use Rattle.text.specs.Bytes.{Span, lookup};
-ghost use Rattle.text.specs.Answer.{got, orBad, malformed};
-ghost use Rattle.text.specs.Quads.{asWord64};
+ghost use Rattle.reading.specs.Bytes.{Span, lookup};
+ghost use Rattle.reading.specs.Answer.{got, orBad, malformed};
+ghost use Rattle.lexing.specs.Quads.{asWord64};
 ghost use Rattle.grammar.specs.Names.{plainSorts, oneSort, twoSorts, threeItems};
 ghost use Rattle.grammar.specs.ParseSort.{sizeNamed, indexNamed, orApplied, sortForm};
 ghost use Rattle.sorts.specs.SortNames.{plainIn, formIn, widthIn};
 use crate::span::bytes_at;
-use text::byte::begins_with;
-use text::byte::same;
-use text::number::Word32;
-use text::number::Word64;
-use text::number::u32_of;
-use text::number::u64_of;
+use lexing::byte::begins_with;
+use lexing::byte::same;
+use lexing::number::Word32;
+use lexing::number::Word64;
+use lexing::number::u32_of;
+use lexing::number::u64_of;
 
 // A sort that is a name, or another name.
 pub enum Plain {

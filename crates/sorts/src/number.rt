@@ -1,7 +1,7 @@
 // Small steps on numbers.
 ghost use mathlib.Core.Path.{_≡_};
 ghost use Prim.Native.Nat.{_-_, _/_, _%_, _^_, _<_, min};
-use text::quad::WORD;
+use lexing::quad::WORD;
 
 // A word as a length.
 pub fn wide(w: u32) -> usize

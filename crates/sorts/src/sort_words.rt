@@ -4,15 +4,15 @@ ghost use mathlib.Core.List.{[], _∷_};
 ghost use Prim.Native.Nat.{_+_, _^_, _≤_, _<_};
 ghost use lib.ListN.{length};
 ghost use lib.Seq.{sets};
-ghost use Rattle.text.specs.Limits.{maxFunc};
-ghost use Rattle.text.specs.Answer.{over};
+ghost use Rattle.reading.specs.Limits.{maxFunc};
+ghost use Rattle.reading.specs.Answer.{over};
 ghost use Rattle.grammar.specs.Sort.{two};
 ghost use Rattle.sorts.specs.SortNames.{rowForm};
 ghost use Rattle.sorts.specs.Rows.{mark, absWords, rowHead};
 use crate::names::Row;
 use crate::number::high;
 use crate::number::low;
-use text::words::put;
+use lexing::words::put;
 
 // The kinds of sorts.
 pub const INT: u32 = 1;

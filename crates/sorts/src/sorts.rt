@@ -1,9 +1,9 @@
 // The sort that a tree is: `sort`, `list_sort` and `func_sort` call one another, over exactly the words of their tree or trees.
 // A loop goes over the trees that stand side by side, and the rest of the output is lent on.
 ghost use mathlib.Core.Path.{_≡_};
-ghost use Rattle.text.specs.Bytes.{Span, nothing};
-ghost use Rattle.text.specs.Number.{Wide};
-ghost use Rattle.text.specs.Tree.{Tree, Trees, list, trees, treeWords, treesWords};
+ghost use Rattle.reading.specs.Bytes.{Span, nothing};
+ghost use Rattle.reading.specs.Number.{Wide};
+ghost use Rattle.reading.specs.Tree.{Tree, Trees, list, trees, treeWords, treesWords};
 ghost use Rattle.grammar.specs.Sort.{sortWords};
 ghost use Rattle.grammar.specs.ParseSort.{otherSort, symbolSort, funcNumber, eachSort, funcSort, views, parseSort};
 ghost use Rattle.sorts.specs.SortNames.{formIn, rowForm, arityIn};
@@ -36,9 +36,9 @@ use crate::tree::INTEGER;
 use crate::tree::LIST;
 use crate::tree::SYMBOL;
 use crate::tree::node_words;
-use text::byte::begins_with;
-use text::number::Word32;
-use text::number::Word64;
+use lexing::byte::begins_with;
+use lexing::number::Word32;
+use lexing::number::Word64;
 
 // The largest number of a `func`.
 const MAX_FUNC: u32 = 64;

@@ -1,6 +1,6 @@
 // Names in the text.
 ghost use mathlib.Core.Path.{_≡_};
-ghost use Rattle.text.specs.Bytes.{Span, bytesAt};
+ghost use Rattle.reading.specs.Bytes.{Span, bytesAt};
 use crate::number::least;
 use crate::number::wide;
 

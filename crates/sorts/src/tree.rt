@@ -3,7 +3,7 @@ ghost use mathlib.Core.Path.{_≡_};
 ghost use mathlib.Core.List.{List, _++_};
 ghost use Prim.Native.Nat.{ℕ};
 ghost use lib.ListN.{length};
-ghost use Rattle.text.specs.Tree.{Tree, treeWords};
+ghost use Rattle.reading.specs.Tree.{Tree, treeWords};
 ghost use Rattle.sorts.specs.Outcome.{Begins};
 use crate::number::wide;
 

@@ -1,16 +1,1 @@
-pub mod Picks
-pub mod Bytes
-pub mod Token
-pub mod Read
-pub mod Over
-pub mod Weight
-pub mod ReadWeight
-pub mod Placed
-pub mod TreeBack
-pub mod Finish
-pub mod Wider
-pub mod TextTree
-pub mod Cases
-pub mod Lexing
-pub mod Finding
 pub mod Looping

@@ -3,5 +3,4 @@ pub mod Stack
 pub mod Held
 pub mod WhichToken
 pub mod Turn
-pub mod Zeros
 pub mod Final

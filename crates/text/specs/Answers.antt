@@ -1,5 +1,5 @@
 -- What is said, as the code answers it.
-use Rattle.text.specs.Answer.{Said, accepted, refused}
+use Rattle.reading.specs.Answer.{Said, accepted, refused}
 use Rattle.text.specs.declared.Answer.{Answer}
 use Rattle.text.specs.declared.Answer.the-variants.{Accepted, Refused}
 

@@ -4,9 +4,9 @@ use mathlib.Core.Bool.{Bool}
 use mathlib.Core.Path.{_≡_}
 use mathlib.Core.List.{List}
 use lib.ListN.{length}
-use Rattle.text.specs.Answer.{number, Ans, got, bad, over, zeros}
-use Rattle.text.specs.Tree.{trees}
-use Rattle.text.specs.Reading.{Read, reading, expressions, readWords, readSaid, readOut}
+use Rattle.reading.specs.Answer.{number, Ans, got, bad, over, zeros}
+use Rattle.reading.specs.Tree.{trees}
+use Rattle.reading.specs.Reading.{Read, reading, expressions, readWords, readSaid, readOut}
 use Rattle.text.specs.Answers.{asAnswer}
 use Rattle.text.specs.declared.Answer.{Answer}
 use Rattle.text.specs.declared.Answer.the-variants as Answers

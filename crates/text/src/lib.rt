@@ -1,21 +1,12 @@
-// The text reader: S-expressions in bytes to the words of their trees. A tree's words are those of
-// specs/Tree.antt, and what is read, and every refusal, is defined in specs/Reading.antt.
+// The text reader: S-expressions in bytes to the words of their trees. The definitions are in crates/reading/specs: Tree.antt says which words
+// a tree has, Reading.antt what is read, and every refusal.
 ghost use mathlib.Core.Bool.{true, false};
 ghost use mathlib.Core.Path.{_≡_};
-ghost use Rattle.text.specs.Reading.{readSaid, readOut};
+ghost use Rattle.reading.specs.Reading.{readSaid, readOut};
 ghost use Rattle.text.specs.Answers.{asAnswer};
 
-pub mod byte;
-mod decimal;
-mod integer;
-pub mod number;
 mod operation;
-pub mod quad;
 mod scan;
-mod space;
-pub mod tokens;
-mod utf8;
-pub mod words;
 
 use crate::operation::run;
 

@@ -1,13 +1,13 @@
 // Read one and read all are one operation.
 ghost use mathlib.Core.Path.{_≡_};
-ghost use Rattle.text.specs.Reading.{readSaid, readOut};
+ghost use Rattle.reading.specs.Reading.{readSaid, readOut};
 ghost use Rattle.text.specs.Answers.{asAnswer};
 ghost use Rattle.text.specs.Scanned.{Attempted};
 use crate::Answer;
 use crate::scan::Outcome;
 use crate::scan::scan;
-use crate::utf8::is_utf8;
-use crate::words::clear;
+use lexing::utf8::is_utf8;
+use lexing::words::clear;
 
 // How many bytes a text may have.
 const MAX_BYTES: usize = 32768;

@@ -4,13 +4,13 @@ ghost use Prim.Native.Nat.{_^_, _≤_, _<_};
 ghost use mathlib.Core.List.{[], _∷_};
 ghost use lib.ListN.{length};
 ghost use lib.Seq.{sets};
-ghost use Rattle.text.specs.Limits.{maxBytes};
-ghost use Rattle.text.specs.Reading.{mayFollow};
+ghost use Rattle.reading.specs.Limits.{maxBytes};
+ghost use Rattle.reading.specs.Reading.{mayFollow};
 ghost use Rattle.text.specs.Scanned.{Scanned};
-use crate::tokens::Token;
-use crate::tokens::token_at;
-use crate::words::put;
-use crate::words::put_words;
+use lexing::tokens::Token;
+use lexing::tokens::token_at;
+use lexing::words::put;
+use lexing::words::put_words;
 
 // How many lists may be open.
 const MAX_LISTS: usize = 64;

@@ -8,8 +8,8 @@ use lib.Dec.{eqb}
 use lib.ListN.{length, getD, drop, length-append}
 use lib.Seq.{drop-drop, drop-at}
 use borrow.Author.Tests.{eqb-true, eq-eqb}
-use Rattle.text.specs.Pick.{pick}
-use Rattle.text.specs.Tree.{Tree, Trees, atom, list, tnil, tcons, trees, treeWords, treesWords}
+use Rattle.reading.specs.Pick.{pick}
+use Rattle.reading.specs.Tree.{Tree, Trees, atom, list, tnil, tcons, trees, treeWords, treesWords}
 use Rattle.grammar.specs.ParseExpr
 use Rattle.grammar.specs.ParseExpr.{atomChild}
 use Rattle.exprs.specs.Spot.{Spot}

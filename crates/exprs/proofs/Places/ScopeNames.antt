@@ -9,10 +9,10 @@ use lib.Dec.{ltb}
 use lib.ListN.{length, getD, drop}
 use lib.Seq.{drop-drop, drop-at}
 use borrow.Author.Tests.{lt-ltb, le-ltb, ltb-true, ltb-false}
-use Rattle.text.specs.Limits.{maxLists}
-use Rattle.text.specs.Pick.{pick}
-use Rattle.text.specs.Bytes.{Span, nothing, just}
-use Rattle.text.specs.Tree.{Tree, Trees, atomWords, symbol, atom, list, tnil, tcons, trees, treeWords, treesWords}
+use Rattle.reading.specs.Limits.{maxLists}
+use Rattle.reading.specs.Pick.{pick}
+use Rattle.reading.specs.Bytes.{Span, nothing, just}
+use Rattle.reading.specs.Tree.{Tree, Trees, atomWords, symbol, atom, list, tnil, tcons, trees, treeWords, treesWords}
 use Rattle.grammar.specs.Scope.{Scope, sameName, numberAmong, numberIn, isAmong, repeated}
 use Rattle.exprs.specs.Spot.{Spot}
 use Rattle.exprs.specs.Scopes.{Named, none, more, NameList, Pairs, IsScope, Opened, OpenScopes, blank, placeAmong, Meant}

@@ -7,8 +7,8 @@ use native.Mathlib.Omega.{arith}
 use native.Mathlib.Nat.{add-zero, le-max-left}
 use lib.ListN.{length, getD, drop, length-append, length-drop}
 use lib.Seq.{getD-drop, drop-drop}
-use Rattle.text.specs.Pick.{pick}
-use Rattle.text.specs.Tree.{Tree, Trees, atom, list, tnil, tcons, trees, treeWords, nesting}
+use Rattle.reading.specs.Pick.{pick}
+use Rattle.reading.specs.Tree.{Tree, Trees, atom, list, tnil, tcons, trees, treeWords, nesting}
 use Rattle.grammar.specs.ParseExpr
 use Rattle.grammar.specs.ParseExpr.{through, atomChild}
 use Rattle.exprs.specs.Spot.{Spot, Seen}

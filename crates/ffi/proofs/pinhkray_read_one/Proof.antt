@@ -1,6 +1,6 @@
 use mathlib.Core.Bool.{false}
 use mathlib.Core.Path.{sym, _∙_}
-use Rattle.text.specs.Reading.{readSaid}
+use Rattle.reading.specs.Reading.{readSaid}
 use Rattle.ffi.proofs.Replies.{accepted-reply, refused-reply}
 use borrow.Author.Needs.{needs}
 use Rattle.ffi.proofs.pinhkray_read_one.Statement.{statement}

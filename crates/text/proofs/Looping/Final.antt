@@ -6,18 +6,18 @@ use mathlib.Core.List.{List}
 use native.Mathlib.Omega.{arith}
 use lib.ListN.{length, replicate}
 use borrow.Author.Tests.{le-leb, lt-leb}
-use Rattle.text.specs.Limits.{maxBytes}
-use Rattle.text.specs.Answer.{Refusal, number, noRoom, Ans, got, bad, lifted, accepts, refuses, finish, fitsIn, accepted, zeros, over, outputOf, saidOf}
-use Rattle.text.specs.Utf8.{utf8}
-use Rattle.text.specs.Tree.{trees}
-use Rattle.text.specs.Reading.{Read, readText, readWords, readReport, readFinal, readSaid, readOut}
+use Rattle.reading.specs.Limits.{maxBytes}
+use Rattle.reading.specs.Answer.{Refusal, number, noRoom, Ans, got, bad, lifted, accepts, refuses, finish, fitsIn, accepted, zeros, over, outputOf, saidOf}
+use Rattle.reading.specs.Utf8.{utf8}
+use Rattle.reading.specs.Tree.{trees}
+use Rattle.reading.specs.Reading.{Read, readText, readWords, readReport, readFinal, readSaid, readOut}
 use Rattle.text.specs.Answers.{asAnswer}
 use Rattle.text.specs.Scanned.{scanOf, asOutcome, Left, Scanned, Uncleared, Attempted}
 use Rattle.text.specs.declared.Answer.{Answer}
 use Rattle.text.specs.declared.Answer.the-variants as Answers
 use Rattle.text.specs.declared.scan.Outcome.{Outcome}
 use Rattle.text.specs.declared.scan.Outcome.the-variants as Outcomes
-use Rattle.text.proofs.Finish.{finish-short, finish-long}
+use Rattle.reading.proofs.Finish.{finish-short, finish-long}
 
 module _ {all : Bool} {text out out′ : List ℕ} where
   refusal : {n : ℕ} → readFinal all text out ≡ refuses n → Attempted all text out out′ (Answers.Refused n)

@@ -6,8 +6,8 @@ use native.Mathlib.Numerals.{add-one}
 use native.Mathlib.Omega.{arith}
 use lib.ListN.{length, set, getD, length-append}
 use lib.Seq.{sets, getD-set-other, getD-set-same}
-use Rattle.text.specs.Tree.{Tree, Trees, atom, list, tnil, tcons, trees, treeWords, treesWords}
-use Rattle.text.proofs.Token.{atom-size}
+use Rattle.reading.specs.Tree.{Tree, Trees, atom, list, tnil, tcons, trees, treeWords, treesWords}
+use Rattle.reading.proofs.Token.{atom-size}
 use Rattle.text.proofs.Looping.Stack.{snoc}
 
 -- A list that is open has zeros for its two numbers.

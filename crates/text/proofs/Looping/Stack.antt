@@ -6,13 +6,13 @@ use mathlib.Core.Path.{_≡_, refl, ap, _∙_}
 use mathlib.Core.List.{List, [], _∷_}
 use lib.ListN.{length, drop}
 use borrow.Author.Tests.{lt-ltb, le-ltb}
-use Rattle.text.specs.Limits.{maxLists}
-use Rattle.text.specs.Answer.{Refusal, endsEarly, strayClose, unclosed, tooDeep, Ans, got, bad}
-use Rattle.text.specs.Tree.{Atom, Tree, Trees, atom, list, tnil, tcons}
-use Rattle.text.specs.Token.{Token, blank, opens, closes, word, unfinished, tokenAt}
-use Rattle.text.specs.Reading.{Found, met, found, thenFind, inFront, mayFollow, goOn, openList, closeList, textEnds, fromToken, Read, reading}
+use Rattle.reading.specs.Limits.{maxLists}
+use Rattle.reading.specs.Answer.{Refusal, endsEarly, strayClose, unclosed, tooDeep, Ans, got, bad}
+use Rattle.reading.specs.Tree.{Atom, Tree, Trees, atom, list, tnil, tcons}
+use Rattle.reading.specs.Token.{Token, blank, opens, closes, word, unfinished, tokenAt}
+use Rattle.reading.specs.Reading.{Found, met, found, thenFind, inFront, mayFollow, goOn, openList, closeList, textEnds, fromToken, Read, reading}
 use Rattle.text.specs.Scanned.{scanOf}
-use Rattle.text.proofs.Finding.Grammar.{expressionsOf, expressions-nil, expressions-cons}
+use Rattle.reading.proofs.Finding.Grammar.{expressionsOf, expressions-nil, expressions-cons}
 
 joined : Trees → Trees → Trees
 joined tnil us = us

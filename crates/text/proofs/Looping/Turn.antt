@@ -7,18 +7,18 @@ use native.Mathlib.Numerals.{add-one}
 use native.Mathlib.Omega.{arith}
 use lib.ListN.{length, set, getD, take, drop, length-append, length-set, length-drop, drop-of-length-le}
 use lib.Seq.{sets, drop-cons, drop-drop}
-use Rattle.text.specs.Limits.{maxLists}
-use Rattle.text.specs.Answer.{Refusal, number, endsEarly, strayClose, unclosed, tooDeep, got, bad, over}
-use Rattle.text.specs.Tree.{Tree, Trees, atom, list, tnil, trees, atomWords, treeWords, treesWords}
-use Rattle.text.specs.Token.{Token, tokenAt}
-use Rattle.text.specs.TokenWords.{asToken}
-use Rattle.text.specs.Reading.{mayFollow}
+use Rattle.reading.specs.Limits.{maxLists}
+use Rattle.reading.specs.Answer.{Refusal, number, endsEarly, strayClose, unclosed, tooDeep, got, bad, over}
+use Rattle.reading.specs.Tree.{Tree, Trees, atom, list, tnil, trees, atomWords, treeWords, treesWords}
+use Rattle.reading.specs.Token.{Token, tokenAt}
+use Rattle.lexing.specs.TokenWords.{asToken}
+use Rattle.reading.specs.Reading.{mayFollow}
 use Rattle.text.specs.Scanned.{scanOf, Scanned}
-use Rattle.text.specs.declared.tokens.Words.{Words}
-use Rattle.text.specs.declared.tokens.Token.the-variants as Tokens
+use Rattle.lexing.specs.declared.tokens.Words.{Words}
+use Rattle.lexing.specs.declared.tokens.Token.the-variants as Tokens
 use Rattle.text.specs.declared.scan.Outcome.the-variants as Outcomes
-use Rattle.text.proofs.Token.{atom-size, blank-le, word-le}
-use Rattle.text.proofs.Over.{over-more, over-sets, over-length}
+use Rattle.reading.proofs.Token.{atom-size, blank-le, word-le}
+use Rattle.reading.proofs.Over.{over-more, over-sets, over-length}
 use Rattle.text.proofs.Looping.WhichToken.{five, is-blank, is-opens, is-closes, is-unfinished, is-leaf}
 use Rattle.text.proofs.Looping.Stack.{snoc, toCome, come-start, come-done, come-all, come-none, come-inside, come-blank, come-unfinished, come-open, come-deep, come-stray, come-close, come-word}
 use Rattle.text.proofs.Looping.Held.{stackWords, stack-snoc, stack-length, stack-trees, stack-close, Held, held-start, held-open, held-tree, held-off, held-count, held-around}

@@ -4,11 +4,11 @@ use mathlib.Core.Path.{_≡_, refl, ap, _∙_}
 use mathlib.Core.List.{List, [], _∷_}
 use native.Mathlib.Omega.{arith}
 use lib.ListN.{length, take}
-use Rattle.text.specs.Tree.{Atom, symbol, quoted, integer, decimal, boolean, atomWords}
-use Rattle.text.specs.Token.{Token, blank, opens, closes, word, unfinished}
-use Rattle.text.specs.TokenWords.{asWords, asToken}
-use Rattle.text.specs.declared.tokens.Words.{Words}
-use Rattle.text.specs.declared.tokens.Token.the-variants as Tokens
+use Rattle.reading.specs.Tree.{Atom, symbol, quoted, integer, decimal, boolean, atomWords}
+use Rattle.reading.specs.Token.{Token, blank, opens, closes, word, unfinished}
+use Rattle.lexing.specs.TokenWords.{asWords, asToken}
+use Rattle.lexing.specs.declared.tokens.Words.{Words}
+use Rattle.lexing.specs.declared.tokens.Token.the-variants as Tokens
 
 -- White space.
 pub is-blank : (at next : ℕ) (t : Token) → asToken at t ≡ Tokens.Blank next → (m : ℕ) × (t ≡ blank m) × (next ≡ at + suc m)

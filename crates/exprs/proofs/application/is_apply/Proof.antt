@@ -1,6 +1,6 @@
 use native.Mathlib.Omega.{arith}
 use mathlib.Core.Path.{ap, _∙_}
-use Rattle.text.specs.Bytes.{ascii, sameBytes}
+use Rattle.reading.specs.Bytes.{ascii, sameBytes}
 use Rattle.exprs.proofs.Places.Spots.{two-there}
 use Rattle.exprs.proofs.Applied.{apply-other, apply-here, symbol-there}
 use borrow.Author.Needs.{needs}
@@ -9,7 +9,7 @@ use Rattle.exprs.proofs.application.is_apply.Tie as tie
 use Rattle.exprs.proofs.application.is_apply.Reads as reads
 use Rattle.exprs.proofs.application.is_apply.Lts as lts
 use Rattle.sorts.proofs.span.bytes_at.Reads as bytes-at-reads
-use Rattle.text.proofs.byte.same.Reads as same-reads
+use Rattle.lexing.proofs.byte.same.Reads as same-reads
 
 -- src/application.rt:27:8
 mul-if1 : tie.Need-mul-if1

@@ -1,7 +1,7 @@
 use mathlib.Core.List.{[], _∷_}
 use native.Mathlib.Omega.{arith}
-use Rattle.text.specs.Quads.{asWide}
-use Rattle.text.proofs.Lexing.Signs.{value-under, value-over}
+use Rattle.lexing.specs.Quads.{asWide}
+use Rattle.lexing.proofs.Lexing.Signs.{value-under, value-over}
 use Rattle.exprs.proofs.LeafCode.{numeral-plus, numeral-minus}
 use Rattle.exprs.proofs.Laid.{put-append}
 use borrow.Author.Needs.{needs}

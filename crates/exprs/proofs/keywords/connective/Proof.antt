@@ -1,8 +1,8 @@
 use mathlib.Core.Path.{_≡_, refl}
 use mathlib.Core.Bool.{true, false}
 use lib.ListN.{drop}
-use Rattle.text.specs.Bytes.{Maybe, lookup}
-use Rattle.text.proofs.Bytes.{lookup-here, lookup-later, lookup-none}
+use Rattle.reading.specs.Bytes.{Maybe, lookup}
+use Rattle.reading.proofs.Bytes.{lookup-here, lookup-later, lookup-none}
 use Rattle.grammar.specs.Expr.{kIff, kImp, kindItems}
 use Rattle.grammar.specs.Names.{Form, keywords}
 use Rattle.exprs.proofs.FormCode.{keyword-is, keyword-not}

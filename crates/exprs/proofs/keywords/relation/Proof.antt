@@ -1,7 +1,7 @@
 use mathlib.Core.Path.{_≡_, refl}
 use lib.ListN.{drop}
-use Rattle.text.specs.Bytes.{Maybe, lookup}
-use Rattle.text.proofs.Bytes.{lookup-here, lookup-later}
+use Rattle.reading.specs.Bytes.{Maybe, lookup}
+use Rattle.reading.proofs.Bytes.{lookup-here, lookup-later}
 use Rattle.grammar.specs.Expr.{kAtom, relEq, relGe, relGt, relLe, relLt, relNe, kindItems}
 use Rattle.grammar.specs.Names.{Form, keywords}
 use Rattle.exprs.proofs.FormCode.{keyword-is, rest-says}

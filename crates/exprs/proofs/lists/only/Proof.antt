@@ -1,6 +1,6 @@
 use borrow.Author.Tests.{lt-ltb, le-ltb}
 use mathlib.Core.Path.{refl}
-use Rattle.text.specs.Pick.{pick}
+use Rattle.reading.specs.Pick.{pick}
 use borrow.Author.Needs.{needs}
 use Rattle.exprs.proofs.lists.only.Statement.{statement}
 use Rattle.exprs.proofs.lists.only.Tie as tie

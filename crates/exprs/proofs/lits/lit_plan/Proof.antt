@@ -1,6 +1,6 @@
 use native.Mathlib.Omega.{arith}
 use mathlib.Core.Path.{refl, sym, ap, _∙_}
-use Rattle.text.specs.Answer.{orBad, malformed, badLiteral}
+use Rattle.reading.specs.Answer.{orBad, malformed, badLiteral}
 use Rattle.sorts.specs.SortNames.{widthIn}
 use Rattle.exprs.specs.FormNames.{bitsIn}
 use Rattle.exprs.specs.Plans.{refused}

@@ -1,6 +1,6 @@
 use native.Mathlib.Omega.{arith}
 use borrow.Author.Tests.{eq-eqb, ne-eqb}
-use Rattle.text.specs.Pick.{pick}
+use Rattle.reading.specs.Pick.{pick}
 use Rattle.exprs.proofs.Places.Spots.{two-there}
 use Rattle.exprs.proofs.place.node_at.Statement.{statement}
 use Rattle.exprs.proofs.place.node_at.Tie as tie

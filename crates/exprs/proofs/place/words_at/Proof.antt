@@ -1,6 +1,6 @@
 use native.Mathlib.Omega.{arith}
 use mathlib.Core.Path.{_∙_}
-use Rattle.text.proofs.Lexing.Parts.{tail}
+use Rattle.lexing.proofs.Lexing.Parts.{tail}
 use Rattle.exprs.proofs.Places.Spots.{two-there}
 use borrow.Author.Needs.{needs}
 use Rattle.exprs.proofs.place.words_at.Statement.{statement}

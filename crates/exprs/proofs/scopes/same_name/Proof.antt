@@ -6,7 +6,7 @@ use Rattle.exprs.proofs.scopes.same_name.Tie as tie
 use Rattle.exprs.proofs.scopes.same_name.Reads as reads
 use Rattle.exprs.proofs.scopes.same_name.Lts as lts
 use Rattle.sorts.proofs.span.bytes_at.Reads as bytes-at-reads
-use Rattle.text.proofs.byte.same.Reads as same-reads
+use Rattle.lexing.proofs.byte.same.Reads as same-reads
 
 -- src/scopes.rt:51:10
 bytes-at-requires : tie.Need-bytes-at-requires

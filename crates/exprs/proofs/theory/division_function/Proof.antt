@@ -1,8 +1,8 @@
 use Prim.Native.Nat.{ℕ}
 use mathlib.Core.Path.{_≡_, refl}
 use lib.ListN.{drop}
-use Rattle.text.specs.Bytes.{Maybe, lookup}
-use Rattle.text.proofs.Bytes.{lookup-here, lookup-later}
+use Rattle.reading.specs.Bytes.{Maybe, lookup}
+use Rattle.reading.proofs.Bytes.{lookup-here, lookup-later}
 use Rattle.grammar.specs.Names.{theory}
 use Rattle.exprs.proofs.theory.division_function.Statement.{statement}
 use Rattle.exprs.proofs.theory.division_function.Tie as tie

@@ -5,7 +5,7 @@ use Rattle.flatten.proofs.operation.attempt.Statement.{statement}
 use Rattle.flatten.proofs.operation.attempt.Tie as tie
 use Rattle.flatten.proofs.operation.attempt.Reads as reads
 use Rattle.flatten.proofs.operation.attempt.Lts as lts
-use Rattle.flatten.proofs.judge.judge.Reads as judge-reads
+use Rattle.judge.proofs.expr_words.judge.Reads as judge-reads
 use Rattle.flatten.proofs.write.flat.Reads as flat-reads
 
 -- src/operation.rt:23:11

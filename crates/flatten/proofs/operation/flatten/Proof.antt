@@ -6,7 +6,7 @@ use Rattle.flatten.proofs.operation.flatten.Tie as tie
 use Rattle.flatten.proofs.operation.flatten.Reads as reads
 use Rattle.flatten.proofs.operation.flatten.Lts as lts
 use Rattle.flatten.proofs.operation.attempt.Reads as attempt-reads
-use Rattle.text.proofs.words.clear.Reads as clear-reads
+use Rattle.lexing.proofs.words.clear.Reads as clear-reads
 
 -- src/operation.rt:40:11
 attempt-requires : tie.Need-attempt-requires

@@ -3,9 +3,9 @@ use mathlib.Core.Path.{_≡_, refl, sym, _∙_}
 use native.Mathlib.Omega.{arith}
 use lib.ListN.{length}
 use Rattle.grammar.specs.Expr.{Expr, Exprs}
-use Rattle.flatten.specs.Judge.{reads}
+use Rattle.judge.specs.Judge.{reads}
 use Rattle.flatten.specs.Operations.{noText}
-use Rattle.flatten.proofs.ReadExpr.{siblings}
+use Rattle.judge.proofs.ReadExpr.{siblings}
 use Rattle.flatten.proofs.WriteSteps.{LeftExprs, exprs-all, exprs-next, exprs-none, flat-no-room, flat-no-header, flat-operands, flat-arguments, arguments-joined, chain-no-room, chain-no-header, chain-lone, chain-on}
 use Prim.Native.Nat.{ℕ, _<_, _+_, _*_, _≤_}
 use borrow.Fn.Kinds.{In}
@@ -22,9 +22,9 @@ use Rattle.flatten.proofs.write.+all_arguments+chain+flat+flats.Lts-fla
 use Rattle.flatten.proofs.write.flats.Reads as flats
 use Rattle.flatten.proofs.write.flats.Kinds as flats-kinds
 use Rattle.flatten.proofs.write.+all_arguments+chain+flat+flats.Lts-flats as flats-lts
-use Rattle.flatten.proofs.judge.exprs_end.Reads as exprs-end-reads
-use Rattle.flatten.proofs.judge.head.Reads as head-reads
-use Rattle.flatten.proofs.judge.out_sort.Reads as out-sort-reads
+use Rattle.judge.proofs.expr_words.exprs_end.Reads as exprs-end-reads
+use Rattle.judge.proofs.expr_words.head.Reads as head-reads
+use Rattle.judge.proofs.expr_words.out_sort.Reads as out-sort-reads
 use Rattle.flatten.proofs.write.added.Reads as added-reads
 use Rattle.flatten.proofs.write.behind.Reads as behind-reads
 use Rattle.flatten.proofs.write.copy.Reads as copy-reads

@@ -5,7 +5,7 @@ use Rattle.flatten.proofs.write.patch.Statement.{statement}
 use Rattle.flatten.proofs.write.patch.Tie as tie
 use Rattle.flatten.proofs.write.patch.Reads as reads
 use Rattle.flatten.proofs.write.patch.Lts as lts
-use Rattle.text.proofs.words.put.Reads as put-reads
+use Rattle.lexing.proofs.words.put.Reads as put-reads
 
 -- src/write.rt:91:16
 add-result : tie.Need-add-result

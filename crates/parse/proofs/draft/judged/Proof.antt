@@ -1,5 +1,5 @@
 use mathlib.Core.Path.{refl}
-use Rattle.text.specs.Pick.{pick}
+use Rattle.reading.specs.Pick.{pick}
 use borrow.Author.Tests.{lt-ltb, le-ltb}
 use borrow.Author.Needs.{needs}
 use Rattle.parse.proofs.draft.judged.Statement.{statement}

@@ -4,7 +4,7 @@ use Rattle.parse.proofs.draft.shut.Statement.{statement}
 use Rattle.parse.proofs.draft.shut.Tie as tie
 use Rattle.parse.proofs.draft.shut.Reads as reads
 use Rattle.parse.proofs.draft.shut.Lts as lts
-use Rattle.text.proofs.words.clear.Reads as clear-reads
+use Rattle.lexing.proofs.words.clear.Reads as clear-reads
 
 -- src/draft.rt:148:5
 clear-requires : tie.Need-clear-requires

@@ -4,7 +4,7 @@ use Rattle.parse.proofs.ending.close.Statement.{statement}
 use Rattle.parse.proofs.ending.close.Tie as tie
 use Rattle.parse.proofs.ending.close.Reads as reads
 use Rattle.parse.proofs.ending.close.Lts as lts
-use Rattle.text.proofs.words.clear.Reads as clear-reads
+use Rattle.lexing.proofs.words.clear.Reads as clear-reads
 
 -- src/ending.rt:51:5
 clear-requires : tie.Need-clear-requires

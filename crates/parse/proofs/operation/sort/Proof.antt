@@ -8,7 +8,7 @@ use Rattle.parse.proofs.operation.sort.Tie as tie
 use Rattle.parse.proofs.operation.sort.Reads as reads
 use Rattle.parse.proofs.operation.sort.Lts as lts
 use Rattle.parse.proofs.operation.attempt_sort.Reads as attempt-sort-reads
-use Rattle.text.proofs.words.clear.Reads as clear-reads
+use Rattle.lexing.proofs.words.clear.Reads as clear-reads
 
 -- src/operation.rt:36:11
 attempt-sort-requires : tie.Need-attempt-sort-requires

@@ -17,8 +17,8 @@ use Rattle.exprs.proofs.place.through.Reads as through-reads
 use Rattle.exprs.proofs.place.words_at.Reads as words-at-reads
 use Rattle.parse.proofs.preds.kvar.Reads as kvar-reads
 use Rattle.sorts.proofs.span.bytes_at.Reads as bytes-at-reads
-use Rattle.text.proofs.byte.begins_with.Reads as begins-with-reads
-use Rattle.text.proofs.byte.same.Reads as same-reads
+use Rattle.lexing.proofs.byte.begins_with.Reads as begins-with-reads
+use Rattle.lexing.proofs.byte.same.Reads as same-reads
 
 -- src/preds.rt:106:32
 node-at-requires : tie.Need-node-at-requires

@@ -12,7 +12,7 @@ use Rattle.parse.proofs.preds.preds.Reads as reads
 use Rattle.parse.proofs.preds.preds.Lts as lts
 use Rattle.exprs.proofs.place.words_at.Reads as words-at-reads
 use Rattle.parse.proofs.preds.pred.Reads as pred-reads
-use Rattle.text.proofs.words.put.Reads as put-reads
+use Rattle.lexing.proofs.words.put.Reads as put-reads
 
 abbrev Inv-loop : tie.InvT-loop
 Inv-loop text tree at count out₀ w end p₀ v₀ next₀ n₀ out p v next n = (length out ≡ length out₀) × ((h : PredHere text tree at (w + 1) 0) → Reading text count tree at w end h out₀ out p v next n)

@@ -1,7 +1,7 @@
 use mathlib.Core.Path.{_≡_, refl}
 use lib.ListN.{drop}
-use Rattle.text.specs.Bytes.{Maybe, lookup}
-use Rattle.text.proofs.Bytes.{lookup-here, lookup-later, lookup-none}
+use Rattle.reading.specs.Bytes.{Maybe, lookup}
+use Rattle.reading.proofs.Bytes.{lookup-here, lookup-later, lookup-none}
 use Rattle.grammar.specs.Sort.{Sort}
 use Rattle.grammar.specs.Names.{plainSorts}
 use Rattle.sorts.proofs.names.plain_sort.Statement.{statement}

@@ -1,8 +1,8 @@
 use mathlib.Core.Path.{sym, _∙_, refl}
 use native.Mathlib.Omega.{arith}
 use borrow.Author.Tests.{not-true, not-false}
-use Rattle.text.specs.Bytes.{ascii}
-use Rattle.text.proofs.Bytes.{begins-length}
+use Rattle.reading.specs.Bytes.{ascii}
+use Rattle.reading.proofs.Bytes.{begins-length}
 use Rattle.sorts.proofs.NamedSorts.{size-not, size-is}
 use borrow.Author.Needs.{needs}
 use Rattle.sorts.proofs.names.size_named.Statement.{statement}

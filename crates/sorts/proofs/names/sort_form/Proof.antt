@@ -1,7 +1,7 @@
 use mathlib.Core.Path.{ap, _∙_}
 use mathlib.Core.List.{[]}
-use Rattle.text.specs.Answer.{got}
-use Rattle.text.proofs.Bytes.{lookup-none}
+use Rattle.reading.specs.Answer.{got}
+use Rattle.reading.proofs.Bytes.{lookup-none}
 use Rattle.grammar.specs.Names.{oneSort, twoSorts, threeItems}
 use Rattle.grammar.specs.ParseSort.{orApplied}
 use Rattle.sorts.proofs.NamedSorts.{form-by, table-one, table-two, table-three, table-none}

@@ -1,6 +1,6 @@
 use mathlib.Core.Path.{ap, refl}
-use Rattle.text.specs.Answer.{got}
-use Rattle.text.proofs.Bytes.{lookup-here, lookup-later, lookup-none}
+use Rattle.reading.specs.Answer.{got}
+use Rattle.reading.proofs.Bytes.{lookup-here, lookup-later, lookup-none}
 use Rattle.grammar.specs.Names.{twoSorts}
 use Rattle.grammar.specs.ParseSort.{orApplied}
 use Rattle.sorts.proofs.names.two_sorts.Statement.{statement}

@@ -2,8 +2,8 @@ use Prim.Native.Nat.{_-_, _≤_}
 use mathlib.Core.Path.{_≡_, refl, ap, _∙_}
 use native.Mathlib.Omega.{arith}
 use lib.ListN.{length}
-use Rattle.text.specs.Answer.{over}
-use Rattle.text.proofs.Over.{over-length}
+use Rattle.reading.specs.Answer.{over}
+use Rattle.reading.proofs.Over.{over-length}
 use Rattle.sorts.specs.Rows.{absWords}
 use Rattle.sorts.proofs.RowWords.{abs-next}
 use Rattle.sorts.proofs.sort_words.put_abs.Statement.{statement}

@@ -1,7 +1,7 @@
-use Rattle.text.specs.Limits.{maxFunc}
-use Rattle.text.specs.Answer.{got}
+use Rattle.reading.specs.Limits.{maxFunc}
+use Rattle.reading.specs.Answer.{got}
 use Rattle.sorts.specs.Outcome.{refused}
-use Rattle.text.proofs.Lexing.Parts.{tail}
+use Rattle.lexing.proofs.Lexing.Parts.{tail}
 use borrow.Rule.Slice.PartMut.{same-len-mid}
 use Rattle.sorts.specs.SortNames.{rowForm, formIn, arityIn}
 use Rattle.sorts.specs.Rows.{rowHead}
@@ -17,7 +17,7 @@ use mathlib.Core.List.{[]}
 use native.Mathlib.Omega.{arith}
 use borrow.Author.Needs.{needs}
 use lib.ListN.{length, getD}
-use Rattle.text.specs.Tree.{Trees, treeWords, treesWords, list, trees}
+use Rattle.reading.specs.Tree.{Trees, treeWords, treesWords, list, trees}
 use Rattle.sorts.proofs.RowLoop.{Left, Turn, sort-short, row-bound, left-start, left-some, turn, left-end, left-refused, left-more}
 use Prim.Native.Nat.{ℕ, _<_, _+_, _-_, _*_, _≤_}
 use borrow.Fn.Kinds.{In}

@@ -1,5 +1,5 @@
 use native.Mathlib.Omega.{arith}
-use Rattle.text.specs.Number.{valueOf}
+use Rattle.reading.specs.Number.{valueOf}
 use Rattle.sorts.proofs.FuncShape.{arity-out, arity-in}
 use Rattle.sorts.proofs.sorts.func_number.Statement.{statement}
 use Rattle.sorts.proofs.sorts.func_number.Tie as tie

@@ -1,5 +1,5 @@
 use mathlib.Core.Path.{sym, ap, _∙_}
-use Rattle.text.specs.Answer.{orBad, malformed}
+use Rattle.reading.specs.Answer.{orBad, malformed}
 use Rattle.sorts.specs.SortNames.{widthIn}
 use Rattle.grammar.specs.ParseSort.{sizeNamed}
 use Rattle.sorts.specs.Rows.{isGot}

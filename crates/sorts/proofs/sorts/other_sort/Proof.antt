@@ -1,5 +1,5 @@
 use mathlib.Core.Path.{sym, ap, _∙_, refl}
-use Rattle.text.specs.Answer.{orBad, malformed}
+use Rattle.reading.specs.Answer.{orBad, malformed}
 use Rattle.sorts.specs.SortNames.{widthIn}
 use Rattle.sorts.proofs.NamedSorts.{other-size, other-bad, other-var, other-data}
 use borrow.Author.Needs.{needs}

@@ -1,4 +1,4 @@
-use Rattle.text.specs.Bytes.{bytesAt}
+use Rattle.reading.specs.Bytes.{bytesAt}
 use Rattle.sorts.proofs.Lend.{clipped}
 use borrow.Author.Needs.{needs}
 use Rattle.sorts.proofs.span.bytes_at.Statement.{statement}

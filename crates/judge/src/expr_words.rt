@@ -1,0 +1,215 @@
+// Words judged: where a sort, an expression or binders end that begin at a place, or the refusal of words that are none.
+ghost use mathlib.Core.Path.{_≡_};
+ghost use mathlib.Core.List.{[], _∷_};
+ghost use Prim.Native.Nat.{_≤_};
+ghost use lib.ListN.{length};
+ghost use Rattle.grammar.specs.Expr.{enil, econs};
+ghost use Rattle.judge.specs.Judge.{word, wordBelow, choose, kinds, header, sortIf, exprDeep, several, judgeExpr};
+ghost use Rattle.judge.specs.Ends.{endOf, headOf, operandsAt};
+use crate::sort_words::binders_end;
+use crate::sort_words::sort_end;
+use crate::sort_words::span_end;
+
+// So many expressions may stand inside one another.
+pub const MAX_NODES: u32 = 128;
+
+// The place behind what was read, or the number of a refusal.
+pub enum End {
+    At(usize),
+    No(u32),
+}
+
+// What the kind and the fields of an expression say: the place behind them, and how many operands follow; or, of an application, whether
+// an output sort follows its arguments and how many these are; or a refusal.
+pub enum Header {
+    Operands(usize, u32),
+    Arguments(usize, bool, u32),
+    No(u32),
+}
+
+// So many words of any value.
+fn skip(words: &[u32], at: usize, n: usize) -> End
+    requires { ⌜ at ≤ length (now words) ⌝ }
+    ensures { λ r. ⌜ r ≡ endOf (several word [] (λ a rest. a ∷ rest) n (now (words .entry)) at) ⌝ }
+{
+    if words.len() - at < n {
+        return End::No(14);
+    }
+    End::At(at + n)
+}
+
+// A word below a bound.
+fn below(words: &[u32], at: usize, bound: u32) -> End
+    ensures { λ r. ⌜ r ≡ endOf (wordBelow bound (now (words .entry)) at) ⌝ }
+{
+    if at < words.len() {
+        if words[at] < bound {
+            return End::At(at + 1);
+        }
+    }
+    End::No(14)
+}
+
+// So many operands behind the fields.
+fn operands(fields: End, n: u32) -> Header
+    ensures { λ r. ⌜ r ≡ operandsAt fields n ⌝ }
+{
+    match fields {
+        End::At(a) => Header::Operands(a, n),
+        End::No(r) => Header::No(r),
+    }
+}
+
+// The fields of And, kind 42, and of Or: how many operands follow.
+fn counted(words: &[u32], at: usize) -> Header
+    ensures { λ r. ⌜ r ≡ headOf (choose 32 (kinds 0) 42 (now (words .entry)) at) ⌝ }
+{
+    if at < words.len() {
+        return Header::Operands(at + 1, words[at]);
+    }
+    Header::No(14)
+}
+
+// The fields of an application, kind 38: whether it has an output sort, and how many arguments follow.
+fn arguments(words: &[u32], at: usize) -> Header
+    ensures { λ r. ⌜ r ≡ headOf (choose 32 (kinds 0) 38 (now (words .entry)) at) ⌝ }
+{
+    if at < words.len() {
+        let f = words[at];
+        let a = at + 1;
+        if f < 2 {
+            if a < words.len() {
+                return Header::Arguments(a + 1, f == 1, words[a]);
+            }
+        }
+    }
+    Header::No(14)
+}
+
+// The fields of Exists, kind 51: how many binders, and these.
+fn quantified(words: &[u32], at: usize, limit: u64) -> Header
+    ensures { λ r. ⌜ r ≡ headOf (choose 32 (kinds limit) 51 (now (words .entry)) at) ⌝ }
+{
+    if at < words.len() {
+        return operands(binders_end(words, at + 1, words[at], limit), 1);
+    }
+    Header::No(14)
+}
+
+// The kind and the fields of an expression.
+pub fn head(words: &[u32], at: usize, limit: u64) -> Header
+    ensures { λ r. ⌜ r ≡ headOf (header limit (now (words .entry)) at) ⌝ }
+{
+    if words.len() <= at {
+        return Header::No(14);
+    }
+    let k = words[at];
+    let a = at + 1;
+    if k < 32 {
+        return Header::No(14);
+    }
+    match k {
+        32 => operands(skip(words, a, 4), 0),
+        33 => operands(below(words, a, 2), 0),
+        34 => operands(span_end(words, a, limit), 0),
+        35 => operands(skip(words, a, 5), 0),
+        36 => operands(skip(words, a, 2), 0),
+        37 => operands(span_end(words, a, limit), 0),
+        38 => arguments(words, a),
+        39 => Header::Operands(a, 1),
+        40 => operands(below(words, a, 5), 2),
+        41 => Header::Operands(a, 3),
+        42 => counted(words, a),
+        43 => counted(words, a),
+        44 => Header::Operands(a, 1),
+        45 => Header::Operands(a, 2),
+        46 => Header::Operands(a, 2),
+        47 => operands(below(words, a, 6), 2),
+        48 => operands(span_end(words, a, limit), 2),
+        49 => operands(below(words, a, 42), 0),
+        50 => operands(span_end(words, a, limit), 1),
+        51 => quantified(words, a, limit),
+        _ => Header::No(14),
+    }
+}
+
+// An expression where there is no room for one.
+fn no_room(words: &[u32], at: usize) -> End
+    ensures { λ r. ⌜ r ≡ endOf (exprDeep 0 0 (now (words .entry)) at) ⌝ }
+{
+    if at < words.len() {
+        let k = words[at];
+        if 32 <= k {
+            if k < 52 {
+                return End::No(6);
+            }
+        }
+    }
+    End::No(14)
+}
+
+// An output sort where the flag says that there is one.
+pub fn out_sort(words: &[u32], at: usize, limit: u64, flag: bool) -> End
+    ensures { λ r. ⌜ r ≡ endOf (sortIf limit flag (now (words .entry)) at) ⌝ }
+{
+    if flag {
+        return sort_end(words, at, limit);
+    }
+    End::At(at)
+}
+
+// The expression at a place, with room for so many inside one another.
+pub fn expr_end(words: &[u32], at: usize, limit: u64, room: u32) -> End
+    ensures { λ r. ⌜ r ≡ endOf (exprDeep limit room (now (words .entry)) at) ⌝ }
+{
+    if room == 0 {
+        return no_room(words, at);
+    }
+    match head(words, at, limit) {
+        Header::Operands(a, n) => exprs_end(words, a, n, limit, room - 1),
+        Header::Arguments(a, flag, n) => match exprs_end(words, a, n, limit, room - 1) {
+            End::At(b) => match out_sort(words, b, limit, flag) {
+                End::At(d) => expr_end(words, d, limit, room - 1),
+                End::No(r) => End::No(r),
+            },
+            End::No(r) => End::No(r),
+        },
+        Header::No(r) => End::No(r),
+    }
+}
+
+// So many expressions, one after the other.
+pub fn exprs_end(words: &[u32], at: usize, n: u32, limit: u64, room: u32) -> End
+    ensures { λ r. ⌜ r ≡ endOf (several (exprDeep limit room) enil econs n (now (words .entry)) at) ⌝ }
+{
+    let mut a = at;
+    let mut i = n;
+    while 0 < i {
+        match expr_end(words, a, limit, room) {
+            End::At(b) => {
+                a = b;
+            }
+            End::No(r) => {
+                return End::No(r);
+            }
+        }
+        i -= 1;
+    }
+    End::At(a)
+}
+
+// Words that are one expression and no more.
+pub fn judge(words: &[u32], limit: u64) -> End
+    ensures { λ r. ⌜ r ≡ endOf (judgeExpr limit (now (words .entry))) ⌝ }
+{
+    match expr_end(words, 0, limit, MAX_NODES) {
+        End::At(n) => {
+            if n == words.len() {
+                End::At(n)
+            } else {
+                End::No(14)
+            }
+        }
+        End::No(r) => End::No(r),
+    }
+}

@@ -1,0 +1,10 @@
+pub mod Parts
+pub mod WellFormed
+pub mod White
+pub mod Limbs
+pub mod Digits
+pub mod Mags
+pub mod Signs
+pub mod Decimals
+pub mod Leaves
+pub mod Zeros

@@ -1,0 +1,3 @@
+pub mod Next
+pub mod Quads
+pub mod TokenWords

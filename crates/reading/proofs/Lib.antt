@@ -1,0 +1,14 @@
+pub mod Picks
+pub mod Bytes
+pub mod Token
+pub mod Finding
+pub mod Read
+pub mod Over
+pub mod Weight
+pub mod ReadWeight
+pub mod Placed
+pub mod TreeBack
+pub mod Finish
+pub mod Wider
+pub mod TextTree
+pub mod Cases
