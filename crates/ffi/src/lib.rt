@@ -1,14 +1,13 @@
-// The library's functions for C and Rust. Each returns the refusal's number, 0 if accepted; a slice passes as a pointer and a length in
-// elements. After a refusal the reported numbers are 0, and the count is as it was.
+// The library's functions for C and Rust, each a call on a reader that is opened at a count. Each returns the refusal's number, 0 if
+// accepted; a slice passes as a pointer and a length in elements. After a refusal the reported numbers are 0, and the count is as it was.
+// The contracts cite the outcomes of crates/session/specs/Session.antt, of which demand 3 is proved.
 ghost use mathlib.Core.Path.{_≡_};
-ghost use mathlib.Core.Bool.{true, false};
-ghost use Rattle.reading.specs.Answer.{zeros, outputOf, countOf};
-ghost use Rattle.reading.specs.Reading.{readSaid, readOut};
-ghost use Rattle.grammar.specs.Sort.{sortWords};
-ghost use Rattle.grammar.specs.Expr.{exprItems, bindItems};
-ghost use Rattle.grammar.specs.Operations.{sortFinal, exprFinal, bindFinal};
-ghost use Rattle.parse.specs.Answers.{raisedWords};
-ghost use Rattle.ffi.specs.Reply.{refusalOf, firstOf, secondOf, sortReply, exprReply, bindReply};
+ghost use Rattle.session.specs.Session.{outcome};
+ghost use Rattle.flatten.specs.Operations.{flattenSaid, flattenOut};
+ghost use Rattle.reader.specs.Calls.{oneCall, allCall, sortCall, exprCall, bindCall, solutionCall};
+ghost use Rattle.ffi.specs.Reply.{refusalOf, firstOf, secondOf};
+use reader::Reader;
+use reader::Said;
 
 // Reads the first expression of the text: how many words it has, and the byte behind it.
 #[no_mangle]
@@ -18,18 +17,20 @@ pub extern "C" fn pinhkray_read_one(
     words: &mut u64,
     next: &mut u64,
 ) -> u32
-    ensures refusal { λ r. ⌜ r ≡ refusalOf (readSaid false (now (text .entry)) (now (out .entry))) ⌝ }
-    ensures words { λ _. ⌜ now (words .exit) ≡ firstOf (readSaid false (now (text .entry)) (now (out .entry))) ⌝ }
-    ensures next { λ _. ⌜ now (next .exit) ≡ secondOf (readSaid false (now (text .entry)) (now (out .entry))) ⌝ }
-    ensures output { λ _. ⌜ now (out .exit) ≡ readOut false (now (text .entry)) (now (out .entry)) ⌝ }
+    ensures refusal { λ r. ⌜ r ≡ refusalOf (outcome (oneCall (now (text .entry)) (now (out .entry))) 0 .said) ⌝ }
+    ensures words { λ _. ⌜ now (words .exit) ≡ firstOf (outcome (oneCall (now (text .entry)) (now (out .entry))) 0 .said) ⌝ }
+    ensures next { λ _. ⌜ now (next .exit) ≡ secondOf (outcome (oneCall (now (text .entry)) (now (out .entry))) 0 .said) ⌝ }
+    ensures output { λ _. ⌜ now (out .exit) ≡ outcome (oneCall (now (text .entry)) (now (out .entry))) 0 .out ⌝ }
 {
-    match text::read_one(text, out) {
-        text::Answer::Accepted(n, end) => {
+    let answer = Reader::open(0).read_one(text, out);
+    let said = answer.said;
+    match said {
+        Said::Accepted(n, end) => {
             *words = n as u64;
             *next = end as u64;
             0
         }
-        text::Answer::Refused(r) => {
+        Said::Refused(r) => {
             *words = 0;
             *next = 0;
             r
@@ -45,18 +46,20 @@ pub extern "C" fn pinhkray_read_all(
     expressions: &mut u64,
     words: &mut u64,
 ) -> u32
-    ensures refusal { λ r. ⌜ r ≡ refusalOf (readSaid true (now (text .entry)) (now (out .entry))) ⌝ }
-    ensures expressions { λ _. ⌜ now (expressions .exit) ≡ firstOf (readSaid true (now (text .entry)) (now (out .entry))) ⌝ }
-    ensures words { λ _. ⌜ now (words .exit) ≡ secondOf (readSaid true (now (text .entry)) (now (out .entry))) ⌝ }
-    ensures output { λ _. ⌜ now (out .exit) ≡ readOut true (now (text .entry)) (now (out .entry)) ⌝ }
+    ensures refusal { λ r. ⌜ r ≡ refusalOf (outcome (allCall (now (text .entry)) (now (out .entry))) 0 .said) ⌝ }
+    ensures expressions { λ _. ⌜ now (expressions .exit) ≡ firstOf (outcome (allCall (now (text .entry)) (now (out .entry))) 0 .said) ⌝ }
+    ensures words { λ _. ⌜ now (words .exit) ≡ secondOf (outcome (allCall (now (text .entry)) (now (out .entry))) 0 .said) ⌝ }
+    ensures output { λ _. ⌜ now (out .exit) ≡ outcome (allCall (now (text .entry)) (now (out .entry))) 0 .out ⌝ }
 {
-    match text::read_all(text, out) {
-        text::Answer::Accepted(k, n) => {
+    let answer = Reader::open(0).read_all(text, out);
+    let said = answer.said;
+    match said {
+        Said::Accepted(k, n) => {
             *expressions = k as u64;
             *words = n as u64;
             0
         }
-        text::Answer::Refused(r) => {
+        Said::Refused(r) => {
             *expressions = 0;
             *words = 0;
             r
@@ -72,17 +75,19 @@ pub extern "C" fn pinhkray_sort(
     out: &mut [u32],
     words: &mut u64,
 ) -> u32
-    ensures refusal { λ r. ⌜ r ≡ refusalOf (sortReply (sortFinal (now (text .entry)) (now (tree .entry)) (now (out .entry)))) ⌝ }
-    ensures words { λ _. ⌜ now (words .exit) ≡ firstOf (sortReply (sortFinal (now (text .entry)) (now (tree .entry)) (now (out .entry)))) ⌝ }
-    ensures working { λ _. ⌜ now (tree .exit) ≡ zeros (now (tree .entry)) ⌝ }
-    ensures output { λ _. ⌜ now (out .exit) ≡ outputOf sortWords (sortFinal (now (text .entry)) (now (tree .entry)) (now (out .entry))) (now (out .entry)) ⌝ }
+    ensures refusal { λ r. ⌜ r ≡ refusalOf (outcome (sortCall (now (text .entry)) (now (tree .entry)) (now (out .entry))) 0 .said) ⌝ }
+    ensures words { λ _. ⌜ now (words .exit) ≡ firstOf (outcome (sortCall (now (text .entry)) (now (tree .entry)) (now (out .entry))) 0 .said) ⌝ }
+    ensures working { λ _. ⌜ now (tree .exit) ≡ outcome (sortCall (now (text .entry)) (now (tree .entry)) (now (out .entry))) 0 .tree ⌝ }
+    ensures output { λ _. ⌜ now (out .exit) ≡ outcome (sortCall (now (text .entry)) (now (tree .entry)) (now (out .entry))) 0 .out ⌝ }
 {
-    match parse::sort(text, tree, out) {
-        sorts::Answer::Done(size) => {
+    let answer = Reader::open(0).sort(text, tree, out);
+    let said = answer.said;
+    match said {
+        Said::Accepted(size, _) => {
             *words = size as u64;
             0
         }
-        sorts::Answer::Refused(r) => {
+        Said::Refused(r) => {
             *words = 0;
             r
         }
@@ -99,21 +104,22 @@ pub extern "C" fn pinhkray_expression(
     words: &mut u64,
     count_after: &mut u64,
 ) -> u32
-    ensures refusal { λ r. ⌜ r ≡ refusalOf (exprReply (exprFinal (now (text .entry)) (now (tree .entry)) (now (out .entry)) count)) ⌝ }
-    ensures words { λ _. ⌜ now (words .exit) ≡ firstOf (exprReply (exprFinal (now (text .entry)) (now (tree .entry)) (now (out .entry)) count)) ⌝ }
-    ensures after { λ _. ⌜ now («count_after» .exit) ≡ countOf count (exprFinal (now (text .entry)) (now (tree .entry)) (now (out .entry)) count) ⌝ }
-    ensures working { λ _. ⌜ now (tree .exit) ≡ zeros (now (tree .entry)) ⌝ }
-    ensures output { λ _. ⌜ now (out .exit) ≡ outputOf (raisedWords exprItems count) (exprFinal (now (text .entry)) (now (tree .entry)) (now (out .entry)) count) (now (out .entry)) ⌝ }
+    ensures refusal { λ r. ⌜ r ≡ refusalOf (outcome (exprCall (now (text .entry)) (now (tree .entry)) (now (out .entry))) count .said) ⌝ }
+    ensures words { λ _. ⌜ now (words .exit) ≡ firstOf (outcome (exprCall (now (text .entry)) (now (tree .entry)) (now (out .entry))) count .said) ⌝ }
+    ensures after { λ _. ⌜ now («count_after» .exit) ≡ outcome (exprCall (now (text .entry)) (now (tree .entry)) (now (out .entry))) count .count ⌝ }
+    ensures working { λ _. ⌜ now (tree .exit) ≡ outcome (exprCall (now (text .entry)) (now (tree .entry)) (now (out .entry))) count .tree ⌝ }
+    ensures output { λ _. ⌜ now (out .exit) ≡ outcome (exprCall (now (text .entry)) (now (tree .entry)) (now (out .entry))) count .out ⌝ }
 {
-    match parse::expression(text, tree, out, count) {
-        parse::Counted::Done(n, next) => {
+    let answer = Reader::open(count).expression(text, tree, out);
+    *count_after = answer.reader.next;
+    let said = answer.said;
+    match said {
+        Said::Accepted(n, _) => {
             *words = n as u64;
-            *count_after = next;
             0
         }
-        parse::Counted::Refused(r) => {
+        Said::Refused(r) => {
             *words = 0;
-            *count_after = count;
             r
         }
     }
@@ -129,21 +135,75 @@ pub extern "C" fn pinhkray_bind(
     words: &mut u64,
     count_after: &mut u64,
 ) -> u32
-    ensures refusal { λ r. ⌜ r ≡ refusalOf (bindReply (bindFinal (now (text .entry)) (now (tree .entry)) (now (out .entry)) count)) ⌝ }
-    ensures words { λ _. ⌜ now (words .exit) ≡ firstOf (bindReply (bindFinal (now (text .entry)) (now (tree .entry)) (now (out .entry)) count)) ⌝ }
-    ensures after { λ _. ⌜ now («count_after» .exit) ≡ countOf count (bindFinal (now (text .entry)) (now (tree .entry)) (now (out .entry)) count) ⌝ }
-    ensures working { λ _. ⌜ now (tree .exit) ≡ zeros (now (tree .entry)) ⌝ }
-    ensures output { λ _. ⌜ now (out .exit) ≡ outputOf (raisedWords bindItems count) (bindFinal (now (text .entry)) (now (tree .entry)) (now (out .entry)) count) (now (out .entry)) ⌝ }
+    ensures refusal { λ r. ⌜ r ≡ refusalOf (outcome (bindCall (now (text .entry)) (now (tree .entry)) (now (out .entry))) count .said) ⌝ }
+    ensures words { λ _. ⌜ now (words .exit) ≡ firstOf (outcome (bindCall (now (text .entry)) (now (tree .entry)) (now (out .entry))) count .said) ⌝ }
+    ensures after { λ _. ⌜ now («count_after» .exit) ≡ outcome (bindCall (now (text .entry)) (now (tree .entry)) (now (out .entry))) count .count ⌝ }
+    ensures working { λ _. ⌜ now (tree .exit) ≡ outcome (bindCall (now (text .entry)) (now (tree .entry)) (now (out .entry))) count .tree ⌝ }
+    ensures output { λ _. ⌜ now (out .exit) ≡ outcome (bindCall (now (text .entry)) (now (tree .entry)) (now (out .entry))) count .out ⌝ }
 {
-    match parse::bind(text, tree, out, count) {
-        parse::Counted::Done(n, raised) => {
+    let reply = Reader::open(count).bind(text, tree, out);
+    *count_after = reply.reader.next;
+    let said = reply.said;
+    match said {
+        Said::Accepted(n, _) => {
             *words = n as u64;
-            *count_after = raised;
             0
         }
-        parse::Counted::Refused(r) => {
+        Said::Refused(r) => {
             *words = 0;
-            *count_after = count;
+            r
+        }
+    }
+}
+
+// The solution that the text begins with, flattened: how many words it has, and the count of the reader afterwards. The tree and the draft
+// are working slices, and zero afterwards.
+#[no_mangle]
+pub extern "C" fn pinhkray_solution(
+    text: &[u8],
+    tree: &mut [u32],
+    draft: &mut [u32],
+    out: &mut [u32],
+    count: u64,
+    words: &mut u64,
+    count_after: &mut u64,
+) -> u32
+    ensures refusal { λ r. ⌜ r ≡ refusalOf (outcome (solutionCall (now (text .entry)) (now (tree .entry)) (now (draft .entry)) (now (out .entry))) count .said) ⌝ }
+    ensures words { λ _. ⌜ now (words .exit) ≡ firstOf (outcome (solutionCall (now (text .entry)) (now (tree .entry)) (now (draft .entry)) (now (out .entry))) count .said) ⌝ }
+    ensures after { λ _. ⌜ now («count_after» .exit) ≡ outcome (solutionCall (now (text .entry)) (now (tree .entry)) (now (draft .entry)) (now (out .entry))) count .count ⌝ }
+    ensures working { λ _. ⌜ now (tree .exit) ≡ outcome (solutionCall (now (text .entry)) (now (tree .entry)) (now (draft .entry)) (now (out .entry))) count .tree ⌝ }
+    ensures body { λ _. ⌜ now (draft .exit) ≡ outcome (solutionCall (now (text .entry)) (now (tree .entry)) (now (draft .entry)) (now (out .entry))) count .draft ⌝ }
+    ensures output { λ _. ⌜ now (out .exit) ≡ outcome (solutionCall (now (text .entry)) (now (tree .entry)) (now (draft .entry)) (now (out .entry))) count .out ⌝ }
+{
+    let answer = Reader::open(count).solution(text, tree, draft, out);
+    *count_after = answer.reader.next;
+    let said = answer.said;
+    match said {
+        Said::Accepted(n, _) => {
+            *words = n as u64;
+            0
+        }
+        Said::Refused(r) => {
+            *words = 0;
+            r
+        }
+    }
+}
+
+// Flattens the words of an expression: how many words there are then. It takes no reader, and changes none of the words read.
+#[no_mangle]
+pub extern "C" fn pinhkray_flatten(words_in: &[u32], out: &mut [u32], words: &mut u64) -> u32
+    ensures refusal { λ r. ⌜ r ≡ refusalOf (flattenSaid (now («words_in» .entry)) (now (out .entry))) ⌝ }
+    ensures words { λ _. ⌜ now (words .exit) ≡ firstOf (flattenSaid (now («words_in» .entry)) (now (out .entry))) ⌝ }
+    ensures output { λ _. ⌜ now (out .exit) ≡ flattenOut (now («words_in» .entry)) (now (out .entry)) ⌝ }
+{
+    match flatten::flatten(words_in, out) {
+        sorts::Answer::Done(flat) => {
+            *words = flat as u64;
+            0
+        }
+        sorts::Answer::Refused(r) => {
+            *words = 0;
             r
         }
     }

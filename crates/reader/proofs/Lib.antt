@@ -1,4 +1,2 @@
-pub mod Terms
-pub mod Made
-pub mod Calls
-pub mod Whole
+pub mod Outcomes
+pub mod Told

@@ -1,1 +1,166 @@
-// The reader: six operations on one count. Its definitions and the claim about every list of calls are in specs/.
+// The reader: one count, and the operations of document 01 as its methods. The count is the next fresh number, and one reader may serve for
+// years: each call takes it by value and gives it back inside the answer, with the count raised by the numbers that the answer binds, so
+// that no number is bound twice. What a call says and leaves is `outcome` in crates/session/specs/Session.antt, at the reader's count; demand 3
+// is proved of those very outcomes, for every list of calls (crates/session/specs/Demand3.antt). specs/Calls.antt says which call each method is.
+//
+// No method asks anything of its caller. An accepted call writes its words from the start of the output, and nothing behind them. A refused
+// one gives the reader back as it came, and zeroes every slice that it was lent. Tree and draft are working slices, and zero after
+// every call.
+ghost use mathlib.Core.Path.{_≡_};
+ghost use Rattle.session.specs.Session.{outcome};
+ghost use Rattle.reader.specs.Calls.{oneCall, allCall, sortCall, exprCall, bindCall, solutionCall, asSaid};
+use parse::Counted;
+
+// The next fresh number.
+pub struct Reader {
+    pub next: u64,
+}
+
+// The two numbers that an accepted call reports, or the number of the refusal.
+pub enum Said {
+    Accepted(usize, usize),
+    Refused(u32),
+}
+
+// What a call says, and the reader for the next call.
+pub struct Answer {
+    pub reader: Reader,
+    pub said: Said,
+}
+
+impl Reader {
+    // A reader whose first fresh number is the count: 0 for a new one, or where another left off.
+    pub fn open(count: u64) -> Reader
+        ensures { λ r. ⌜ r .next ≡ count ⌝ }
+    {
+        Reader { next: count }
+    }
+
+    // Reads the first expression of a text, and reports how many words it has and the byte behind it. Refusals: 1 for a text that is too
+    // long, 2 if it is not UTF-8, 3 if it ends early, 4 for a `)` too many, 5 for a string or an `@` that does not end, 6 for too many lists
+    // inside one another, 7 if the output lacks room.
+    pub fn read_one(self, text: &[u8], out: &mut [u32]) -> Answer
+        ensures said { λ r. ⌜ r .said ≡ asSaid (outcome (oneCall (now (text .entry)) (now (out .entry))) (self .next) .said) ⌝ }
+        ensures count { λ r. ⌜ r .reader .next ≡ outcome (oneCall (now (text .entry)) (now (out .entry))) (self .next) .count ⌝ }
+        ensures output { λ _. ⌜ now (out .exit) ≡ outcome (oneCall (now (text .entry)) (now (out .entry))) (self .next) .out ⌝ }
+    {
+        match text::read_one(text, out) {
+            text::Answer::Accepted(words, end) => Answer {
+                reader: self,
+                said: Said::Accepted(words, end),
+            },
+            text::Answer::Refused(r) => Answer {
+                reader: self,
+                said: Said::Refused(r),
+            },
+        }
+    }
+
+    // Reads all expressions of a text, and reports how many there are and how many words they have. The refusals are those of `read_one`.
+    pub fn read_all(self, text: &[u8], out: &mut [u32]) -> Answer
+        ensures said { λ r. ⌜ r .said ≡ asSaid (outcome (allCall (now (text .entry)) (now (out .entry))) (self .next) .said) ⌝ }
+        ensures count { λ r. ⌜ r .reader .next ≡ outcome (allCall (now (text .entry)) (now (out .entry))) (self .next) .count ⌝ }
+        ensures output { λ _. ⌜ now (out .exit) ≡ outcome (allCall (now (text .entry)) (now (out .entry))) (self .next) .out ⌝ }
+    {
+        match text::read_all(text, out) {
+            text::Answer::Accepted(expressions, words) => Answer {
+                reader: self,
+                said: Said::Accepted(expressions, words),
+            },
+            text::Answer::Refused(r) => Answer {
+                reader: self,
+                said: Said::Refused(r),
+            },
+        }
+    }
+
+    // The sort that a text begins with; reports how many words it has, and 0. Refusals: those of `read_one`, 7 also if the tree slice lacks
+    // room for the tree, 8 for a tree that is no sort, 12 for the number of a `func` that is out of range.
+    pub fn sort(self, text: &[u8], tree: &mut [u32], out: &mut [u32]) -> Answer
+        ensures said { λ r. ⌜ r .said ≡ asSaid (outcome (sortCall (now (text .entry)) (now (tree .entry)) (now (out .entry))) (self .next) .said) ⌝ }
+        ensures count { λ r. ⌜ r .reader .next ≡ outcome (sortCall (now (text .entry)) (now (tree .entry)) (now (out .entry))) (self .next) .count ⌝ }
+        ensures working { λ _. ⌜ now (tree .exit) ≡ outcome (sortCall (now (text .entry)) (now (tree .entry)) (now (out .entry))) (self .next) .tree ⌝ }
+        ensures output { λ _. ⌜ now (out .exit) ≡ outcome (sortCall (now (text .entry)) (now (tree .entry)) (now (out .entry))) (self .next) .out ⌝ }
+    {
+        match parse::sort(text, tree, out) {
+            sorts::Answer::Done(size) => Answer {
+                reader: self,
+                said: Said::Accepted(size, 0),
+            },
+            sorts::Answer::Refused(r) => Answer {
+                reader: self,
+                said: Said::Refused(r),
+            },
+        }
+    }
+
+    // The expression that a text begins with, not flattened; reports how many words it has, and 0. Refusals: those of `sort`, 9 for a decimal
+    // as an expression, 10 for a repeated name in an exists, 11 for the bits of a `lit`, 13 if the fresh numbers run out.
+    pub fn expression(self, text: &[u8], tree: &mut [u32], out: &mut [u32]) -> Answer
+        ensures said { λ r. ⌜ r .said ≡ asSaid (outcome (exprCall (now (text .entry)) (now (tree .entry)) (now (out .entry))) (self .next) .said) ⌝ }
+        ensures count { λ r. ⌜ r .reader .next ≡ outcome (exprCall (now (text .entry)) (now (tree .entry)) (now (out .entry))) (self .next) .count ⌝ }
+        ensures working { λ _. ⌜ now (tree .exit) ≡ outcome (exprCall (now (text .entry)) (now (tree .entry)) (now (out .entry))) (self .next) .tree ⌝ }
+        ensures output { λ _. ⌜ now (out .exit) ≡ outcome (exprCall (now (text .entry)) (now (tree .entry)) (now (out .entry))) (self .next) .out ⌝ }
+    {
+        let start = self.next;
+        match parse::expression(text, tree, out, start) {
+            Counted::Done(words, next) => Answer {
+                reader: Reader { next },
+                said: Said::Accepted(words, 0),
+            },
+            Counted::Refused(r) => Answer {
+                reader: Reader { next: start },
+                said: Said::Refused(r),
+            },
+        }
+    }
+
+    // The bind that a text begins with, a name, its sort and predicates; reports how many words it has, and 0. The refusals are those of
+    // `expression`.
+    pub fn bind(self, text: &[u8], tree: &mut [u32], out: &mut [u32]) -> Answer
+        ensures said { λ r. ⌜ r .said ≡ asSaid (outcome (bindCall (now (text .entry)) (now (tree .entry)) (now (out .entry))) (self .next) .said) ⌝ }
+        ensures count { λ r. ⌜ r .reader .next ≡ outcome (bindCall (now (text .entry)) (now (tree .entry)) (now (out .entry))) (self .next) .count ⌝ }
+        ensures working { λ _. ⌜ now (tree .exit) ≡ outcome (bindCall (now (text .entry)) (now (tree .entry)) (now (out .entry))) (self .next) .tree ⌝ }
+        ensures output { λ _. ⌜ now (out .exit) ≡ outcome (bindCall (now (text .entry)) (now (tree .entry)) (now (out .entry))) (self .next) .out ⌝ }
+    {
+        let first = self.next;
+        match parse::bind(text, tree, out, first) {
+            Counted::Done(words, after) => Answer {
+                reader: Reader { next: after },
+                said: Said::Accepted(words, 0),
+            },
+            Counted::Refused(r) => Answer {
+                reader: Reader { next: first },
+                said: Said::Refused(r),
+            },
+        }
+    }
+
+    // The solution that a text begins with, flattened: parameters and a body; reports how many words it has, and 0. The draft takes the body
+    // before flattening. Refusals: those of `expression`, 10 also for a repeated name among the parameters, 7 also if the draft slice lacks
+    // room for the body.
+    pub fn solution(
+        self,
+        text: &[u8],
+        tree: &mut [u32],
+        draft: &mut [u32],
+        out: &mut [u32],
+    ) -> Answer
+        ensures said { λ r. ⌜ r .said ≡ asSaid (outcome (solutionCall (now (text .entry)) (now (tree .entry)) (now (draft .entry)) (now (out .entry))) (self .next) .said) ⌝ }
+        ensures count { λ r. ⌜ r .reader .next ≡ outcome (solutionCall (now (text .entry)) (now (tree .entry)) (now (draft .entry)) (now (out .entry))) (self .next) .count ⌝ }
+        ensures working { λ _. ⌜ now (tree .exit) ≡ outcome (solutionCall (now (text .entry)) (now (tree .entry)) (now (draft .entry)) (now (out .entry))) (self .next) .tree ⌝ }
+        ensures body { λ _. ⌜ now (draft .exit) ≡ outcome (solutionCall (now (text .entry)) (now (tree .entry)) (now (draft .entry)) (now (out .entry))) (self .next) .draft ⌝ }
+        ensures output { λ _. ⌜ now (out .exit) ≡ outcome (solutionCall (now (text .entry)) (now (tree .entry)) (now (draft .entry)) (now (out .entry))) (self .next) .out ⌝ }
+    {
+        match flatten::solution(text, tree, draft, out, self.next) {
+            Counted::Done(words, next) => Answer {
+                reader: Reader { next },
+                said: Said::Accepted(words, 0),
+            },
+            Counted::Refused(r) => Answer {
+                reader: self,
+                said: Said::Refused(r),
+            },
+        }
+    }
+}

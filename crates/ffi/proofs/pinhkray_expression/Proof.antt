@@ -1,61 +1,73 @@
-use mathlib.Core.Path.{sym, _∙_}
-use Rattle.grammar.specs.Expr.{exprItems}
-use Rattle.grammar.specs.Operations.{exprFinal}
-use Rattle.ffi.proofs.Replies.{counted-done, counted-refused}
+use Rattle.reader.specs.Calls.{exprCall}
+use Rattle.ffi.proofs.Replies.{accepted-reply, refused-reply, left}
 use borrow.Author.Needs.{needs}
 use Rattle.ffi.proofs.pinhkray_expression.Statement.{statement}
 use Rattle.ffi.proofs.pinhkray_expression.Tie as tie
 use Rattle.ffi.proofs.pinhkray_expression.Reads as reads
 use Rattle.ffi.proofs.pinhkray_expression.Lts as lts
-use Rattle.parse.proofs.expression.Reads as expression-reads
+use Rattle.reader.proofs.Reader.expression.Reads as expression-reads
+use Rattle.reader.proofs.Reader.open.Reads as open-reads
 
--- src/lib.rt:108:11
+-- src/lib.rt:112:18
+open-requires : tie.Need-open-requires
+open-requires c κs = search needs
+
+-- src/lib.rt:112:9
 expression-requires : tie.Need-expression-requires
 expression-requires c κs = search needs
 
--- src/lib.rt:109:30
-enum-known-n : tie.Need-enum-known-n
-enum-known-n c = search needs
+-- src/lib.rt:116:24
+enum-known-said : tie.Need-enum-known-said
+enum-known-said c = search needs
 
--- src/lib.rt:114:33
-enum-known-r : tie.Need-enum-known-r
-enum-known-r c = search needs
+-- src/lib.rt:120:23
+enum-known-said-2 : tie.Need-enum-known-said-2
+enum-known-said-2 c = search needs
 
--- src/lib.rt:93:1
+-- src/lib.rt:97:1
 same-length : tie.Need-same-length
 same-length c = search needs
 
--- src/lib.rt:93:1
+-- src/lib.rt:97:1
 same-length-2 : tie.Need-same-length-2
 same-length-2 c = search needs
 
--- src/lib.rt:93:1
+-- src/lib.rt:97:1
 returns : tie.Need-returns
 returns c =
-    let q = counted-done exprItems (c .before .before .before .before .before .before .before .before .before .before .before .before .before .args .count) (exprFinal (c .before .before .before .before .before .before .before .before .before .before .before .before .before .args .text .now) (c .before .before .before .before .before .before .before .before .before .before .before .before .before .args .tree .now) (c .before .before .before .before .before .before .before .before .before .before .before .before .before .args .out .now) (c .before .before .before .before .before .before .before .before .before .before .before .before .before .args .count)) _ _ (sym (c .before .before .before .before .before .before .before .expression .ensures .0) ∙ c .before .n .given .1) in
-    (q .0, (q .1, (q .2, c .before .before .before .before .before .before .before .expression .ensures .1)))
+    let a = c .before .before .before .before .before .before .before .before .before .before .before .before .before .before .args in
+    let e = c .before .before .before .before .before .before .before .expression .ensures in
+    let o = c .before .before .before .before .before .before .before .before .before .before .«open» .ensures in
+    let call = exprCall (a .text .now) (a .tree .now) (a .out .now) in
+    let q = accepted-reply call _ _ o _ _ _ (c .before .said .given .1) (e .0) in
+    (q .0, (q .1, (left call _ _ o (λ x. x .count) _ (e .1 .0), (left call _ _ o (λ x. x .tree) _ (e .1 .1 .0), left call _ _ o (λ x. x .out) _ (e .1 .1 .1)))))
 
--- src/lib.rt:93:1
+-- src/lib.rt:97:1
 same-length-3 : tie.Need-same-length-3
 same-length-3 c = search needs
 
--- src/lib.rt:93:1
+-- src/lib.rt:97:1
 same-length-4 : tie.Need-same-length-4
 same-length-4 c = search needs
 
--- src/lib.rt:93:1
+-- src/lib.rt:97:1
 returns-2 : tie.Need-returns-2
 returns-2 c =
-    let q = counted-refused exprItems (c .before .before .before .before .before .before .before .before .before .before .before .before .before .args .count) (exprFinal (c .before .before .before .before .before .before .before .before .before .before .before .before .before .args .text .now) (c .before .before .before .before .before .before .before .before .before .before .before .before .before .args .tree .now) (c .before .before .before .before .before .before .before .before .before .before .before .before .before .args .out .now) (c .before .before .before .before .before .before .before .before .before .before .before .before .before .args .count)) _ (sym (c .before .before .before .before .before .before .before .expression .ensures .0) ∙ c .before .r .given .1) in
-    (q .0, (q .1, (q .2, c .before .before .before .before .before .before .before .expression .ensures .1)))
+    let a = c .before .before .before .before .before .before .before .before .before .before .before .before .before .before .args in
+    let e = c .before .before .before .before .before .before .before .expression .ensures in
+    let o = c .before .before .before .before .before .before .before .before .before .before .«open» .ensures in
+    let call = exprCall (a .text .now) (a .tree .now) (a .out .now) in
+    let q = refused-reply call _ _ o _ _ (c .before .said2 .given .1) (e .0) in
+    (q .0, (q .1, (left call _ _ o (λ x. x .count) _ (e .1 .0), (left call _ _ o (λ x. x .tree) _ (e .1 .1 .0), left call _ _ o (λ x. x .out) _ (e .1 .1 .1)))))
 
 pub pinhkray-expression-spec : {M : Type 1} → statement M
 pinhkray-expression-spec =
     tie.close
     (tie.spec
+    open-requires
     expression-requires
-    enum-known-n
-    enum-known-r
+    enum-known-said
+    enum-known-said-2
     same-length
     same-length-2
     returns

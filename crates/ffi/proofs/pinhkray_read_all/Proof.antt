@@ -1,53 +1,65 @@
-use mathlib.Core.Bool.{true}
-use mathlib.Core.Path.{sym, _∙_}
-use Rattle.reading.specs.Reading.{readSaid}
-use Rattle.ffi.proofs.Replies.{accepted-reply, refused-reply}
+use Rattle.reader.specs.Calls.{allCall}
+use Rattle.ffi.proofs.Replies.{accepted-reply, refused-reply, left}
 use borrow.Author.Needs.{needs}
 use Rattle.ffi.proofs.pinhkray_read_all.Statement.{statement}
 use Rattle.ffi.proofs.pinhkray_read_all.Tie as tie
 use Rattle.ffi.proofs.pinhkray_read_all.Reads as reads
 use Rattle.ffi.proofs.pinhkray_read_all.Lts as lts
-use Rattle.text.proofs.read_all.Reads as read-all-reads
+use Rattle.reader.proofs.Reader.open.Reads as open-reads
+use Rattle.reader.proofs.Reader.read_all.Reads as read-all-reads
 
--- src/lib.rt:48:11
+-- src/lib.rt:53:18
+open-requires : tie.Need-open-requires
+open-requires c κs = search needs
+
+-- src/lib.rt:53:9
 read-all-requires : tie.Need-read-all-requires
 read-all-requires c κs = search needs
 
--- src/lib.rt:49:32
-enum-known-k : tie.Need-enum-known-k
-enum-known-k c = search needs
+-- src/lib.rt:56:24
+enum-known-said : tie.Need-enum-known-said
+enum-known-said c = search needs
 
--- src/lib.rt:54:31
-enum-known-r : tie.Need-enum-known-r
-enum-known-r c = search needs
+-- src/lib.rt:61:23
+enum-known-said-2 : tie.Need-enum-known-said-2
+enum-known-said-2 c = search needs
 
--- src/lib.rt:36:1
+-- src/lib.rt:41:1
 same-length : tie.Need-same-length
 same-length c = search needs
 
--- src/lib.rt:36:1
+-- src/lib.rt:41:1
 returns : tie.Need-returns
 returns c =
-    let q = accepted-reply (readSaid true (c .before .before .before .before .before .before .before .before .before .args .text .now) (c .before .before .before .before .before .before .before .before .before .args .out .now)) _ _ (sym (c .before .before .before .before .before .read-all .ensures .0) ∙ c .before .k .given .1) in
-    (q .0, (q .1, (q .2, c .before .before .before .before .before .read-all .ensures .1)))
+    let a = c .before .before .before .before .before .before .before .before .before .before .args in
+    let e = c .before .before .before .before .before .read-all .ensures in
+    let o = c .before .before .before .before .before .before .before .«open» .ensures in
+    let call = allCall (a .text .now) (a .out .now) in
+    let q = accepted-reply call _ _ o _ _ _ (c .before .said .given .1) (e .0) in
+    (q .0, (q .1, (q .2, left call _ _ o (λ x. x .out) _ (e .1 .1))))
 
--- src/lib.rt:36:1
+-- src/lib.rt:41:1
 same-length-2 : tie.Need-same-length-2
 same-length-2 c = search needs
 
--- src/lib.rt:36:1
+-- src/lib.rt:41:1
 returns-2 : tie.Need-returns-2
 returns-2 c =
-    let q = refused-reply (readSaid true (c .before .before .before .before .before .before .before .before .before .args .text .now) (c .before .before .before .before .before .before .before .before .before .args .out .now)) _ (sym (c .before .before .before .before .before .read-all .ensures .0) ∙ c .before .r .given .1) in
-    (q .0, (q .1, (q .2, c .before .before .before .before .before .read-all .ensures .1)))
+    let a = c .before .before .before .before .before .before .before .before .before .before .args in
+    let e = c .before .before .before .before .before .read-all .ensures in
+    let o = c .before .before .before .before .before .before .before .«open» .ensures in
+    let call = allCall (a .text .now) (a .out .now) in
+    let q = refused-reply call _ _ o _ _ (c .before .said2 .given .1) (e .0) in
+    (q .0, (q .1, (q .2, left call _ _ o (λ x. x .out) _ (e .1 .1))))
 
 pub pinhkray-read-all-spec : {M : Type 1} → statement M
 pinhkray-read-all-spec =
     tie.close
     (tie.spec
+    open-requires
     read-all-requires
-    enum-known-k
-    enum-known-r
+    enum-known-said
+    enum-known-said-2
     same-length
     returns
     same-length-2

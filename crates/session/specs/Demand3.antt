@@ -11,7 +11,7 @@ use Rattle.grammar.specs.Item.{raise, wordsOf, bound}
 use Rattle.grammar.specs.Numbers.{Exactly}
 use Rattle.grammar.specs.Scoped.{Scoped, ScopedPreds, ScopedSolution}
 use Rattle.flatten.specs.Uncurry.{flattened}
-use Rattle.reader.specs.Session.{Op, readOne, readAll, sort, expression, bind, solution, Call, Term, aRead, aSort, anExpr, aBind, aSolution, termItems, termWords, report, made, roomFor, final, Outcome, outcome, countAfter, boundByAll}
+use Rattle.session.specs.Session.{Op, readOne, readAll, sort, expression, bind, solution, Call, Term, aRead, aSort, anExpr, aBind, aSolution, termItems, termWords, report, made, roomFor, final, Outcome, outcome, countAfter, boundByAll}
 
 -- "a parameter encloses the solution's expression, an exists its body": each fresh number that an answer at the count c uses is bound by
 -- one that encloses it.

@@ -1,6 +1,6 @@
 -- Opens every definition of this crate at once, for claims that are proved by computing.
 use Rattle.flatten.specs.Compute.{flattenComputes}
-use Rattle.reader.specs.Session.{termItems, draftItems, report, make, roomFor, final, outcome, countAfter, boundBy, boundByAll}
+use Rattle.session.specs.Session.{termItems, draftItems, report, make, roomFor, final, outcome, countAfter, boundBy, boundByAll}
 
 unfoldable pub readerComputes : Unit {0}
 unfolding flattenComputes termItems draftItems report make roomFor final outcome countAfter boundBy boundByAll

@@ -26,9 +26,9 @@ use Rattle.grammar.proofs.Walk.{child-of}
 use Rattle.grammar.proofs.WalkPreds.{KeptPreds, preds-of}
 use Rattle.grammar.proofs.SolutionOf.{SolutionOf, solution-of}
 use Rattle.grammar.proofs.Size.{Sized, SizedAll, sized}
-use Rattle.reader.specs.Session.{Op, readOne, readAll, sort, expression, bind, solution, Term, aRead, aSort, anExpr, aBind, aSolution, termItems, make}
-use Rattle.reader.specs.Demand3.{ScopedTerm, readsOrSorts}
-use Rattle.reader.proofs.Terms.{GoodTerm, bind-good, solution-good, expr-good}
+use Rattle.session.specs.Session.{Op, readOne, readAll, sort, expression, bind, solution, Term, aRead, aSort, anExpr, aBind, aSolution, termItems, make}
+use Rattle.session.specs.Demand3.{ScopedTerm, readsOrSorts}
+use Rattle.session.proofs.Terms.{GoodTerm, bind-good, solution-good, expr-good}
 
 -- An answer that takes no number.
 lifted-same : {A : Type 0} (x : Ans A) (n : ℕ) → Post (lifted x n) (λ _ m. n ≡ m)

@@ -14,8 +14,8 @@ use Rattle.reading.proofs.Finish.{finish-spent, finish-short, finish-long}
 use Rattle.grammar.specs.Item.{wordsOf}
 use Rattle.grammar.specs.ParseSort.{treeAt}
 use Rattle.grammar.specs.Operations.{theTree, makeSort, makeExpr, makeBind, makeSolution}
-use Rattle.reader.specs.Session.{Op, readOne, readAll, sort, expression, bind, solution, Call, Term, aRead, aSort, anExpr, aBind, aSolution, termItems, draftItems, termWords, report, make, made, roomFor, final, Outcome, outcome}
-use Rattle.reader.specs.Demand3.{Agree, refusal, acceptance}
+use Rattle.session.specs.Session.{Op, readOne, readAll, sort, expression, bind, solution, Call, Term, aRead, aSort, anExpr, aBind, aSolution, termItems, draftItems, termWords, report, make, made, roomFor, final, Outcome, outcome}
+use Rattle.session.specs.Demand3.{Agree, refusal, acceptance}
 
 -- The outcome by what is decided.
 outcomeBy : Call → ℕ → Final Term → Outcome

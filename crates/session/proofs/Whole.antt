@@ -14,10 +14,10 @@ use Rattle.grammar.specs.Numbers.{Exactly}
 use Rattle.grammar.proofs.Exact.{exactly-none, exactly-append, exactly-raise}
 use Rattle.grammar.proofs.Raise.{raise-zero}
 use Rattle.grammar.proofs.Post.{Post}
-use Rattle.reader.specs.Session.{Call, Term, termItems, made, roomFor, final, Outcome, outcome, countAfter, boundBy, boundByAll}
-use Rattle.reader.specs.Demand3.{ScopedFinal, AllScoped, acceptance, readsOrSorts, Agree, LongEnough, BothRefuse, BothAccept, Answered, Alike, Demand3}
-use Rattle.reader.proofs.Made.{Fine, make-fine}
-use Rattle.reader.proofs.Calls.{when-refused, when-accepted, made-same, final-same, decides-early, decides-spent, decides-short, decides-long, before-spent, no-refusal}
+use Rattle.session.specs.Session.{Call, Term, termItems, made, roomFor, final, Outcome, outcome, countAfter, boundBy, boundByAll}
+use Rattle.session.specs.Demand3.{ScopedFinal, AllScoped, acceptance, readsOrSorts, Agree, LongEnough, BothRefuse, BothAccept, Answered, Alike, Demand3}
+use Rattle.session.proofs.Made.{Fine, make-fine}
+use Rattle.session.proofs.Calls.{when-refused, when-accepted, made-same, final-same, decides-early, decides-spent, decides-short, decides-long, before-spent, no-refusal}
 
 -- What a call makes is fine.
 fine : (call : Call) (m : Term) (n : ℕ) → made call ≡ ok m n → Fine (call .op) 0 m n

@@ -1,0 +1,68 @@
+use mathlib.Core.Path.{_∙_}
+use mathlib.Core.Bool.{false}
+use Prim.Native.Nat.{_≤_}
+use native.Mathlib.Omega.{arith}
+use Rattle.reading.specs.Limits.{maxNumber}
+use Rattle.reading.specs.Reading.{readOut}
+use Rattle.reader.proofs.Outcomes.{one-known}
+use Rattle.reader.proofs.Told.{read-accepted, read-refused}
+use borrow.Author.Needs.{needs}
+use Rattle.reader.proofs.Reader.read_one.Statement.{statement}
+use Rattle.reader.proofs.Reader.read_one.Tie as tie
+use Rattle.reader.proofs.Reader.read_one.Reads as reads
+use Rattle.reader.proofs.Reader.read_one.Lts as lts
+use Rattle.text.proofs.read_one.Reads as read-one-reads
+
+-- src/lib.rt:46:15
+read-one-requires : tie.Need-read-one-requires
+read-one-requires c κs = search needs
+
+-- src/lib.rt:47:36
+enum-known-words : tie.Need-enum-known-words
+enum-known-words c = search needs
+
+-- src/lib.rt:51:35
+enum-known-r : tie.Need-enum-known-r
+enum-known-r c = search needs
+
+-- src/lib.rt:41:5
+same-length : tie.Need-same-length
+same-length c = search needs
+
+-- src/lib.rt:41:5
+returns : tie.Need-returns
+unfolding readOut
+returns c =
+    let a = c .before .before .before .before .before .before .before .before .before .args in
+    let e = c .before .before .before .before .before .read-one .ensures in
+    let small : a .self .next ≤ maxNumber = omega arith in
+    let k = one-known (a .text .now) (a .out .now) (a .self .next) small in
+    let q = read-accepted false (a .text .now) (a .out .now) _ (a .self .next) small k _ _ _ (c .before .words .given .1) (e .0) in
+    (q .0, (q .1, e .1 ∙ k .out))
+
+-- src/lib.rt:41:5
+same-length-2 : tie.Need-same-length-2
+same-length-2 c = search needs
+
+-- src/lib.rt:41:5
+returns-2 : tie.Need-returns-2
+unfolding readOut
+returns-2 c =
+    let a = c .before .before .before .before .before .before .before .before .before .args in
+    let e = c .before .before .before .before .before .read-one .ensures in
+    let small : a .self .next ≤ maxNumber = omega arith in
+    let k = one-known (a .text .now) (a .out .now) (a .self .next) small in
+    let q = read-refused false (a .text .now) (a .out .now) _ (a .self .next) small k _ _ (c .before .r .given .1) (e .0) in
+    (q .0, (q .1, e .1 ∙ k .out))
+
+pub read-one-spec : {M : Type 1} → statement M
+read-one-spec =
+    tie.close
+    (tie.spec
+    read-one-requires
+    enum-known-words
+    enum-known-r
+    same-length
+    returns
+    same-length-2
+    returns-2)

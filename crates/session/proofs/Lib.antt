@@ -1,0 +1,4 @@
+pub mod Terms
+pub mod Made
+pub mod Calls
+pub mod Whole
