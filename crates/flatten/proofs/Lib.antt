@@ -8,3 +8,4 @@ pub mod Wrote
 pub mod WriteSteps
 pub mod FewOperands
 pub mod Decided
+pub mod ParamsCoded

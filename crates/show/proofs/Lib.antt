@@ -1,0 +1,4 @@
+pub mod Stores
+pub mod Printing
+pub mod Params
+pub mod Going

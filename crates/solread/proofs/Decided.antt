@@ -1,0 +1,122 @@
+-- What a call of solution at the count 0 decides, and what it leaves in the output.
+use Prim.Native.Nat.{ℕ, _+_, _^_, _≤_}
+use mathlib.Core.Bool.{Bool, true, false, false≢true}
+use mathlib.Core.Path.{_≡_, refl, sym, ap, _∙_}
+use mathlib.Core.List.{List}
+use native.Mathlib.Omega.{arith}
+use borrow.Author.Tests.{leb-true}
+use lib.Dec.{leb, ltb}
+use lib.ListN.{length, take, drop}
+use lib.Seq.{take-at}
+use Rattle.reading.specs.Limits.{maxNumber}
+use Rattle.reading.specs.Pick.{pick}
+use Rattle.reading.specs.Answer.{number, noRoom, numbersSpent, Res, ok, no, chain, Final, accepts, refuses, finish, accepted, refused, over, outputOf, saidOf}
+use Rattle.reading.proofs.Over.{over-length, over-fits}
+use Rattle.reading.proofs.Picks.{pick-holds}
+use Rattle.grammar.specs.Item.{wordsOf}
+use Rattle.grammar.specs.Expr.{Solution, solutionItems}
+use Rattle.grammar.specs.Operations.{makeSolution}
+use Rattle.grammar.specs.Shape.{BindersCoded}
+use Rattle.grammar.proofs.Post.{Post}
+use Rattle.grammar.proofs.Raise.{raise-zero}
+use Rattle.flatten.specs.Uncurry.{flattened}
+use Rattle.flatten.specs.Operations.{noText}
+use Rattle.flatten.proofs.ParamsCoded.{ParamsCoded, params-coded}
+use Rattle.session.specs.Session.{Term, aSolution, termItems, draftItems, termWords, report, make, roomFor, final, outcome}
+use Rattle.show.specs.Lines.{refusalText, solutionText, SolutionWords}
+use Rattle.reader.specs.Calls.{solutionCall}
+use Rattle.solread.specs.Printed.{finalText}
+
+-- A solution after flattening, whose words are read back and fit.
+pub record Fits (room : ℕ) (m : Term) : Type 0 where
+  pub before : Solution
+  pub is : m ≡ aSolution before
+  pub coded : BindersCoded (before .params) noText (2 ^ 64)
+  pub short : length (wordsOf (solutionItems (flattened before))) ≤ room
+
+-- A refusal, or such a solution.
+abbrev pub Decided : ℕ → Final Term → Type 0
+Decided room (refuses r) = Unit {0}
+Decided room (accepts m n) = Fits room m
+
+module _ (text tree draft out : List ℕ) where
+  -- There is room for the words of an accepted solution.
+  room-there : (s : Solution) → roomFor (solutionCall text tree draft out) (aSolution s) ≡ true → length (wordsOf (solutionItems (flattened s))) ≤ length out
+  unfolding roomFor termItems pick
+  room-there s e = go (leb (length (wordsOf (draftItems (aSolution s)))) (length draft)) e
+    where
+      go : (b : Bool) → pick b (leb (length (wordsOf (solutionItems (flattened s)))) (length out)) false ≡ true → length (wordsOf (solutionItems (flattened s))) ≤ length out
+      go true h = leb-true _ _ h
+      go false h = absurd (false≢true h)
+
+  -- What is decided.
+  pub decided : Decided (length out) (final (solutionCall text tree draft out) 0)
+  unfolding final make finish pick
+  decided = go (makeSolution text tree 0) (params-coded text tree)
+    where
+      fits : (s : Solution) (n : ℕ) → BindersCoded (s .params) noText (2 ^ 64) → (b : Bool) → roomFor (solutionCall text tree draft out) (aSolution s) ≡ b → Decided (length out) (pick b (accepts (aSolution s) n) (refuses (number noRoom)))
+      fits s n p true e = record { before = s; is = refl; coded = p; short = room-there s e }
+      fits s n p false e = tt
+
+      go : (r : Res Solution) → Post r ParamsCoded → Decided (length out) (finish (roomFor (solutionCall text tree draft out)) 0 (chain r (λ s n. ok (aSolution s) n)))
+      go (no r) p = tt
+      go (ok s n) p =
+          pick-holds (ltb maxNumber (0 + n)) (refuses numbersSpent) (pick (roomFor (solutionCall text tree draft out) (aSolution s)) (accepts (aSolution s) n) (refuses (number noRoom))) (Decided (length out)) tt (fits s n p (roomFor (solutionCall text tree draft out) (aSolution s)) refl)
+
+-- The solution that is printed, and that its words are the first of the output.
+pub record Answered (text : List ℕ) (room k : ℕ) (words : List ℕ) : Type 0 where
+  pub solution : Solution
+  pub is : text ≡ solutionText solution
+  pub long : length words ≡ room
+  pub inside : k ≤ room
+  pub tells : SolutionWords solution (take k words)
+
+-- Two answers that differ.
+no-accepted : {a b r : ℕ} → accepted a b ≡ refused r → ⊥
+no-accepted e = let z : _≡_ {A = ℕ} 0 1 = cc in absurd (omega arith)
+
+-- The words of a solution, how many are said to be, and that it is not said to be refused.
+words-of : (s : Solution) → termWords 0 (aSolution s) ≡ wordsOf (solutionItems (flattened s))
+unfolding termItems
+words-of s = rw (raise-zero (solutionItems (flattened s))) refl
+
+words-said : (s : Solution) {a b : ℕ} → accepted a b ≡ report (aSolution s) → a ≡ length (wordsOf (solutionItems (flattened s)))
+unfolding report
+words-said s q = cc
+
+not-said : (s : Solution) {r : ℕ} → refused r ≡ report (aSolution s) → ⊥
+unfolding report
+not-said s q = no-accepted (sym q)
+
+-- What is known where a call is accepted, or refused, by what it decides.
+when-accepted : (out words : List ℕ) (f : Final Term) → Decided (length out) f → (k j : ℕ) → accepted k j ≡ saidOf report f → words ≡ outputOf (termWords 0) f out → Answered (finalText f) (length out) k words
+unfolding saidOf outputOf finalText
+when-accepted out words (refuses r) d k j e w = absurd (no-accepted e)
+when-accepted out words (accepts m n) d k j e w =
+    let s : Solution = flattened (d .before) in
+    let ws : List ℕ = wordsOf (solutionItems s) in
+    let n′ : k ≡ length ws = words-said (d .before) (e ∙ ap report (d .is)) in
+    let o : words ≡ over ws out = w ∙ rw (d .is, words-of (d .before)) refl in
+    record {
+      solution = s;
+      is = rw (d .is) refl;
+      long = ap length o ∙ over-length ws out;
+      inside = omega (arith, d .short, n′);
+      tells = (d .coded, rw (o, n′, over-fits ws out (d .short)) (take-at ws (drop (length ws) out) (length ws) refl));
+    }
+
+when-refused : (room : ℕ) (f : Final Term) → Decided room f → (r : ℕ) → refused r ≡ saidOf report f → finalText f ≡ refusalText r
+unfolding saidOf finalText
+when-refused room (refuses q) d r e = let z : r ≡ q = cc in rw z refl
+when-refused room (accepts m n) d r e = absurd (not-said (d .before) (e ∙ ap report (d .is)))
+
+module _ (text tree draft out : List ℕ) (c : ℕ) (new : c ≡ 0) where
+  -- An accepted call.
+  pub call-accepted : {words : List ℕ} {k j : ℕ} → accepted k j ≡ outcome (solutionCall text tree draft out) c .said → words ≡ outcome (solutionCall text tree draft out) c .out → Answered (finalText (final (solutionCall text tree draft out) 0)) (length out) k words
+  unfolding outcome
+  call-accepted {words} {k} {j} e w = when-accepted out words (final (solutionCall text tree draft out) 0) (decided text tree draft out) k j (rw new at e) (rw new at w)
+
+  -- A refused one.
+  pub call-refused : {r : ℕ} → refused r ≡ outcome (solutionCall text tree draft out) c .said → finalText (final (solutionCall text tree draft out) 0) ≡ refusalText r
+  unfolding outcome
+  call-refused {r} e = when-refused (length out) (final (solutionCall text tree draft out) 0) (decided text tree draft out) r (rw new at e)
