@@ -1,4 +1,4 @@
-// The library's functions for C and Rust, each a call on a reader that is opened at a count. Each returns the refusal's number, 0 if
+// The library's functions for C and Rust, each but the last a call on a reader that is opened at a count. Each returns the refusal's number, 0 if
 // accepted; a slice passes as a pointer and a length in elements. After a refusal the reported numbers are 0, and the count is as it was.
 // The contracts cite the outcomes of crates/session/specs/Session.antt, of which demand 3 is proved.
 ghost use mathlib.Core.Path.{_≡_};
@@ -175,9 +175,9 @@ pub extern "C" fn pinhkray_solution(
     ensures body { λ _. ⌜ now (draft .exit) ≡ outcome (solutionCall (now (text .entry)) (now (tree .entry)) (now (draft .entry)) (now (out .entry))) count .draft ⌝ }
     ensures output { λ _. ⌜ now (out .exit) ≡ outcome (solutionCall (now (text .entry)) (now (tree .entry)) (now (draft .entry)) (now (out .entry))) count .out ⌝ }
 {
-    let answer = Reader::open(count).solution(text, tree, draft, out);
-    *count_after = answer.reader.next;
-    let said = answer.said;
+    let solved = Reader::open(count).solution(text, tree, draft, out);
+    *count_after = solved.reader.next;
+    let said = solved.said;
     match said {
         Said::Accepted(n, _) => {
             *words = n as u64;
@@ -202,9 +202,9 @@ pub extern "C" fn pinhkray_flatten(words_in: &[u32], out: &mut [u32], words: &mu
             *words = flat as u64;
             0
         }
-        sorts::Answer::Refused(r) => {
+        sorts::Answer::Refused(why) => {
             *words = 0;
-            r
+            why
         }
     }
 }

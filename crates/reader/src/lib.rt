@@ -152,13 +152,14 @@ impl Reader {
         ensures body { λ _. ⌜ now (draft .exit) ≡ outcome (solutionCall (now (text .entry)) (now (tree .entry)) (now (draft .entry)) (now (out .entry))) (self .next) .draft ⌝ }
         ensures output { λ _. ⌜ now (out .exit) ≡ outcome (solutionCall (now (text .entry)) (now (tree .entry)) (now (draft .entry)) (now (out .entry))) (self .next) .out ⌝ }
     {
-        match flatten::solution(text, tree, draft, out, self.next) {
-            Counted::Done(words, next) => Answer {
-                reader: Reader { next },
+        let before = self.next;
+        match flatten::solution(text, tree, draft, out, before) {
+            Counted::Done(words, raised) => Answer {
+                reader: Reader { next: raised },
                 said: Said::Accepted(words, 0),
             },
             Counted::Refused(r) => Answer {
-                reader: self,
+                reader: Reader { next: before },
                 said: Said::Refused(r),
             },
         }

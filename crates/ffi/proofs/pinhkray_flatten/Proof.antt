@@ -15,8 +15,8 @@ enum-known-flat : tie.Need-enum-known-flat
 enum-known-flat c = search needs
 
 -- src/lib.rt:207:32
-enum-known-r : tie.Need-enum-known-r
-enum-known-r c = search needs
+enum-known-why : tie.Need-enum-known-why
+enum-known-why c = search needs
 
 -- src/lib.rt:196:1
 same-length : tie.Need-same-length
@@ -39,7 +39,7 @@ returns-2 : tie.Need-returns-2
 returns-2 c =
     let a = c .before .before .before .before .before .before .before .before .before .args in
     let e = c .before .before .before .before .before .flatten .ensures in
-    let q = flatten-refused (a .words-in .now) (a .out .now) _ _ (c .before .r .given .1) (e .0) in
+    let q = flatten-refused (a .words-in .now) (a .out .now) _ _ (c .before .why .given .1) (e .0) in
     (q .0, (q .1, e .1))
 
 pub pinhkray-flatten-spec : {M : Type 1} → statement M
@@ -48,7 +48,7 @@ pinhkray-flatten-spec =
     (tie.spec
     flatten-requires
     enum-known-flat
-    enum-known-r
+    enum-known-why
     same-length
     returns
     same-length-2
