@@ -19,6 +19,14 @@ impl Case {
     }
 }
 
+/// Flattening takes words and no reader.
+pub struct Flattening {
+    pub line: usize,
+    pub words: Vec<u32>,
+    pub out: usize,
+    pub answer: Result<Answer, Refusal>,
+}
+
 /// Parts joined by a sign, each perhaps `*N`: this part N times.
 fn parts(text: &str, joined: char) -> impl Iterator<Item = (&str, usize)> {
     text.split(joined).map(|p| match p.split_once('*') {
@@ -43,34 +51,45 @@ fn words(text: &str) -> Vec<u32> {
     parts(text, ',').flat_map(|(p, n)| vec![u32::from_str_radix(p, 16).expect("a hexadecimal number"); n]).collect()
 }
 
-/// Flattening takes no text and is left out.
-fn operation(op: &str) -> Option<Operation> {
+fn operation(op: &str) -> Operation {
     match op {
-        "R" => Some(Operation::ReadOne),
-        "A" => Some(Operation::ReadAll),
-        "S" => Some(Operation::Sort),
-        "E" => Some(Operation::Expression),
-        "B" => Some(Operation::Bind),
-        "L" => Some(Operation::Solution),
-        "F" => None,
+        "R" => Operation::ReadOne,
+        "A" => Operation::ReadAll,
+        "S" => Operation::Sort,
+        "E" => Operation::Expression,
+        "B" => Operation::Bind,
+        "L" => Operation::Solution,
         _ => panic!("an operation, and not {op}"),
     }
 }
 
-fn case(line: usize, text: &str) -> Option<Case> {
-    let f: Vec<&str> = text.split(' ').collect();
-    let number = |i: usize| f[i].parse::<u64>().expect("a number");
-    let len = |i: usize| number(i) as usize;
-    let answer = match number(7) {
+fn number(field: &str) -> u64 {
+    field.parse().expect("a number")
+}
+
+fn answer(f: &[&str]) -> Result<Answer, Refusal> {
+    let number = |i: usize| number(f[i]);
+    match number(7) {
         0 => Ok(Answer { a: number(8), b: number(9), count: number(10), words: words(f[11]) }),
         refusal => {
             assert_eq!((number(8), number(9), f[10], f[11]), (0, 0, f[1], "-"), "a recorded refusal reports nothing");
             Err(refusal as Refusal)
         }
-    };
-    Some(Case { line, op: operation(f[0])?, text: bytes(f[5]), tree: len(2), draft: len(3), out: len(4), start: number(1), answer })
+    }
 }
 
-pub fn read(text: &str) -> Vec<Case> {
-    text.lines().enumerate().filter_map(|(i, line)| case(i + 1, line)).collect()
+/// The cases that begin with a text, and those that flatten words.
+pub fn read(text: &str) -> (Vec<Case>, Vec<Flattening>) {
+    let (mut cases, mut flattenings) = (Vec::new(), Vec::new());
+    for (i, text) in text.lines().enumerate() {
+        let (line, f) = (i + 1, text.split(' ').collect::<Vec<_>>());
+        let len = |i: usize| number(f[i]) as usize;
+        if f[0] == "F" {
+            flattenings.push(Flattening { line, words: words(f[5]), out: len(4), answer: answer(&f) });
+        } else {
+            let (op, start) = (operation(f[0]), number(f[1]));
+            cases.push(Case { line, op, text: bytes(f[5]), tree: len(2), draft: len(3), out: len(4), start, answer: answer(&f) });
+        }
+    }
+    (cases, flattenings)
 }

@@ -15,6 +15,11 @@ impl Operation {
     pub fn takes_tree(self) -> bool {
         !matches!(self, Operation::ReadOne | Operation::ReadAll)
     }
+
+    /// Whether it is lent a draft slice besides.
+    pub fn takes_draft(self) -> bool {
+        self == Operation::Solution
+    }
 }
 
 /// A text, how many words the lent slices have, and the reader's count before the call.
@@ -41,11 +46,11 @@ pub type Refusal = u32;
 /// What an accepted call reports and writes.
 #[derive(Clone, Debug, PartialEq, Eq)]
 pub struct Answer {
-    /// Read one and the parser's operations: how many words were written; read all: how many expressions.
+    /// Read all: how many expressions; else how many words were written.
     pub a: u64,
     /// Read one: the byte after the expression; read all: how many words were written; else 0.
     pub b: u64,
-    /// The reader's count after the call.
+    /// The reader's count after the call; flattening takes no reader and has 0 here.
     pub count: u64,
     pub words: Vec<u32>,
 }

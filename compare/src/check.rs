@@ -28,38 +28,69 @@ fn cleared(len: usize) -> Vec<u32> {
     written(&vec![0; len], len)
 }
 
-/// What the call should reply, and the output after it.
-fn expected(call: &Call, should: &Result<Answer, Refusal>) -> (Reply, Vec<u32>) {
+/// What a call at a count should reply, and an output of so many words after it.
+fn expected(count: u64, out: usize, should: &Result<Answer, Refusal>) -> (Reply, Vec<u32>) {
     match should {
-        Ok(answer) => (Reply { refusal: 0, a: answer.a, b: answer.b, count: answer.count }, written(&answer.words, call.out)),
-        Err(refusal) => (Reply { refusal: *refusal, a: 0, b: 0, count: call.count }, cleared(call.out)),
+        Ok(answer) => (Reply { refusal: 0, a: answer.a, b: answer.b, count: answer.count }, written(&answer.words, out)),
+        Err(refusal) => (Reply { refusal: *refusal, a: 0, b: 0, count }, cleared(out)),
     }
 }
 
-/// Calls the library, with slices that are filled with a pattern first.
-pub fn call(call: &Call, should: &Result<Answer, Refusal>) -> Result<(), String> {
+/// Calls the library, with slices that are filled with a pattern first; the count of the reader that comes back.
+pub fn call(call: &Call, should: &Result<Answer, Refusal>) -> Result<u64, String> {
     let tree_len = if call.op.takes_tree() { call.tree } else { 0 };
-    let (mut tree, mut out) = (filled(tree_len), filled(call.out));
-    let reply = ffi::reply(call, &mut tree[..tree_len], &mut out[..call.out]);
-    let (good, out_after) = expected(call, should);
-    if reply != good {
-        return Err(format!("{}: {reply:?}, and not {good:?}", shown(call)));
-    }
-    same(call, "output", &out, &out_after)?;
-    same(call, "tree", &tree, &cleared(tree_len))
+    let draft_len = if call.op.takes_draft() { call.draft } else { 0 };
+    let (mut tree, mut draft, mut out) = (filled(tree_len), filled(draft_len), filled(call.out));
+    let reply = ffi::reply(call, &mut tree[..tree_len], &mut draft[..draft_len], &mut out[..call.out]);
+    let (good, out_after) = expected(call.count, call.out, should);
+    let held = || {
+        replied(reply, good)?;
+        same("output", &out, &out_after)?;
+        same("tree", &tree, &cleared(tree_len))?;
+        same("draft", &draft, &cleared(draft_len))
+    };
+    held().map_err(|e| format!("{}: {e}", shown(call)))?;
+    Ok(reply.count)
 }
 
-fn same(call: &Call, slice: &str, is: &[u32], should: &[u32]) -> Result<(), String> {
+/// The same of flattening, which leaves the words that it reads as they are.
+pub fn flatten(words: &[u32], out_len: usize, should: &Result<Answer, Refusal>) -> Result<(), String> {
+    let (mut read, mut out) = (words.to_vec(), filled(out_len));
+    let reply = ffi::flatten(&mut read, &mut out[..out_len]);
+    let (good, out_after) = expected(0, out_len, should);
+    let held = || {
+        replied(reply, good)?;
+        same("output", &out, &out_after)?;
+        same("words read", &read, words)
+    };
+    held().map_err(|e| format!("{}: {e}", shown_words(words, out_len)))
+}
+
+fn replied(reply: Reply, good: Reply) -> Result<(), String> {
+    if reply != good {
+        return Err(format!("{reply:?}, and not {good:?}"));
+    }
+    Ok(())
+}
+
+fn same(slice: &str, is: &[u32], should: &[u32]) -> Result<(), String> {
     match is.iter().zip(should).position(|(a, b)| a != b) {
-        Some(at) => Err(format!("{}: word {at} of the {slice} is {:x}, and not {:x}", shown(call), is[at], should[at])),
+        Some(at) => Err(format!("word {at} of the {slice} is {:x}, and not {:x}", is[at], should[at])),
         None => Ok(()),
     }
 }
 
 /// The call, for a message.
 pub fn shown(call: &Call) -> String {
-    let &Call { op, text, tree, out, count, .. } = call;
+    let &Call { op, text, tree, draft, out, count } = call;
     let end = text.len().min(400);
     let more = if end < text.len() { ".." } else { "" };
-    format!("{op:?}, tree {tree}, output {out}, count {count}, text {:?}{more}", String::from_utf8_lossy(&text[..end]))
+    format!("{op:?}, tree {tree}, draft {draft}, output {out}, count {count}, text {:?}{more}", String::from_utf8_lossy(&text[..end]))
+}
+
+/// The same of flattening.
+pub fn shown_words(words: &[u32], out: usize) -> String {
+    let end = words.len().min(200);
+    let more = if end < words.len() { ".." } else { "" };
+    format!("Flatten, output {out}, words {:x?}{more}", &words[..end])
 }

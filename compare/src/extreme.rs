@@ -33,6 +33,7 @@ fn binders() -> impl Iterator<Item = String> {
 fn deepest() -> Vec<(&'static str, String)> {
     let max = MAX_LISTS;
     let bind = |sort: &str, predicate: &str| format!("((x {sort}) {predicate})");
+    let lambda = |sort: &str, body: &str| format!("(lambda ((x {sort})) {body})");
     vec![
         ("lists", nest("(", max, "", ")")),
         ("lists, one too deep", nest("(", max + 1, "", ")")),
@@ -69,6 +70,13 @@ fn deepest() -> Vec<(&'static str, String)> {
         ("a bind's nots", bind("Int", &nest("(not ", max - 1, "x", ")"))),
         ("a bind's exists", bind("Int", &nest("(exists ((y Int)) ", max - 3, "(not (not y))", ")"))),
         ("a bind's lists", bind("Int", &nest("(", max - 1, "x", ")"))),
+        ("a solution's sort", lambda(&nest("(Set_Set ", max - 3, "Int", ")"), "x")),
+        ("a solution's nots", lambda("Int", &nest("(not ", max - 1, "x", ")"))),
+        ("a solution's exists", lambda("Int", &nest("(exists ((y Int)) ", max - 3, "(not (not y))", ")"))),
+        ("a solution's heads", lambda("Int", &nest("(", max - 3, "((as apply Int) f)", " x)"))),
+        ("a solution's sorted heads", lambda("Int", &nest("((as apply Int) ", max - 2, "f", ")"))),
+        ("a solution's arguments", lambda("Int", &nest("((not f) ", max - 2, "x", ")"))),
+        ("a solution's heads in arguments", lambda("Int", &nest("(((as apply Int) (not f)) ", max - 3, "x", ")"))),
     ]
 }
 
@@ -103,6 +111,16 @@ fn longest() -> Vec<(&'static str, String)> {
         ("kvars", fill("((x Int)(and", same("($ a)"), "))")),
         ("a bind's binders", fill("((x Int)(exists(", binders(), ")a))")),
         ("a bind's sort", fill("((x(A a", same(" a"), "))(x))")),
+        ("parameters", fill("(lambda(", binders(), ")a)")),
+        ("a parameter repeated", fill("(lambda(", same("(a a)"), ")a)")),
+        ("a parameter's uses", fill("(lambda((a a))(and", same(" a"), "))")),
+        ("a solution's arguments", fill("(lambda()((not f)a", same(" a"), "))")),
+        ("a solution's joined arguments", fill("(lambda()(((((not f)a a)b b)c c)d", same(" d"), "))")),
+        ("a solution's applications", fill("(lambda()(and", same("(((not f)a)b)"), "))")),
+        ("arguments of the innermost head", {
+            let frame = format!("(lambda(){})", nest("(", 50, "((not f)a)", " b)")).len();
+            format!("(lambda(){})", nest("(", 50, &format!("((not f)a{})", " a".repeat((MAX_BYTES - frame) / 2)), " b)"))
+        }),
         ("numbers", fill("(and 1", same(" 1"), ")")),
         ("the most words of a tree", fill("(", same("1(1)"), ")")),
         ("strings", fill("(and", same("\"\""), ")")),

@@ -1,7 +1,7 @@
 //! Holds the proved library against document 01 and against the source, by running.
 //!
 //!     compare gate [ANSWERS]        the recorded answers, the small stack, and some hundred thousand calls
-//!     compare long SEED MILLIONS    so many million random calls for sort, expression and bind together, behind all small texts
+//!     compare long SEED MILLIONS    so many million random calls for parsing, flattening and sessions together, behind all small texts
 //!     compare reading SEED MILLIONS so many million for read one and read all against sexp.rs, behind all short texts
 //!     compare bench TEXT ..         the time of read one against sexp.rs
 //!
@@ -12,33 +12,53 @@ mod call;
 mod check;
 mod extreme;
 mod ffi;
+mod flattening;
+mod lengths;
 mod paper;
 mod parsing;
 mod random;
 #[cfg(flux_source)]
 mod reading;
 mod recorded;
+mod sessions;
 mod stack;
 mod tally;
 
-use parsing::{Size, Small};
+use parsing::Small;
 use random::Random;
 
-const GATE: Size = Size { small: Small { alone: 5, framed: 4, row: 3 }, random: 200_000 };
+/// How far a run goes.
+struct Size {
+    small: Small,
+    /// Words of a small list to flatten.
+    words: usize,
+    /// Random calls, all operations together.
+    random: u64,
+}
+
+const GATE: Size = Size { small: Small { alone: 5, framed: 4, row: 3 }, words: 5, random: 400_000 };
 const LONG: Small = Small { alone: 6, framed: 5, row: 5 };
 
 fn gate(answers: Option<&str>) -> Result<(), String> {
     match answers {
         Some(path) => {
-            let (all, called) = recorded::run(path)?;
-            println!("compare: {all} recorded answers: the paper gives them all, the library {called} that it was asked for");
+            let all = recorded::run(path)?;
+            println!("compare: {all} recorded answers: the paper gives them all, and so does the library");
         }
         None => println!("compare: recorded answers skipped, for want of them"),
     }
     let (calls, accepted) = stack::run()?;
-    println!("compare: {calls} calls on the deepest and longest texts, {accepted} accepted, in a stack of {} KiB: no difference", stack::BYTES / 1024);
-    parsing::run(&GATE, &mut Random::new(1))?;
+    println!("compare: {calls} calls on the deepest and longest texts and words, {accepted} accepted, in a stack of {} KiB: no difference", stack::BYTES / 1024);
+    against_paper(&GATE, &mut Random::new(1))?;
     against_source(answers)
+}
+
+fn against_paper(size: &Size, r: &mut Random) -> Result<(), String> {
+    let parsed = parsing::run(size.small, size.random / 2, r)?;
+    let flattened = flattening::run(size.words, size.random / 4, r)?;
+    let sessions = sessions::run(size.random / 4, r)?;
+    println!("compare: the paper, these together: {}: no difference", parsed + flattened + sessions);
+    Ok(())
 }
 
 #[cfg(flux_source)]
@@ -73,8 +93,8 @@ fn run(words: &[&str]) -> Result<(), String> {
         ["gate"] => gate(None),
         ["gate", path] => gate(Some(path)),
         ["long", seed, millions] => {
-            let size = Size { small: LONG, random: number(millions)? * 1_000_000 };
-            parsing::run(&size, &mut Random::new(number(seed)?))
+            let size = Size { small: LONG, words: 6, random: number(millions)? * 1_000_000 };
+            against_paper(&size, &mut Random::new(number(seed)?))
         }
         #[cfg(flux_source)]
         ["reading", seed, millions] => reading_long(seed, millions),

@@ -1,25 +1,29 @@
-//! The recorded answers: the paper gives all of them, and so does the library where this build calls it.
+//! The recorded answers: the paper gives all of them, and so does the library.
 
 use crate::answers;
+use crate::call::{Answer, Refusal};
 use crate::check;
-use crate::ffi;
 use crate::paper;
 
-/// How many answers were held against the paper, and how many of these against the library.
-pub fn run(path: &str) -> Result<(usize, usize), String> {
+fn agrees(line: usize, call: String, paper: &Result<Answer, Refusal>, recorded: &Result<Answer, Refusal>) -> Result<(), String> {
+    if paper != recorded {
+        return Err(format!("line {line}, {call}: the paper says {paper:?}, and not {recorded:?}"));
+    }
+    Ok(())
+}
+
+/// How many answers were compared.
+pub fn run(path: &str) -> Result<usize, String> {
     let file = std::fs::read_to_string(path).map_err(|e| format!("{path}: {e}"))?;
-    let cases = answers::read(&file);
-    let mut called = 0;
+    let (cases, flattenings) = answers::read(&file);
     for case in &cases {
         let call = case.call();
-        let paper = paper::answer(&call);
-        if paper != case.answer {
-            return Err(format!("line {}, {}: the paper says {paper:?}, and not {:?}", case.line, check::shown(&call), case.answer));
-        }
-        if ffi::has(case.op) {
-            check::call(&call, &case.answer).map_err(|e| format!("line {}, {e}", case.line))?;
-            called += 1;
-        }
+        agrees(case.line, check::shown(&call), &paper::answer(&call), &case.answer)?;
+        check::call(&call, &case.answer).map_err(|e| format!("line {}, {e}", case.line))?;
     }
-    Ok((cases.len(), called))
+    for f in &flattenings {
+        agrees(f.line, check::shown_words(&f.words, f.out), &paper::flatten(&f.words, f.out), &f.answer)?;
+        check::flatten(&f.words, f.out, &f.answer).map_err(|e| format!("line {}, {e}", f.line))?;
+    }
+    Ok(cases.len() + flattenings.len())
 }

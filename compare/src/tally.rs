@@ -7,7 +7,7 @@ use std::ops::Add;
 #[derive(Default)]
 pub struct Tally {
     accepted: u64,
-    refused: [u64; 14],
+    refused: [u64; 15],
 }
 
 impl Tally {

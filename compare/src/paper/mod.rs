@@ -3,6 +3,7 @@
 
 mod bind;
 mod expr;
+mod flatten;
 mod number;
 mod read;
 mod refusal;
@@ -13,9 +14,11 @@ mod words;
 
 use crate::call::{Answer, Call, Operation, Refusal};
 use expr::Parser;
+pub use flatten::{flatten, MAX_NODES};
 use read::Tree;
 pub use read::{MAX_BYTES, MAX_LISTS};
 use refusal::*;
+pub use words::Fresh;
 use words::Words;
 
 /// An item of a list; one that is missing is met when it is asked for.
@@ -23,14 +26,14 @@ fn item<'a, 't>(items: &'a [Tree<'t>], i: usize) -> Result<&'a Tree<'t>, Refusal
     items.get(i).ok_or(MALFORMED)
 }
 
-fn written(write: impl FnOnce(&mut Words)) -> Vec<u32> {
+fn written(write: impl FnOnce(&mut Words)) -> Words {
     let mut words = Words::default();
     write(&mut words);
-    words.0
+    words
 }
 
-fn fits(words: &[u32], len: usize) -> Result<(), Refusal> {
-    if words.len() > len {
+fn fits(words: &Words, len: usize) -> Result<(), Refusal> {
+    if words.words.len() > len {
         return Err(NO_ROOM);
     }
     Ok(())
@@ -39,14 +42,20 @@ fn fits(words: &[u32], len: usize) -> Result<(), Refusal> {
 /// How many words the tree of the first expression has, if the text has one.
 pub fn tree_words(text: &[u8]) -> Result<usize, Refusal> {
     let (tree, _) = read::one(text)?;
-    Ok(written(|w| w.tree(&tree)).len())
+    Ok(written(|w| w.tree(&tree)).words.len())
+}
+
+/// How many words a solution's body has before flattening, if the text has a solution.
+pub fn draft_words(text: &[u8]) -> Result<usize, Refusal> {
+    let (tree, _) = read::one(text)?;
+    let solution = solution::solution(&mut Parser::new(0), &tree)?;
+    Ok(written(|w| w.expr(&solution.body)).words.len())
 }
 
 /// The answer to a call.
 pub fn answer(call: &Call) -> Result<Answer, Refusal> {
-    let &Call { text, tree, draft, out, count, .. } = call;
-    let parsed = |(words, count): (Vec<u32>, u64)| Answer { a: words.len() as u64, b: 0, count, words };
-    match call.op {
+    let &Call { op, text, out, count, .. } = call;
+    match op {
         Operation::ReadOne => {
             let (words, next) = read_one(text, out)?;
             Ok(Answer { a: words.len() as u64, b: next as u64, count, words })
@@ -55,10 +64,18 @@ pub fn answer(call: &Call) -> Result<Answer, Refusal> {
             let (words, expressions) = read_all(text, out)?;
             Ok(Answer { a: expressions as u64, b: words.len() as u64, count, words })
         }
-        Operation::Sort => sort(text, tree, out).map(|words| parsed((words, count))),
-        Operation::Expression => expression(text, tree, out, count).map(parsed),
-        Operation::Bind => bind(text, tree, out, count).map(parsed),
-        Operation::Solution => solution(text, tree, draft, out, count).map(parsed),
+        _ => {
+            let (Words { words, .. }, count) = parsed(call)?;
+            Ok(Answer { a: words.len() as u64, b: 0, count, words })
+        }
+    }
+}
+
+/// The fresh numbers in the answer to a call, by their places.
+pub fn fresh(call: &Call) -> Result<Vec<Fresh>, Refusal> {
+    match call.op {
+        Operation::ReadOne | Operation::ReadAll => Ok(Vec::new()),
+        _ => Ok(parsed(call)?.0.fresh),
     }
 }
 
@@ -67,7 +84,7 @@ fn read_one(text: &[u8], out: usize) -> Result<(Vec<u32>, usize), Refusal> {
     let (tree, next) = read::one(text)?;
     let words = written(|w| w.tree(&tree));
     fits(&words, out)?;
-    Ok((words, next))
+    Ok((words.words, next))
 }
 
 /// The words, and how many expressions there are.
@@ -75,7 +92,7 @@ fn read_all(text: &[u8], out: usize) -> Result<(Vec<u32>, usize), Refusal> {
     let trees = read::all(text)?;
     let words = written(|w| trees.iter().for_each(|t| w.tree(t)));
     fits(&words, out)?;
-    Ok((words, trees.len()))
+    Ok((words.words, trees.len()))
 }
 
 /// What read one refuses, with 7 for the tree slice.
@@ -90,44 +107,43 @@ fn count_after(parser: &Parser) -> Result<u64, Refusal> {
     parser.next.try_into().map_err(|_| NUMBERS_SPENT)
 }
 
-/// The words.
-pub fn sort(text: &[u8], tree_len: usize, out: usize) -> Result<Vec<u32>, Refusal> {
-    let sort = sort::sort(&tree(text, tree_len)?)?;
-    let words = written(|w| w.sort(&sort));
-    fits(&words, out)?;
-    Ok(words)
+/// The words that one of the parser's operations writes, and the count after the call.
+fn parsed(call: &Call) -> Result<(Words, u64), Refusal> {
+    let tree = tree(call.text, call.tree)?;
+    let mut parser = Parser::new(call.count);
+    let words = match call.op {
+        Operation::Sort => {
+            let sort = sort::sort(&tree)?;
+            written(|w| w.sort(&sort))
+        }
+        Operation::Bind => bind(&mut parser, &tree)?,
+        Operation::Solution => solution(&mut parser, &tree, call.draft)?,
+        _ => expression(&mut parser, &tree)?,
+    };
+    fits(&words, call.out)?;
+    Ok((words, count_after(&parser)?))
 }
 
-/// The words, and the count after the call; so also of the next two.
-pub fn expression(text: &[u8], tree_len: usize, out: usize, count: u64) -> Result<(Vec<u32>, u64), Refusal> {
-    let mut parser = Parser::new(count);
-    let expr = parser.expr(&tree(text, tree_len)?)?;
-    let after = count_after(&parser)?;
-    let words = written(|w| w.expr(&expr));
-    fits(&words, out)?;
-    Ok((words, after))
+fn expression<'t>(parser: &mut Parser<'t>, tree: &Tree<'t>) -> Result<Words, Refusal> {
+    let expr = parser.expr(tree)?;
+    count_after(parser)?;
+    Ok(written(|w| w.expr(&expr)))
 }
 
-pub fn bind(text: &[u8], tree_len: usize, out: usize, count: u64) -> Result<(Vec<u32>, u64), Refusal> {
-    let mut parser = Parser::new(count);
-    let bind = bind::bind(&mut parser, &tree(text, tree_len)?)?;
-    let after = count_after(&parser)?;
-    let words = written(|w| w.bind(&bind));
-    fits(&words, out)?;
-    Ok((words, after))
+fn bind<'t>(parser: &mut Parser<'t>, tree: &Tree<'t>) -> Result<Words, Refusal> {
+    let bind = bind::bind(parser, tree)?;
+    count_after(parser)?;
+    Ok(written(|w| w.bind(&bind)))
 }
 
 /// The draft takes the body before flattening.
-pub fn solution(text: &[u8], tree_len: usize, draft: usize, out: usize, count: u64) -> Result<(Vec<u32>, u64), Refusal> {
-    let mut parser = Parser::new(count);
-    let solution = solution::solution(&mut parser, &tree(text, tree_len)?)?;
-    let after = count_after(&parser)?;
+fn solution<'t>(parser: &mut Parser<'t>, tree: &Tree<'t>, draft: usize) -> Result<Words, Refusal> {
+    let solution = solution::solution(parser, tree)?;
+    count_after(parser)?;
     fits(&written(|w| w.expr(&solution.body)), draft)?;
     let flat = solution::uncurry(solution.body);
-    let words = written(|w| {
+    Ok(written(|w| {
         w.binders(&solution.parameters);
         w.expr(&flat);
-    });
-    fits(&words, out)?;
-    Ok((words, after))
+    }))
 }

@@ -16,3 +16,5 @@ pub const REPEATED_NAME: Refusal = 10;
 pub const NO_BITS: Refusal = 11;
 pub const FUNC_NUMBER: Refusal = 12;
 pub const NUMBERS_SPENT: Refusal = 13;
+/// Words to flatten that end early, are left over, or are outside their code.
+pub const NO_WORDS: Refusal = 14;

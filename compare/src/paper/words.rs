@@ -5,16 +5,26 @@ use super::expr::{Binder, Expr};
 use super::read::{Name, Tree};
 use super::sort::{Constructor, Sort};
 
+/// A fresh number by the place of its two words.
+#[derive(Clone, Copy)]
+pub enum Fresh {
+    Binds(usize),
+    Uses(usize),
+}
+
 #[derive(Default)]
-pub struct Words(pub Vec<u32>);
+pub struct Words {
+    pub words: Vec<u32>,
+    pub fresh: Vec<Fresh>,
+}
 
 impl Words {
     fn put(&mut self, words: &[u32]) {
-        self.0.extend_from_slice(words);
+        self.words.extend_from_slice(words);
     }
 
     fn count(&mut self, n: usize) {
-        self.0.push(n as u32);
+        self.words.push(n as u32);
     }
 
     fn name(&mut self, name: &Name) {
@@ -24,12 +34,13 @@ impl Words {
 
     /// Four words, lowest first.
     fn wide(&mut self, n: u128) {
-        self.0.extend((0..4).map(|i| (n >> (32 * i)) as u32));
+        self.words.extend((0..4).map(|i| (n >> (32 * i)) as u32));
     }
 
     /// Two words, low then high. Only a number that is not spent is ever written.
-    fn fresh(&mut self, number: u128) {
+    fn number(&mut self, number: u128, of: fn(usize) -> Fresh) {
         assert!(number <= u64::MAX.into());
+        self.fresh.push(of(self.words.len()));
         self.put(&[number as u32, (number >> 32) as u32]);
     }
 
@@ -45,9 +56,9 @@ impl Words {
             Tree::Boolean(b) => self.put(&[20, *b as u32]),
             Tree::List(items) => {
                 self.put(&[21, items.len() as u32, 0]);
-                let first = self.0.len();
+                let first = self.words.len();
                 items.iter().for_each(|i| self.tree(i));
-                self.0[first - 1] = (self.0.len() - first) as u32;
+                self.words[first - 1] = (self.words.len() - first) as u32;
             }
         }
     }
@@ -102,7 +113,7 @@ impl Words {
             }
             Expr::Fresh(number) => {
                 self.put(&[36]);
-                self.fresh(*number);
+                self.number(*number, Fresh::Uses);
             }
             Expr::Var(name) => self.named(37, name),
             Expr::App { arguments, output, head } => {
@@ -156,7 +167,7 @@ impl Words {
     pub fn binders(&mut self, binders: &[Binder]) {
         self.count(binders.len());
         for (number, sort) in binders {
-            self.fresh(*number);
+            self.number(*number, Fresh::Binds);
             self.sort(sort);
         }
     }

@@ -1,19 +1,21 @@
-//! Sort, expression and bind held against the paper.
+//! Sort, expression, bind and solution held against the paper.
 
 mod binds;
 mod chains;
 mod damage;
 mod exprs;
 mod grower;
-mod lengths;
+mod literals;
 mod pools;
 mod small;
+mod solutions;
 mod sorts;
 mod words;
 
 use crate::call::{Call, Operation};
 use crate::check;
 use crate::extreme;
+use crate::lengths;
 use crate::paper::{self, MAX_LISTS};
 use crate::random::Random;
 use crate::tally::Tally;
@@ -22,51 +24,77 @@ use grower::Grower;
 pub use small::Small;
 
 /// The operations, and of each how many of a hundred calls are its.
-const OPERATIONS: [(Operation, u64); 3] = [(Operation::Sort, 20), (Operation::Expression, 50), (Operation::Bind, 30)];
+const OPERATIONS: [(Operation, u64); 4] = [(Operation::Sort, 12), (Operation::Expression, 28), (Operation::Bind, 20), (Operation::Solution, 40)];
 
-/// How far a run goes.
-pub struct Size {
-    pub small: Small,
-    /// Calls on random texts, all operations together.
-    pub random: u64,
-}
-
-/// Holds the operations against the paper, and prints how the calls ended.
-pub fn run(size: &Size, r: &mut Random) -> Result<(), String> {
+/// Holds the operations against the paper, on all texts up to these sizes and in so many calls on random ones, and prints how they ended.
+pub fn run(most: Small, calls: u64, r: &mut Random) -> Result<Tally, String> {
     let mut all = Tally::default();
     for (op, share) in OPERATIONS {
-        let small = each(op, r, |each| small::texts(op, size.small, each))?;
+        let small = each(op, r, |each| small::texts(op, most, each))?;
         println!("compare: {op:?}, all small texts: {small}");
         let words = each(op, r, |each| words::texts(each))?;
         println!("compare: {op:?}, every word in every place: {words}");
-        let random = random(op, size.random * share / 100, r)?;
+        let random = random(op, calls * share / 100, r)?;
         println!("compare: {op:?}, random texts: {random}");
         all = all + small + words + random;
     }
-    println!("compare: the paper, these together: {all}: no difference");
-    Ok(())
+    Ok(all)
 }
 
 /// One call.
 fn held(call: &Call, tally: &mut Tally) -> Result<(), String> {
     let answer = paper::answer(call);
     tally.count(&answer);
-    check::call(call, &answer)
+    check::call(call, &answer).map(|_| ())
 }
 
-/// A good text with slices just long enough; any text with slices and a count round what it needs.
-fn text_held(op: Operation, text: &[u8], r: &mut Random, tally: &mut Tally) -> Result<(), String> {
+/// What a text needs of an operation.
+pub struct Needs<'t> {
+    /// A call at 0 with slices just long enough, or of some lengths if the text is refused.
+    call: Call<'t>,
+    /// How many numbers it takes.
+    numbers: u64,
+    accepted: bool,
+}
+
+pub fn needs<'t>(op: Operation, text: &'t [u8], r: &mut Random) -> Needs<'t> {
+    let tree = if op.takes_tree() { paper::tree_words(text).unwrap_or(4) } else { 0 };
+    let draft = if op.takes_draft() { paper::draft_words(text).unwrap_or_else(|_| r.below(8)) } else { 0 };
     let answer = paper::answer(&Call::roomy(op, text));
-    let tree = paper::tree_words(text).unwrap_or(4);
-    let (out, numbers) = match answer {
-        Ok(a) => {
-            held(&Call { op, text, tree, draft: 0, out: a.words.len(), count: 0 }, tally)?;
-            (a.words.len(), a.count)
+    let out = answer.as_ref().map_or_else(|_| r.below(8), |a| a.words.len());
+    let call = Call { op, text, tree, draft, out, count: 0 };
+    Needs { call, numbers: answer.as_ref().map_or(1, |a| a.count), accepted: answer.is_ok() }
+}
+
+impl<'t> Needs<'t> {
+    /// A call with slices round what is needed.
+    pub fn about(&self, r: &mut Random) -> Call<'t> {
+        let Call { tree, draft, out, .. } = self.call;
+        Call { tree: lengths::length(tree, r), draft: lengths::length(draft, r), out: lengths::length(out, r), ..self.call }
+    }
+}
+
+/// The call with one slice a word shorter.
+fn one_short<'t>(call: Call<'t>, r: &mut Random) -> Call<'t> {
+    let Call { tree, draft, out, .. } = call;
+    match r.below(3) {
+        0 if tree > 0 => Call { tree: tree - 1, ..call },
+        1 if draft > 0 => Call { draft: draft - 1, ..call },
+        _ => Call { out: out.saturating_sub(1), ..call },
+    }
+}
+
+/// A good text with slices just long enough, and one of them a word short; any text with slices and a count round what it needs.
+fn text_held(op: Operation, text: &[u8], r: &mut Random, tally: &mut Tally) -> Result<(), String> {
+    let needs = needs(op, text, r);
+    if needs.accepted {
+        held(&needs.call, tally)?;
+        if r.one_in(4) {
+            held(&one_short(needs.call, r), tally)?;
         }
-        Err(_) => (r.below(8), 1),
-    };
-    let (tree, out) = (lengths::length(tree, r), lengths::length(out, r));
-    held(&Call { op, text, tree, draft: 0, out, count: lengths::count(numbers, r) }, tally)
+    }
+    let call = needs.about(r);
+    held(&Call { count: lengths::count(needs.numbers, r), ..call }, tally)
 }
 
 /// Every text that `texts` hands on.
@@ -96,7 +124,7 @@ fn random(op: Operation, n: u64, r: &mut Random) -> Result<Tally, String> {
     Ok(tally)
 }
 
-fn text(op: Operation, r: &mut Random) -> Vec<u8> {
+pub fn text(op: Operation, r: &mut Random) -> Vec<u8> {
     match r.below(100) {
         0..=39 => grown(op, None, r),
         40..=61 => {
@@ -121,6 +149,7 @@ fn grown(op: Operation, faults: Option<usize>, r: &mut Random) -> Vec<u8> {
     match op {
         Operation::Expression => g.root(depth),
         Operation::Bind => g.bind(depth),
+        Operation::Solution => g.solution(depth),
         _ if g.r.one_in(20) => g.wordy_sort(),
         _ => g.sort(depth),
     }
@@ -133,11 +162,12 @@ fn grown(op: Operation, faults: Option<usize>, r: &mut Random) -> Vec<u8> {
 
 /// Mostly round the limit, where one list more is refused.
 fn chain(op: Operation, r: &mut Random) -> Vec<u8> {
-    let lists = if r.one_in(3) { 3 + r.below(MAX_LISTS) } else { MAX_LISTS - 3 + r.below(5) };
+    let lists = if r.one_in(3) { 4 + r.below(MAX_LISTS) } else { MAX_LISTS - 3 + r.below(5) };
     let mut g = Grower::new(r, None);
     match op {
         Operation::Expression => g.expr_chain(lists, Place::Plain),
         Operation::Bind => g.bind_chain(lists),
+        Operation::Solution => g.solution_chain(lists),
         _ => g.sort_chain(lists),
     }
     g.text.into_bytes()

@@ -34,6 +34,11 @@ const BINDS: Alphabet = Alphabet {
     items: &["x", "1", "nan", "Int", "$k", "and"],
 };
 
+const SOLUTIONS: Alphabet = Alphabet {
+    heads: &["lambda", "not", "and", "cast", "exists", "f", "as", "x", "1"],
+    items: &["x", "1", "nan", "apply", "Int", "()"],
+};
+
 /// What stands before and behind a tree; the first frame is none.
 type Frame = (&'static str, &'static str);
 
@@ -66,12 +71,19 @@ const BIND_FRAMES: &[Frame] = &[
     ("((x Int) (exists ((x Int)) ", "))"), ("((x Int) (exists ((y Int) (y Int)) ", "))"),
 ];
 
+const SOLUTION_FRAMES: &[Frame] = &[
+    ("", ""), ("(lambda () ", ")"), ("(lambda ((x Int)) ", ")"), ("(lambda ((x Int) (x Int)) ", ")"), ("(lambda ", " x)"), ("(lambda (", ") x)"),
+    ("(lambda ((x ", ")) x)"), ("(", " () x)"), ("(lambda () (", " a))"), ("(lambda () (", " ((as apply Int) f)))"),
+    ("(lambda () (((as apply Int) ", ") a))"), ("(lambda ((x Int)) (((not f) x) ", "))"),
+];
+
 const PIECES: &[&str] = &["(", ")", "Int ", "func ", "and ", "1 ", "\"", "@"];
 
 fn parts(op: Operation) -> (&'static Alphabet, &'static [Frame]) {
     match op {
         Operation::Expression => (&EXPRESSIONS, EXPRESSION_FRAMES),
         Operation::Bind => (&BINDS, BIND_FRAMES),
+        Operation::Solution => (&SOLUTIONS, SOLUTION_FRAMES),
         _ => (&SORTS, SORT_FRAMES),
     }
 }

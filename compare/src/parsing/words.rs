@@ -50,6 +50,14 @@ const FRAMES: &[&str] = &[
     "((x Int) ($k ~))",
     "((x Int) (and ($k x) (~ ($k y))))",
     "((x Int) (exists ((y ~)) (= x y)))",
+    "(~ () x)",
+    "(lambda ~ x)",
+    "(lambda (~) x)",
+    "(lambda () ~)",
+    "(lambda () (~ x))",
+    "(lambda ((~ Int)) (not ~))",
+    "(lambda ((x ~)) x)",
+    "(lambda ((x Int)) (((as apply ~) (~ x y)) ~))",
 ];
 
 /// Bits up to the most that a literal takes, and past it.

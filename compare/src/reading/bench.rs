@@ -18,11 +18,11 @@ fn median(mut times: Vec<Duration>) -> Duration {
 fn ours(text: &[u8]) -> Duration {
     let mut out = vec![0u32; WORDS];
     let call = |text| Call::roomy(Operation::ReadOne, text);
-    let need = ffi::reply(&call(text), &mut [], &mut out).a as usize;
+    let need = ffi::reply(&call(text), &mut [], &mut [], &mut out).a as usize;
     let mut once = || {
         out[..need].fill(0);
         let began = Instant::now();
-        black_box(ffi::reply(&call(black_box(text)), &mut [], &mut out[..need]));
+        black_box(ffi::reply(&call(black_box(text)), &mut [], &mut [], &mut out[..need]));
         began.elapsed()
     };
     median((0..ROUNDS).map(|_| once()).collect())

@@ -56,7 +56,7 @@ pub fn random(n: u64, r: &mut Random) -> Result<u64, String> {
 pub fn recorded(path: &str) -> Result<u64, String> {
     let file = std::fs::read_to_string(path).map_err(|e| format!("{path}: {e}"))?;
     let mut n = 0;
-    for case in answers::read(&file) {
+    for case in answers::read(&file).0 {
         let all = match case.op {
             Operation::ReadOne => false,
             Operation::ReadAll => true,

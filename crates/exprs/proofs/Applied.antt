@@ -18,19 +18,20 @@ use Rattle.grammar.specs.Scope.{Scope, repeated}
 use Rattle.grammar.specs.ParseExpr
 use Rattle.grammar.specs.ParseExpr.{isApply, isApplyAtom, childAt, nestedAt}
 use Rattle.grammar.specs.Written.{W, told, ahead, after, operandsW, Last, noLast, seenLast, endW}
-use Rattle.exprs.specs.Spot.{Spot, Small}
-use Rattle.exprs.specs.Scopes.{inner}
-use Rattle.exprs.specs.Laid.{bound, Put}
+use Rattle.atoms.specs.Spot.{Spot, Small}
+use Rattle.atoms.specs.Scopes.{inner}
+use Rattle.atoms.specs.Laid.{bound, Put}
 use Rattle.exprs.specs.Plans.{Parsed, refused, Listed, PlannedList, EndsAt, endNesting, endSize, factor, most}
 use Rattle.exprs.specs.declared.expr.Progress.the-variants.{Refused}
 use Rattle.exprs.specs.declared.plan.Plan.the-variants.{Go}
 use Rattle.grammar.proofs.FormsWritten.{after-done, as-told, call-told}
-use Rattle.exprs.proofs.Laid.{out-ahead, put-append}
+use Rattle.atoms.proofs.Puts.{put-append}
+use Rattle.exprs.proofs.Laid.{out-ahead}
 use Rattle.exprs.proofs.Steps.{More, some, none}
-use Rattle.exprs.proofs.SortPlace.{GotAt, BadAt, sort-short}
+use Rattle.atoms.proofs.SortPlace.{GotAt, BadAt, sort-short}
 use Rattle.grammar.proofs.TreeHead.{is-symbol, no-list, tree-two}
-use Rattle.exprs.proofs.Places.Spots.{word0, spot-within, as-list, IsList}
-use Rattle.exprs.proofs.Places.Inside.{ListNode, list-many, list-words, items-there, first-there, others-there, trees-size, list-length, child-tree}
+use Rattle.atoms.proofs.Places.Spots.{word0, spot-within, as-list, IsList}
+use Rattle.atoms.proofs.Places.Inside.{ListNode, list-many, list-words, items-there, first-there, others-there, trees-size, list-length, child-tree}
 
 -- ---- the symbol `apply`
 

@@ -18,9 +18,9 @@ use Rattle.grammar.specs.Expr.{binderItems}
 use Rattle.grammar.specs.Scope.{numbered}
 use Rattle.grammar.specs.ParseExpr.{nameOf, sortIn, Binders, binders}
 use Rattle.sorts.specs.Rows.{isGot}
-use Rattle.exprs.specs.Spot.{Spot, Small}
-use Rattle.exprs.specs.Scopes.{Named, none, more}
-use Rattle.exprs.specs.Laid.{laid, bound, Put, OutcomeAt, wroteAt, refusedAt}
+use Rattle.atoms.specs.Spot.{Spot, Small}
+use Rattle.atoms.specs.Scopes.{Named, none, more}
+use Rattle.atoms.specs.Laid.{laid, bound, Put, OutcomeAt, wroteAt, refusedAt}
 use Rattle.exprs.specs.Plans.{factor}
 use Rattle.exprs.specs.BinderWords.{BinderRow, bindersWords}
 use Rattle.sorts.specs.declared.Answer.{Answer}
@@ -30,11 +30,11 @@ use Rattle.grammar.proofs.Raise.{raise-front}
 use Rattle.exprs.proofs.Steps.{More, some}
 use Rattle.exprs.proofs.Steps as Steps
 use Rattle.grammar.proofs.Post.{Every}
-use Rattle.exprs.proofs.SortPlace.{GotAt, got-at, bad-at, sort-short}
-use Rattle.exprs.proofs.Laid.{put-append}
+use Rattle.atoms.proofs.SortPlace.{GotAt, got-at, bad-at, sort-short}
+use Rattle.atoms.proofs.Puts.{put-append}
 use Rattle.grammar.proofs.TreeHead.{no-list, tree-two}
-use Rattle.exprs.proofs.Places.Spots.{word0, spot-within, two-there, as-list}
-use Rattle.exprs.proofs.Places.Inside.{items-there, first-there, first-spot, others-there, trees-size, Pair, pair-of}
+use Rattle.atoms.proofs.Places.Spots.{word0, spot-within, two-there, as-list}
+use Rattle.atoms.proofs.Places.Inside.{items-there, first-there, first-spot, others-there, trees-size, Pair, pair-of}
 
 -- ---- a pair
 

@@ -20,20 +20,21 @@ use Rattle.grammar.specs.Scope.{Scope, numbered}
 use Rattle.grammar.specs.ParseExpr
 use Rattle.grammar.specs.ParseExpr.{Binders, binders, childAt, nestedAt}
 use Rattle.grammar.specs.Written.{W, kindWords, told, ahead, after, operandsW, noLast, endW}
-use Rattle.exprs.specs.Spot.{Spot}
-use Rattle.exprs.specs.Scopes.{inner}
-use Rattle.exprs.specs.Laid.{bound, Put}
+use Rattle.atoms.specs.Spot.{Spot}
+use Rattle.atoms.specs.Scopes.{inner}
+use Rattle.atoms.specs.Laid.{bound, Put}
 use Rattle.exprs.specs.Plans.{Parsed, refused, Listed, PlannedList, factor, most}
 use Rattle.exprs.specs.BinderWords.{BinderRow, bindersWords}
 use Rattle.exprs.specs.declared.expr.Progress.the-variants.{Refused}
 use Rattle.exprs.specs.declared.plan.Plan.the-variants.{Go}
 use Rattle.grammar.proofs.FormsWritten.{children-count, exists-told}
-use Rattle.exprs.proofs.Laid.{out-ahead, put-append}
-use Rattle.exprs.proofs.SortPlace.{GotAt, BadAt, every-got}
+use Rattle.atoms.proofs.Puts.{put-append}
+use Rattle.exprs.proofs.Laid.{out-ahead}
+use Rattle.atoms.proofs.SortPlace.{GotAt, BadAt, every-got}
 use Rattle.exprs.proofs.BinderPairs.{ReadFrom, read-from}
 use Rattle.grammar.proofs.TreeHead.{no-list}
-use Rattle.exprs.proofs.Places.Spots.{word0, spot-within, as-list, IsList}
-use Rattle.exprs.proofs.Places.Inside.{ListNode, list-spot, list-many, list-words, items-there, first-there, others-there, trees-size, list-length, Pair, pair-of, child-tree}
+use Rattle.atoms.proofs.Places.Spots.{word0, spot-within, as-list, IsList}
+use Rattle.atoms.proofs.Places.Inside.{ListNode, list-spot, list-many, list-words, items-there, first-there, others-there, trees-size, list-length, Pair, pair-of, child-tree}
 
 -- ---- what the form writes
 

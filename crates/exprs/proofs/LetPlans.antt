@@ -17,22 +17,22 @@ use Rattle.grammar.specs.ParseSort.{inSymbol, inAtom, symbolIn}
 use Rattle.grammar.specs.ParseExpr
 use Rattle.grammar.specs.ParseExpr.{childAt, nestedAt, letForm, atomChild, throughName, throughValue}
 use Rattle.grammar.specs.Written.{W, told, ahead, after, operandsW, endW, Last, noLast, seenLast}
-use Rattle.exprs.specs.Spot.{Seen}
-use Rattle.exprs.specs.Scopes.{inner}
-use Rattle.exprs.specs.Laid.{Put}
+use Rattle.atoms.specs.Spot.{Seen}
+use Rattle.atoms.specs.Scopes.{inner}
+use Rattle.atoms.specs.Laid.{Put}
 use Rattle.exprs.specs.Plans.{Parsed, Listed, PlannedList, EndsAt, endNesting, endSize, most}
-use Rattle.exprs.specs.declared.place.Node.the-variants as node
+use Rattle.atoms.specs.declared.place.Node.the-variants as node
 use Rattle.exprs.specs.declared.plan.Plan.the-variants.{Go}
 use Rattle.exprs.specs.declared.plan.Run.{Run}
 use Rattle.grammar.proofs.FormsWritten.{after-done, let-told}
 use Rattle.grammar.proofs.TreeHead.{no-symbol}
-use Rattle.exprs.proofs.Places.Spots.{word0, as-list}
-use Rattle.exprs.proofs.Places.Rows.{Leading, lead-spot, leading, lead-count, lead-size, lead-nesting, lead-next, list-inside, as-symbol}
+use Rattle.atoms.proofs.Places.Spots.{word0, as-list}
+use Rattle.atoms.proofs.Places.Rows.{Leading, lead-spot, leading, lead-count, lead-size, lead-nesting, lead-next, list-inside, as-symbol}
 use Rattle.exprs.proofs.Laid.{out-ahead}
 use Rattle.exprs.proofs.Steps.{none}
 use Rattle.exprs.proofs.ListPlans.{unbound, head-count, head-others, head-shallow, head-most}
 use Rattle.exprs.proofs.TreePlans.{three-there}
-use Rattle.exprs.proofs.Places.Inside.{ListNode, child-tree}
+use Rattle.atoms.proofs.Places.Inside.{ListNode, child-tree}
 
 -- ---- what a let is
 

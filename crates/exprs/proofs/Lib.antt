@@ -1,12 +1,8 @@
-pub mod Places
 pub mod Laid
 pub mod Steps
 pub mod ListPlans
 pub mod NamedPlans
 pub mod TreePlans
-pub mod FormCode
-pub mod LeafCode
-pub mod SortPlace
 pub mod BinderPairs
 pub mod ExistsForm
 pub mod Applied

@@ -21,16 +21,16 @@ use Rattle.grammar.specs.Names.{many}
 use Rattle.grammar.specs.ParseExpr
 use Rattle.grammar.specs.ParseExpr.{childAt, nodeForm}
 use Rattle.grammar.specs.Written.{W, kindWords, told, ahead, after, operandsW, endW, noLast, plainLast}
-use Rattle.exprs.specs.Spot.{Spot}
-use Rattle.exprs.specs.Scopes.{Bound, inner}
-use Rattle.exprs.specs.Laid.{Put}
+use Rattle.atoms.specs.Spot.{Spot}
+use Rattle.atoms.specs.Scopes.{Bound, inner}
+use Rattle.atoms.specs.Laid.{Put}
 use Rattle.exprs.specs.Plans.{Parsed, refused, Listed, Filled, Headed, PlannedList, factor, most}
 use Rattle.exprs.specs.declared.plan.Plan.{Plan}
 use Rattle.exprs.specs.declared.plan.Plan.the-variants.{Stop, Go}
 use Rattle.exprs.specs.declared.plan.Run.{Run}
 use Rattle.grammar.proofs.FormsWritten.{after-done, ahead-nil, node-told}
 use Rattle.grammar.proofs.TreeHead.{tree-two, apart}
-use Rattle.exprs.proofs.Places.Spots.{word, spot-within}
+use Rattle.atoms.proofs.Places.Spots.{word, spot-within}
 use Rattle.exprs.proofs.Laid.{out-ahead}
 
 -- No scope is opened.

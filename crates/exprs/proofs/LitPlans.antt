@@ -21,16 +21,16 @@ use Rattle.grammar.specs.ParseExpr
 use Rattle.grammar.specs.ParseExpr.{childAt, atomChild, quotedIn, bitsOf}
 use Rattle.grammar.specs.Written.{told}
 use Rattle.sorts.specs.SortNames.{widthIn}
-use Rattle.exprs.specs.Spot.{Spot}
-use Rattle.exprs.specs.Laid.{Put}
+use Rattle.atoms.specs.Spot.{Spot}
+use Rattle.atoms.specs.Laid.{Put}
 use Rattle.exprs.specs.Plans.{Listed, PlannedList}
 use Rattle.exprs.specs.declared.plan.Plan.the-variants.{Leaf}
 use Rattle.grammar.proofs.TreeHead.{no-list, no-symbol}
-use Rattle.exprs.proofs.Places.Inside.{child-tree}
-use Rattle.exprs.proofs.Places.Spots.{word0, as-list}
-use Rattle.exprs.proofs.Places.Rows.{Leading, lead-spot, leading, lead-count, lead-next, list-inside, as-symbol, as-quoted}
+use Rattle.atoms.proofs.Places.Inside.{child-tree}
+use Rattle.atoms.proofs.Places.Spots.{word0, as-list}
+use Rattle.atoms.proofs.Places.Rows.{Leading, lead-spot, leading, lead-count, lead-next, list-inside, as-symbol, as-quoted}
 use Rattle.exprs.proofs.Steps.{none}
-use Rattle.exprs.proofs.Laid.{put-append}
+use Rattle.atoms.proofs.Puts.{put-append}
 use Rattle.exprs.proofs.ListPlans.{head-count, head-others}
 use Rattle.exprs.proofs.TreePlans.{leaf-made, three-there}
 

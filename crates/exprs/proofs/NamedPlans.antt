@@ -20,10 +20,10 @@ use Rattle.grammar.specs.ParseSort.{inList}
 use Rattle.grammar.specs.ParseExpr
 use Rattle.grammar.specs.ParseExpr.{orElseForm, childAt, plainAt, minusForm, isCtorForm}
 use Rattle.grammar.specs.Written.{W, told, ahead}
-use Rattle.exprs.specs.Laid.{laid, Put}
+use Rattle.atoms.specs.Laid.{laid, Put}
 use Rattle.exprs.specs.Plans.{refused, Listed, PlannedList}
-use Rattle.exprs.specs.FormNames.{IsOne, IsTwo, IsMany, FormIs}
-use Rattle.exprs.specs.declared.keywords.Form.{Form as Code}
+use Rattle.atoms.specs.FormNames.{IsOne, IsTwo, IsMany, FormIs}
+use Rattle.atoms.specs.declared.keywords.Form.{Form as Code}
 use Rattle.exprs.specs.declared.plan.Plan.{Plan}
 use Rattle.exprs.specs.declared.plan.Plan.the-variants.{Stop, Go}
 use Rattle.grammar.proofs.Post.{AllRows, IfThere, lookup-holds}

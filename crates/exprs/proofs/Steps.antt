@@ -17,17 +17,17 @@ use Rattle.reading.specs.Tree.{Tree, Trees, tnil, tcons, trees, treeWords, tree
 use Rattle.grammar.specs.Scope.{Scope, repeated}
 use Rattle.grammar.specs.ParseExpr.{child}
 use Rattle.grammar.specs.Written.{W, told, operandsW, endW, Last, noLast, seenLast, plainLast}
-use Rattle.exprs.specs.Spot.{Spot, Seen}
-use Rattle.exprs.specs.Scopes.{IsScope, Bound, Opened, blank, pushed, inner}
-use Rattle.exprs.specs.Laid.{laid}
+use Rattle.atoms.specs.Spot.{Spot, Seen}
+use Rattle.atoms.specs.Scopes.{IsScope, Bound, Opened, blank, pushed, inner}
+use Rattle.atoms.specs.Laid.{laid}
 use Rattle.exprs.specs.Plans.{Parsed, refused, Here, Row, Running, Planned, EndsAt, EndSpot, endSize, endNesting, factor, most}
 use Rattle.exprs.specs.declared.expr.Progress.{Progress}
 use Rattle.exprs.specs.declared.expr.Progress.the-variants.{Done, Refused}
 use Rattle.exprs.specs.declared.plan.Plan.{Plan}
 use Rattle.exprs.specs.declared.plan.Plan.the-variants.{Stop, Leaf, Go}
 use Rattle.exprs.specs.declared.plan.Run.{Run}
-use Rattle.exprs.specs.declared.scopes.Entry.{Entry}
-use Rattle.exprs.specs.declared.scopes.Entries.{Entries}
+use Rattle.atoms.specs.declared.scopes.Entry.{Entry}
+use Rattle.atoms.specs.declared.scopes.Entries.{Entries}
 use Rattle.exprs.proofs.Laid.{out-after, out-no, out-room, out-wider, out-empty}
 
 -- ---- scopes

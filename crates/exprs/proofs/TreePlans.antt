@@ -14,16 +14,16 @@ use Rattle.grammar.specs.Expr.{exprItems, exprs, kindItems}
 use Rattle.grammar.specs.ParseExpr
 use Rattle.grammar.specs.ParseExpr.{numeral}
 use Rattle.grammar.specs.Written.{exprWords, told}
-use Rattle.exprs.specs.Spot.{Spot}
-use Rattle.exprs.specs.Scopes.{OpenScopes}
-use Rattle.exprs.specs.Laid.{bound, Put}
+use Rattle.atoms.specs.Spot.{Spot}
+use Rattle.atoms.specs.Scopes.{OpenScopes}
+use Rattle.atoms.specs.Laid.{bound, Put}
 use Rattle.exprs.specs.Plans.{Wrote, Parsed, wrote, refused, Here, Listed, SomeList, Plans, Planned, PlannedList, most}
-use Rattle.exprs.specs.declared.scopes.Entries.{Entries}
+use Rattle.atoms.specs.declared.scopes.Entries.{Entries}
 use Rattle.exprs.specs.declared.expr.Progress.the-variants.{Done, Refused}
 use Rattle.exprs.specs.declared.plan.Plan.{Plan}
 use Rattle.exprs.specs.declared.plan.Plan.the-variants.{Stop, Leaf}
 use Rattle.grammar.proofs.TreeHead.{tree-two}
-use Rattle.exprs.proofs.Places.Spots.{word, word0, spot-within}
+use Rattle.atoms.proofs.Places.Spots.{word, word0, spot-within}
 
 -- A leaf of few words.
 pub leaf-made : (t : Tree) {ws o o′ : List ℕ} {w u next : ℕ} → Put o w ws o′ u → u ≤ w + 6 → Parsed (ok ws next) w o o′ (most w next t) (Done u next)

@@ -11,10 +11,10 @@ use Rattle.reading.specs.Answer.{Refusal, number, ok, no}
 use Rattle.grammar.specs.Scope.{Scope}
 use Rattle.grammar.specs.ParseExpr.{child}
 use Rattle.grammar.specs.Written.{W, told, after, operandsW, endW, Last, noLast, seenLast, plainLast}
-use Rattle.exprs.specs.Spot.{Spot}
-use Rattle.exprs.specs.Scopes.{Bound, Opened, inner}
-use Rattle.exprs.specs.Laid.{laid, bound}
-use Rattle.exprs.specs.declared.scopes.Entries.{Entries}
+use Rattle.atoms.specs.Spot.{Spot}
+use Rattle.atoms.specs.Scopes.{Bound, Opened, inner}
+use Rattle.atoms.specs.Laid.{laid, bound}
+use Rattle.atoms.specs.declared.scopes.Entries.{Entries}
 use Rattle.exprs.specs.declared.expr.Progress.{Progress}
 use Rattle.exprs.specs.declared.expr.Progress.the-variants.{Done, Refused}
 use Rattle.exprs.specs.declared.plan.Plan.{Plan}

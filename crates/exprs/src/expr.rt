@@ -5,15 +5,15 @@ ghost use Rattle.reading.specs.Tree.{treesWords};
 ghost use Rattle.grammar.specs.ParseExpr.{child};
 ghost use Rattle.grammar.specs.Written.{told, operandsW};
 ghost use Rattle.exprs.specs.Plans.{Parsed, Here, Row, factor, most};
-use crate::place::reach;
-use crate::place::through;
-use crate::place::words_at;
 use crate::plan::Plan;
 use crate::plan::Run;
 use crate::plan::planned;
-use crate::scopes::Entries;
-use crate::scopes::opened;
-use crate::scopes::twice;
+use atoms::place::reach;
+use atoms::place::through;
+use atoms::place::words_at;
+use atoms::scopes::Entries;
+use atoms::scopes::opened;
+use atoms::scopes::twice;
 
 // The place behind the words written and the next fresh number, or a refusal.
 pub enum Progress {

@@ -5,15 +5,15 @@ ghost use Rattle.reading.specs.Tree.{Trees, symbol, atom, tcons};
 ghost use Rattle.grammar.specs.ParseExpr.{children, letForm};
 ghost use Rattle.grammar.specs.Written.{told};
 ghost use Rattle.exprs.specs.Plans.{Listed, Headed, PlannedList};
-use crate::expr_words::LET;
-use crate::expr_words::VarName;
-use crate::expr_words::put_name;
-use crate::place::Node;
-use crate::place::node_at;
-use crate::place::through;
-use crate::place::words_at;
 use crate::plan::Plan;
 use crate::plan::Run;
+use atoms::expr_words::LET;
+use atoms::expr_words::VarName;
+use atoms::expr_words::put_name;
+use atoms::place::Node;
+use atoms::place::node_at;
+use atoms::place::through;
+use atoms::place::words_at;
 use sorts::tree::SYMBOL;
 
 // `(let (name value) body)`: the value, and behind it the body. A missing body is refused when it is reached.

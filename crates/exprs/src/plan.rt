@@ -1,14 +1,14 @@
 // What there is to do of a tree before its operands are read: its form is found out, its shape judged, and its first words are written.
 ghost use Rattle.exprs.specs.Plans.{Here, Planned};
-use crate::expr_words::BOOLEAN;
-use crate::expr_words::STRING;
-use crate::expr_words::VarName;
-use crate::expr_words::put_name;
-use crate::expr_words::put_numeral;
-use crate::expr_words::put2;
 use crate::lists::list_plan;
-use crate::scopes::Entries;
-use crate::variable::variable;
+use atoms::expr_words::BOOLEAN;
+use atoms::expr_words::STRING;
+use atoms::expr_words::VarName;
+use atoms::expr_words::put_name;
+use atoms::expr_words::put_numeral;
+use atoms::expr_words::put2;
+use atoms::scopes::Entries;
+use atoms::variable::variable;
 use lexing::quad::Quad;
 use sorts::tree;
 

@@ -22,7 +22,7 @@ use Rattle.grammar.proofs.Items.{words-append}
 use Rattle.grammar.proofs.Lengths.{size-solution}
 use Rattle.grammar.proofs.Post.{Post}
 use Rattle.grammar.proofs.Raise.{raise-append, words-raise, items-raise}
-use Rattle.exprs.specs.Laid.{laid}
+use Rattle.atoms.specs.Laid.{laid}
 use Rattle.parse.specs.Answers.{Attempted, AttemptedAt, raisedWords, paramItems, bodyItems, draftSaid}
 use Rattle.parse.proofs.Ended.{over-start}
 use Rattle.parse.specs.declared.Counted.the-variants as counted

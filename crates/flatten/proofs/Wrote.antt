@@ -7,8 +7,8 @@ use native.Mathlib.Omega.{arith}
 use lib.Dec.{ltb}
 use lib.ListN.{length, set, length-set, length-append}
 use borrow.Author.Tests.{ltb-true, ltb-false}
-use Rattle.exprs.specs.Laid.{laid}
-use Rattle.exprs.proofs.Laid.{laid-append, length-laid}
+use Rattle.atoms.specs.Laid.{laid}
+use Rattle.atoms.proofs.Puts.{laid-append, length-laid}
 use Rattle.flatten.specs.Writing.{mostCount, Wrote, Patched}
 
 -- Below a bound, or not.

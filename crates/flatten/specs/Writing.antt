@@ -5,7 +5,7 @@ use mathlib.Core.List.{List}
 use lib.ListN.{length, set}
 use Rattle.grammar.specs.Item.{wordsOf}
 use Rattle.grammar.specs.Expr.{Expr, Exprs, exprItems, exprsItems, exprs}
-use Rattle.exprs.specs.Laid.{laid}
+use Rattle.atoms.specs.Laid.{laid}
 use Rattle.flatten.specs.Uncurry.{uncurry, uncurryAll, mostOperands, mostOperandsAll}
 use Rattle.judge.specs.Judge.{reads, exprDeep}
 use Rattle.flatten.specs.Operations.{noText}

@@ -17,23 +17,24 @@ use Rattle.grammar.specs.Scope.{varOf}
 use Rattle.grammar.specs.ParseExpr.{child}
 use Rattle.grammar.specs.ParseBind.{parseBind}
 use Rattle.grammar.specs.Written.{toldOf, ahead}
-use Rattle.exprs.specs.Spot.{Spot, Small}
-use Rattle.exprs.specs.Laid.{bound, Put}
+use Rattle.atoms.specs.Spot.{Spot, Small}
+use Rattle.atoms.specs.Laid.{bound, Put}
 use Rattle.exprs.specs.Plans.{Parsed, refused}
 use Rattle.parse.specs.PredWords.{Whole, PredHere, countedPreds}
 use Rattle.exprs.specs.declared.expr.Progress.{Progress}
 use Rattle.exprs.specs.declared.expr.Progress.the-variants.{Refused}
 use Rattle.grammar.proofs.Items.{words-front}
 use Rattle.grammar.proofs.Raise.{raise-front}
-use Rattle.exprs.proofs.Laid.{out-ahead, put-append}
+use Rattle.atoms.proofs.Puts.{put-append}
+use Rattle.exprs.proofs.Laid.{out-ahead}
 use Rattle.exprs.proofs.Steps.{More, some}
 use Rattle.exprs.proofs.Steps as Steps
-use Rattle.exprs.proofs.SortPlace.{GotAt, BadAt, sort-short}
+use Rattle.atoms.proofs.SortPlace.{GotAt, BadAt, sort-short}
 use Rattle.parse.proofs.ListHead.{the-list, list-trees, the-items, whole-is, head-spot, others-words}
 use Rattle.parse.proofs.PredNames.{symbol-here, symbol-three}
 use Rattle.grammar.proofs.TreeHead.{alone, no-list, no-symbol}
-use Rattle.exprs.proofs.Places.Spots.{word0}
-use Rattle.exprs.proofs.Places.Inside.{ListNode, first-there, trees-size}
+use Rattle.atoms.proofs.Places.Spots.{word0}
+use Rattle.atoms.proofs.Places.Inside.{ListNode, first-there, trees-size}
 
 -- ---- what a tree is as a bind
 

@@ -19,17 +19,17 @@ use Rattle.grammar.specs.ParseExpr
 use Rattle.grammar.specs.ParseBind.{parseBind}
 use Rattle.grammar.specs.Written.{toldOf}
 use Rattle.grammar.specs.Operations.{theTree, makeExpr, exprFinal, makeBind, bindFinal}
-use Rattle.exprs.specs.Laid.{laid}
+use Rattle.atoms.specs.Laid.{laid}
 use Rattle.exprs.specs.Plans.{Parsed, wrote, refused, Here}
 use Rattle.parse.specs.PredWords.{Whole}
 use Rattle.parse.specs.Answers.{Laid, AttemptedAt, countedBy, finishedBy, closedBy, raisedWords}
-use Rattle.exprs.specs.declared.scopes.Entries.{Entries}
+use Rattle.atoms.specs.declared.scopes.Entries.{Entries}
 use Rattle.parse.specs.declared.Counted.{Counted}
 use Rattle.parse.specs.declared.Counted.the-variants.{Done, Refused}
 use Rattle.exprs.specs.declared.expr.Progress.{Progress}
 use Rattle.exprs.specs.declared.expr.Progress.the-variants as progress
 use Rattle.grammar.proofs.Raise.{words-raise}
-use Rattle.exprs.proofs.SortPlace.{laid-over}
+use Rattle.atoms.proofs.SortPlace.{laid-over}
 use Rattle.parse.proofs.ReadTree.{TreeIn, NoTree}
 
 -- Words laid from the start are laid over the output.

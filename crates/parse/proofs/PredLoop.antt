@@ -13,8 +13,8 @@ use Rattle.grammar.specs.Item.{raise, wordsOf}
 use Rattle.grammar.specs.Expr.{Pred, predItems, predsItems}
 use Rattle.grammar.specs.ParseExpr.{child, children, eachPred}
 use Rattle.grammar.specs.Written.{toldOf}
-use Rattle.exprs.specs.Spot.{Spot}
-use Rattle.exprs.specs.Laid.{laid, bound}
+use Rattle.atoms.specs.Spot.{Spot}
+use Rattle.atoms.specs.Laid.{laid, bound}
 use Rattle.exprs.specs.Plans.{Wrote, Parsed, wrote, refused}
 use Rattle.parse.specs.PredWords.{PredHere, ReadPred, IsAnd, Stepped, stepRead, stepInto, stepRefused, countedPreds}
 use Rattle.exprs.specs.declared.expr.Progress.the-variants.{Done, Refused}
@@ -22,9 +22,9 @@ use Rattle.parse.specs.declared.preds.Step.{Step}
 use Rattle.parse.specs.declared.preds.Step.the-variants as step
 use Rattle.exprs.proofs.Steps.{More}
 use Rattle.grammar.proofs.FormsWritten.{raised-append}
-use Rattle.exprs.proofs.Laid.{laid-append}
+use Rattle.atoms.proofs.Puts.{laid-append}
 use Rattle.grammar.proofs.TreeHead.{tree-two, no-trees}
-use Rattle.exprs.proofs.Places.Inside.{items-there, first-there, others-there, trees-size}
+use Rattle.atoms.proofs.Places.Inside.{items-there, first-there, others-there, trees-size}
 
 -- ---- trees in front of trees
 

@@ -16,8 +16,8 @@ use Rattle.grammar.specs.Item.{raise, wordsOf}
 use Rattle.grammar.specs.Expr.{VarName, Pred, kvar, nameItems, predItems}
 use Rattle.grammar.specs.Scope.{varOf}
 use Rattle.grammar.specs.ParseExpr.{child, children, symbols, kvarForm, atomChild}
-use Rattle.exprs.specs.Spot.{Spot}
-use Rattle.exprs.specs.Laid.{laid, bound, Put, OutcomeAt, wroteAt, refusedAt}
+use Rattle.atoms.specs.Spot.{Spot}
+use Rattle.atoms.specs.Laid.{laid, bound, Put, OutcomeAt, wroteAt, refusedAt}
 use Rattle.parse.specs.PredWords.{KvarHere, ReadPred, Stepped, stepRead, stepRefused, NameRow, namesWords}
 use Rattle.sorts.specs.declared.Answer.{Answer}
 use Rattle.sorts.specs.declared.Answer.the-variants.{Done, Refused}
@@ -26,11 +26,11 @@ use Rattle.grammar.proofs.Post.{Every, any-every, then-every}
 use Rattle.grammar.proofs.FormsWritten.{children-count}
 use Rattle.exprs.proofs.Steps.{More, some}
 use Rattle.exprs.proofs.Steps as Steps
-use Rattle.exprs.proofs.SortPlace.{GotAt, BadAt, every-got}
-use Rattle.exprs.proofs.Laid.{put-append}
+use Rattle.atoms.proofs.SortPlace.{GotAt, BadAt, every-got}
+use Rattle.atoms.proofs.Puts.{put-append}
 use Rattle.grammar.proofs.TreeHead.{is-symbol, no-symbol, tree-two}
-use Rattle.exprs.proofs.Places.Spots.{word, word0, spot-within}
-use Rattle.exprs.proofs.Places.Inside.{list-spot, list-many, items-there, first-there, others-there, trees-size, child-tree}
+use Rattle.atoms.proofs.Places.Spots.{word, word0, spot-within}
+use Rattle.atoms.proofs.Places.Inside.{list-spot, list-many, items-there, first-there, others-there, trees-size, child-tree}
 
 -- ---- a symbol
 

@@ -15,23 +15,24 @@ use Rattle.grammar.specs.Expr.{Expr, Pred, expr, predItems}
 use Rattle.grammar.specs.ParseExpr
 use Rattle.grammar.specs.ParseExpr.{child, children, childAt, eachPred, kvarForm, exprPred, atomChild}
 use Rattle.grammar.specs.Written.{exprWords, told}
-use Rattle.exprs.specs.Spot.{Seen}
-use Rattle.exprs.specs.Scopes.{Opened}
-use Rattle.exprs.specs.Laid.{laid, bound, Put}
+use Rattle.atoms.specs.Spot.{Seen}
+use Rattle.atoms.specs.Scopes.{Opened}
+use Rattle.atoms.specs.Laid.{laid, bound, Put}
 use Rattle.exprs.specs.Plans.{Parsed, wrote, refused, Here, most}
 use Rattle.parse.specs.PredWords.{PredHere, KvarHere, ReadPred, Stepped, stepRead, stepInto, stepRefused}
-use Rattle.exprs.specs.declared.scopes.Entries.{Entries}
+use Rattle.atoms.specs.declared.scopes.Entries.{Entries}
 use Rattle.exprs.specs.declared.expr.Progress.{Progress}
 use Rattle.exprs.specs.declared.expr.Progress.the-variants.{Done, Refused}
 use Rattle.parse.specs.declared.preds.Step.{Step}
 use Rattle.parse.specs.declared.preds.Step.the-variants as step
 use Rattle.exprs.proofs.Steps as Steps
-use Rattle.exprs.proofs.Laid.{never, same-words, same-next, put-append}
+use Rattle.atoms.proofs.Puts.{put-append}
+use Rattle.exprs.proofs.Laid.{never, same-words, same-next}
 use Rattle.parse.proofs.ListHead.{the-list, list-trees, the-items, whole-is, head-spot}
 use Rattle.parse.proofs.PredNames.{symbol-here}
 use Rattle.grammar.proofs.TreeHead.{tree-two}
-use Rattle.exprs.proofs.Places.Spots.{word0, spot-within}
-use Rattle.exprs.proofs.Places.Inside.{ListNode}
+use Rattle.atoms.proofs.Places.Spots.{word0, spot-within}
+use Rattle.atoms.proofs.Places.Inside.{ListNode}
 
 -- ---- what a tree is as a predicate
 

@@ -21,29 +21,30 @@ use Rattle.grammar.specs.ParseExpr
 use Rattle.grammar.specs.ParseExpr.{nameOf, sortIn, Binders, binders}
 use Rattle.grammar.specs.ParseSolution.{allNames, allSorts, parseSolution}
 use Rattle.sorts.specs.Rows.{isGot}
-use Rattle.exprs.specs.Spot.{Spot}
-use Rattle.exprs.specs.Scopes.{Bound, pushed, inner}
-use Rattle.exprs.specs.Laid.{laid, Put}
+use Rattle.atoms.specs.Spot.{Spot}
+use Rattle.atoms.specs.Scopes.{Bound, pushed, inner}
+use Rattle.atoms.specs.Laid.{laid, Put}
 use Rattle.exprs.specs.Plans.{Parsed, wrote, refused, Here}
 use Rattle.grammar.specs.Written.{told}
 use Rattle.parse.specs.Answers.{raisedWords, paramItems}
 use Rattle.exprs.specs.BinderWords.{BinderRow, bindersWords}
 use Rattle.parse.specs.PredWords.{Whole}
 use Rattle.parse.specs.DraftWords.{BodyHere, bodyOf, BodyDone, bodyWrote, bodyRefused, PartsDone, partsWrote, partsRefused}
-use Rattle.exprs.specs.declared.scopes.Entries.{Entries}
+use Rattle.atoms.specs.declared.scopes.Entries.{Entries}
 use Rattle.exprs.specs.declared.expr.Progress.{Progress}
 use Rattle.exprs.specs.declared.expr.Progress.the-variants as progress
 use Rattle.parse.specs.declared.draft.Parts.{Parts}
 use Rattle.parse.specs.declared.draft.Parts.the-variants.{Done, Refused}
-use Rattle.exprs.proofs.Laid.{never, same-words, same-next, put-append}
+use Rattle.atoms.proofs.Puts.{put-append}
+use Rattle.exprs.proofs.Laid.{never, same-words, same-next}
 use Rattle.exprs.proofs.Steps.{More, some, Inside, pushed-inside}
 use Rattle.exprs.proofs.Steps as Steps
-use Rattle.exprs.proofs.SortPlace.{GotAt, BadAt, every-got}
+use Rattle.atoms.proofs.SortPlace.{GotAt, BadAt, every-got}
 use Rattle.exprs.proofs.BinderPairs.{pair-bad, ReadFrom, read-from}
 use Rattle.exprs.proofs.ExistsForm.{numbered-length}
 use Rattle.grammar.proofs.TreeHead.{alone, no-list}
-use Rattle.exprs.proofs.Places.Spots.{word0, spot-within, as-list, IsList}
-use Rattle.exprs.proofs.Places.Inside.{ListNode, items-there, first-there, others-there, list-length}
+use Rattle.atoms.proofs.Places.Spots.{word0, spot-within, as-list, IsList}
+use Rattle.atoms.proofs.Places.Inside.{ListNode, items-there, first-there, others-there, list-length}
 
 -- ---- names
 

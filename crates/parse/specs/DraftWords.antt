@@ -12,9 +12,9 @@ use Rattle.reading.specs.Answer.{Refusal, number, Res, ok, no, chain, lifted, F
 use Rattle.grammar.specs.Expr.{Expr, Solution, exprItems}
 use Rattle.grammar.specs.Scope.{distinct}
 use Rattle.grammar.specs.ParseExpr.{child}
-use Rattle.exprs.specs.Spot.{Spot}
-use Rattle.exprs.specs.Scopes.{NameList}
-use Rattle.exprs.specs.Laid.{laid, bound}
+use Rattle.atoms.specs.Spot.{Spot}
+use Rattle.atoms.specs.Scopes.{NameList}
+use Rattle.atoms.specs.Laid.{laid, bound}
 use Rattle.exprs.specs.Plans.{factor}
 use Rattle.parse.specs.Answers.{Laid, draftSaid, raisedWords, paramItems, bodyItems}
 use Rattle.parse.specs.declared.Drafted.{Drafted}

@@ -10,8 +10,8 @@ use Rattle.reading.specs.Answer.{Refusal, number, ok, no}
 use Rattle.grammar.specs.Item.{Item, plain, raise, wordsOf}
 use Rattle.grammar.specs.Expr.{VarName, Pred, predItems, predsItems, nameItems}
 use Rattle.grammar.specs.ParseExpr.{child, children, eachPred, kvarForm}
-use Rattle.exprs.specs.Spot.{Spot}
-use Rattle.exprs.specs.Laid.{laid, bound}
+use Rattle.atoms.specs.Spot.{Spot}
+use Rattle.atoms.specs.Laid.{laid, bound}
 use Rattle.parse.specs.declared.preds.Step.{Step}
 use Rattle.parse.specs.declared.preds.Step.the-variants.{On, Refused}
 

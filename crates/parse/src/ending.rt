@@ -5,9 +5,9 @@ ghost use Rattle.reading.specs.Limits.{maxLists};
 ghost use Rattle.reading.specs.Answer.{zeros};
 ghost use Rattle.parse.specs.Answers.{finishedBy, closedBy};
 use crate::Counted;
+use atoms::scopes::Entries;
+use atoms::scopes::Entry;
 use exprs::expr::Progress;
-use exprs::scopes::Entries;
-use exprs::scopes::Entry;
 use lexing::words::clear;
 
 // The largest count that a reader holds.

@@ -2,20 +2,20 @@ use mathlib.Core.Path.{sym, _∙_}
 use Rattle.exprs.proofs.Applied.{ap-many, head-spot, ap-two, ap-room, ap-atom, ap-short, inner-spot, second-spot, third-small, third-spot, in-call, in-short, in-bad, in-apply}
 use native.Mathlib.Omega.{arith}
 use Prim.Native.Nat.{_+_}
-use Rattle.exprs.proofs.Places.Spots.{spot-within, two-there}
-use Rattle.exprs.proofs.Places.Inside.{node-list, node-other}
-use Rattle.exprs.proofs.SortPlace.{got-at, bad-at}
+use Rattle.atoms.proofs.Places.Spots.{spot-within, two-there}
+use Rattle.atoms.proofs.Places.Inside.{node-list, node-other}
+use Rattle.atoms.proofs.SortPlace.{got-at, bad-at}
 use borrow.Author.Needs.{needs}
 use Rattle.exprs.proofs.application.app_plan.Statement.{statement}
 use Rattle.exprs.proofs.application.app_plan.Tie as tie
 use Rattle.exprs.proofs.application.app_plan.Reads as reads
 use Rattle.exprs.proofs.application.app_plan.Lts as lts
 use Rattle.exprs.proofs.application.is_apply.Reads as is-apply-reads
-use Rattle.exprs.proofs.expr_words.put3.Reads as put3-reads
+use Rattle.atoms.proofs.expr_words.put3.Reads as put3-reads
 use Rattle.sorts.proofs.number.wide.Reads as wide-reads
-use Rattle.exprs.proofs.place.node_at.Reads as node-at-reads
-use Rattle.exprs.proofs.place.words_at.Reads as words-at-reads
-use Rattle.exprs.proofs.sort_at.sort_at.Reads as sort-at-reads
+use Rattle.atoms.proofs.place.node_at.Reads as node-at-reads
+use Rattle.atoms.proofs.place.words_at.Reads as words-at-reads
+use Rattle.atoms.proofs.sort_at.sort_at.Reads as sort-at-reads
 
 -- src/application.rt:46:16
 add-head : tie.Need-add-head

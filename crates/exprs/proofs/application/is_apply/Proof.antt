@@ -1,7 +1,7 @@
 use native.Mathlib.Omega.{arith}
 use mathlib.Core.Path.{ap, _∙_}
 use Rattle.reading.specs.Bytes.{ascii, sameBytes}
-use Rattle.exprs.proofs.Places.Spots.{two-there}
+use Rattle.atoms.proofs.Places.Spots.{two-there}
 use Rattle.exprs.proofs.Applied.{apply-other, apply-here, symbol-there}
 use borrow.Author.Needs.{needs}
 use Rattle.exprs.proofs.application.is_apply.Statement.{statement}

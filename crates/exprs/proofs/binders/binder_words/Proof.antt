@@ -5,18 +5,18 @@ use borrow.Author.Needs.{needs}
 use borrow.Author.Tests.{not-true, not-false}
 use Prim.Native.Nat.{_-_}
 use Rattle.exprs.specs.BinderWords.{BinderRow}
-use Rattle.exprs.proofs.Places.Spots.{spot-within}
+use Rattle.atoms.proofs.Places.Spots.{spot-within}
 use Rattle.exprs.proofs.BinderPairs.{Numbering, numbering-start, numbering-end, numbering-bad, numbering-refused, numbering-more, binder-spot, binder-room, sort-small, sort-within}
 use Rattle.exprs.proofs.binders.binder_words.Statement.{statement}
 use Rattle.exprs.proofs.binders.binder_words.Tie as tie
 use Rattle.exprs.proofs.binders.binder_words.Reads as reads
 use Rattle.exprs.proofs.binders.binder_words.Lts as lts
 use Rattle.exprs.proofs.binders.is_pair.Reads as is-pair-reads
-use Rattle.exprs.proofs.expr_words.put2.Reads as put2-reads
+use Rattle.atoms.proofs.expr_words.put2.Reads as put2-reads
 use Rattle.sorts.proofs.number.high.Reads as high-reads
 use Rattle.sorts.proofs.number.low.Reads as low-reads
-use Rattle.exprs.proofs.place.words_at.Reads as words-at-reads
-use Rattle.exprs.proofs.sort_at.sort_at.Reads as sort-at-reads
+use Rattle.atoms.proofs.place.words_at.Reads as words-at-reads
+use Rattle.atoms.proofs.sort_at.sort_at.Reads as sort-at-reads
 use Rattle.std.proofs.num.wrapping_add_u64.Reads as wrapping-add-u64-reads
 
 abbrev Inv-loop : tie.InvT-loop

@@ -1,5 +1,5 @@
 use native.Mathlib.Omega.{arith}
-use Rattle.exprs.proofs.Places.Spots.{two-there}
+use Rattle.atoms.proofs.Places.Spots.{two-there}
 use Rattle.exprs.proofs.BinderPairs.{pair-atom, pair-count, pair-there, pair-name}
 use Rattle.exprs.proofs.binders.is_pair.Statement.{statement}
 use Rattle.exprs.proofs.binders.is_pair.Tie as tie

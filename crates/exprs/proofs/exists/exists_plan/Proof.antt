@@ -2,20 +2,20 @@ use mathlib.Core.Path.{_∙_}
 use Rattle.exprs.proofs.ExistsForm.{ex-there, ex-count, vars-spot, ex-atom, ex-row, ex-bad, ex-go}
 use Prim.Native.Nat.{_+_}
 use native.Mathlib.Omega.{arith}
-use Rattle.exprs.proofs.Places.Spots.{spot-within}
-use Rattle.exprs.proofs.Places.Inside.{node-list, node-other}
-use Rattle.exprs.proofs.SortPlace.{got-at, bad-at}
+use Rattle.atoms.proofs.Places.Spots.{spot-within}
+use Rattle.atoms.proofs.Places.Inside.{node-list, node-other}
+use Rattle.atoms.proofs.SortPlace.{got-at, bad-at}
 use borrow.Author.Needs.{needs}
 use Rattle.exprs.proofs.exists.exists_plan.Statement.{statement}
 use Rattle.exprs.proofs.exists.exists_plan.Tie as tie
 use Rattle.exprs.proofs.exists.exists_plan.Reads as reads
 use Rattle.exprs.proofs.exists.exists_plan.Lts as lts
 use Rattle.exprs.proofs.binders.binder_words.Reads as binder-words-reads
-use Rattle.exprs.proofs.expr_words.put2.Reads as put2-reads
+use Rattle.atoms.proofs.expr_words.put2.Reads as put2-reads
 use Rattle.sorts.proofs.number.long.Reads as long-reads
 use Rattle.sorts.proofs.number.wide.Reads as wide-reads
-use Rattle.exprs.proofs.place.node_at.Reads as node-at-reads
-use Rattle.exprs.proofs.place.words_at.Reads as words-at-reads
+use Rattle.atoms.proofs.place.node_at.Reads as node-at-reads
+use Rattle.atoms.proofs.place.words_at.Reads as words-at-reads
 use Rattle.std.proofs.num.wrapping_add_u64.Reads as wrapping-add-u64-reads
 
 -- src/exists.rt:33:13

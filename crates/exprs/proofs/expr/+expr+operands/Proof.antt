@@ -1,5 +1,5 @@
 use Rattle.grammar.proofs.TreeHead.{tree-two}
-use Rattle.exprs.proofs.Places.Spots.{spot-within}
+use Rattle.atoms.proofs.Places.Spots.{spot-within}
 use Rattle.exprs.proofs.Steps.{as-stop, as-leaf, as-run, run-row, run-refused, last-end, last-spot, last-here, last-done, run-twice, run-done, Going, progress-start, progress-end, progress-short, next-spot, next-here, progress-refused, progress-more}
 use Rattle.exprs.specs.Plans.{Row}
 use lib.ListN.{length}
@@ -15,12 +15,12 @@ use Rattle.exprs.proofs.expr.+expr+operands.Lts-expr as expr-lts
 use Rattle.exprs.proofs.expr.operands.Reads as operands
 use Rattle.exprs.proofs.expr.operands.Kinds as operands-kinds
 use Rattle.exprs.proofs.expr.+expr+operands.Lts-operands as operands-lts
-use Rattle.exprs.proofs.place.words_at.Reads as words-at-reads
-use Rattle.exprs.proofs.place.reach.Reads as reach-reads
-use Rattle.exprs.proofs.place.through.Reads as through-reads
+use Rattle.atoms.proofs.place.words_at.Reads as words-at-reads
+use Rattle.atoms.proofs.place.reach.Reads as reach-reads
+use Rattle.atoms.proofs.place.through.Reads as through-reads
 use Rattle.exprs.proofs.plan.planned.Reads as planned-reads
-use Rattle.exprs.proofs.scopes.opened.Reads as opened-reads
-use Rattle.exprs.proofs.scopes.twice.Reads as twice-reads
+use Rattle.atoms.proofs.scopes.opened.Reads as opened-reads
+use Rattle.atoms.proofs.scopes.twice.Reads as twice-reads
 use Rattle.exprs.proofs.expr.+expr+operands.{statement}
 use Rattle.exprs.proofs.expr.+expr+operands.Tie.{close}
 

@@ -1,20 +1,20 @@
 use native.Mathlib.Omega.{arith}
 use mathlib.Core.Path.{refl}
 use Rattle.exprs.specs.Plans.{refused}
-use Rattle.exprs.proofs.Places.Spots.{spot-within, two-there}
-use Rattle.exprs.proofs.Places.Rows.{lead-spot}
+use Rattle.atoms.proofs.Places.Spots.{spot-within, two-there}
+use Rattle.atoms.proofs.Places.Rows.{lead-spot}
 use Rattle.exprs.proofs.ListPlans.{head-within}
-use Rattle.exprs.proofs.Places.Inside.{node-list, node-other}
+use Rattle.atoms.proofs.Places.Inside.{node-list, node-other}
 use Rattle.exprs.proofs.LetPlans.{let-lone, let-pair, let-atom, let-few, let-name, let-other, let-there, made-alone, made-body}
 use borrow.Author.Needs.{needs}
 use Rattle.exprs.proofs.lets.let_plan.Statement.{statement}
 use Rattle.exprs.proofs.lets.let_plan.Tie as tie
 use Rattle.exprs.proofs.lets.let_plan.Reads as reads
 use Rattle.exprs.proofs.lets.let_plan.Lts as lts
-use Rattle.exprs.proofs.expr_words.put_name.Reads as put-name-reads
-use Rattle.exprs.proofs.place.node_at.Reads as node-at-reads
-use Rattle.exprs.proofs.place.through.Reads as through-reads
-use Rattle.exprs.proofs.place.words_at.Reads as words-at-reads
+use Rattle.atoms.proofs.expr_words.put_name.Reads as put-name-reads
+use Rattle.atoms.proofs.place.node_at.Reads as node-at-reads
+use Rattle.atoms.proofs.place.through.Reads as through-reads
+use Rattle.atoms.proofs.place.words_at.Reads as words-at-reads
 
 -- src/lets.rt:25:18
 add-n : tie.Need-add-n

@@ -6,8 +6,8 @@ use Rattle.exprs.proofs.lists.minus_plan.Statement.{statement}
 use Rattle.exprs.proofs.lists.minus_plan.Tie as tie
 use Rattle.exprs.proofs.lists.minus_plan.Reads as reads
 use Rattle.exprs.proofs.lists.minus_plan.Lts as lts
-use Rattle.exprs.proofs.expr_words.put1.Reads as put1-reads
-use Rattle.exprs.proofs.expr_words.put2.Reads as put2-reads
+use Rattle.atoms.proofs.expr_words.put1.Reads as put1-reads
+use Rattle.atoms.proofs.expr_words.put2.Reads as put2-reads
 use Rattle.exprs.proofs.lists.behind.Reads as behind-reads
 
 -- src/lists.rt:74:18

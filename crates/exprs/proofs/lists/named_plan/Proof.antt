@@ -1,7 +1,7 @@
 use native.Mathlib.Omega.{arith}
 use mathlib.Core.Path.{refl, subst}
 use Rattle.grammar.specs.Names.{minus, exists, letIn, lit}
-use Rattle.exprs.specs.FormNames.{FormIs}
+use Rattle.atoms.specs.FormNames.{FormIs}
 use Rattle.grammar.specs.ParseExpr
 use Rattle.grammar.specs.ParseExpr.{formOf}
 use Rattle.exprs.proofs.ListPlans.{head-within, head-count}
@@ -12,10 +12,10 @@ use Rattle.exprs.proofs.lists.named_plan.Tie as tie
 use Rattle.exprs.proofs.lists.named_plan.Reads as reads
 use Rattle.exprs.proofs.lists.named_plan.Lts as lts
 use Rattle.exprs.proofs.exists.exists_plan.Reads as exists-plan-reads
-use Rattle.exprs.proofs.expr_words.put1.Reads as put1-reads
-use Rattle.exprs.proofs.expr_words.put2.Reads as put2-reads
-use Rattle.exprs.proofs.expr_words.put_name.Reads as put-name-reads
-use Rattle.exprs.proofs.keywords.form_named.Reads as form-named-reads
+use Rattle.atoms.proofs.expr_words.put1.Reads as put1-reads
+use Rattle.atoms.proofs.expr_words.put2.Reads as put2-reads
+use Rattle.atoms.proofs.expr_words.put_name.Reads as put-name-reads
+use Rattle.atoms.proofs.keywords.form_named.Reads as form-named-reads
 use Rattle.exprs.proofs.lets.let_plan.Reads as let-plan-reads
 use Rattle.exprs.proofs.lists.behind.Reads as behind-reads
 use Rattle.exprs.proofs.lists.minus_plan.Reads as minus-plan-reads

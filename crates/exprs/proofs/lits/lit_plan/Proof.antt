@@ -2,10 +2,10 @@ use native.Mathlib.Omega.{arith}
 use mathlib.Core.Path.{refl, sym, ap, _∙_}
 use Rattle.reading.specs.Answer.{orBad, malformed, badLiteral}
 use Rattle.sorts.specs.SortNames.{widthIn}
-use Rattle.exprs.specs.FormNames.{bitsIn}
+use Rattle.atoms.specs.FormNames.{bitsIn}
 use Rattle.exprs.specs.Plans.{refused}
-use Rattle.exprs.proofs.Places.Spots.{two-there}
-use Rattle.exprs.proofs.Places.Rows.{lead-spot}
+use Rattle.atoms.proofs.Places.Spots.{two-there}
+use Rattle.atoms.proofs.Places.Rows.{lead-spot}
 use Rattle.exprs.proofs.ListPlans.{head-within}
 use Rattle.exprs.proofs.LitPlans.{lit-lone, lit-first, lit-kind, lit-there, lit-second, lit-refused, lit-two, lit-wide, made-lit}
 use borrow.Author.Needs.{needs}
@@ -13,9 +13,9 @@ use Rattle.exprs.proofs.lits.lit_plan.Statement.{statement}
 use Rattle.exprs.proofs.lits.lit_plan.Tie as tie
 use Rattle.exprs.proofs.lits.lit_plan.Reads as reads
 use Rattle.exprs.proofs.lits.lit_plan.Lts as lts
-use Rattle.exprs.proofs.expr_words.put1.Reads as put1-reads
-use Rattle.exprs.proofs.expr_words.put_wide.Reads as put-wide-reads
-use Rattle.exprs.proofs.literal.bits_of.Reads as bits-of-reads
+use Rattle.atoms.proofs.expr_words.put1.Reads as put1-reads
+use Rattle.atoms.proofs.expr_words.put_wide.Reads as put-wide-reads
+use Rattle.atoms.proofs.literal.bits_of.Reads as bits-of-reads
 use Rattle.exprs.proofs.lits.width_at.Reads as width-at-reads
 use Rattle.sorts.proofs.span.bytes_at.Reads as bytes-at-reads
 

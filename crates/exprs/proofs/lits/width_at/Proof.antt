@@ -1,6 +1,6 @@
 use native.Mathlib.Omega.{arith}
-use Rattle.exprs.proofs.Places.Spots.{two-there}
-use Rattle.exprs.proofs.Places.Rows.{lead-spot}
+use Rattle.atoms.proofs.Places.Spots.{two-there}
+use Rattle.atoms.proofs.Places.Rows.{lead-spot}
 use Rattle.exprs.proofs.TreePlans.{three-there}
 use Rattle.exprs.proofs.LitPlans.{width-atom, width-other, width-first, width-second, width-unnamed, width-named}
 use borrow.Author.Needs.{needs}
@@ -9,7 +9,7 @@ use Rattle.exprs.proofs.lits.width_at.Tie as tie
 use Rattle.exprs.proofs.lits.width_at.Reads as reads
 use Rattle.exprs.proofs.lits.width_at.Lts as lts
 use Rattle.sorts.proofs.names.size_named.Reads as size-named-reads
-use Rattle.exprs.proofs.place.words_at.Reads as words-at-reads
+use Rattle.atoms.proofs.place.words_at.Reads as words-at-reads
 use Rattle.sorts.proofs.span.bytes_at.Reads as bytes-at-reads
 
 -- src/lits.rt:31:8

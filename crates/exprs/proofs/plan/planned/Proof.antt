@@ -1,16 +1,16 @@
 use native.Mathlib.Omega.{arith}
-use Rattle.exprs.proofs.Places.Spots.{two-there}
+use Rattle.atoms.proofs.Places.Spots.{two-there}
 use Rattle.exprs.proofs.TreePlans.{three-there, five-there, here-scopes, here-list, planned-list, planned-symbol, planned-integer, planned-boolean, planned-quoted, planned-decimal}
 use borrow.Author.Needs.{needs}
 use Rattle.exprs.proofs.plan.planned.Statement.{statement}
 use Rattle.exprs.proofs.plan.planned.Tie as tie
 use Rattle.exprs.proofs.plan.planned.Reads as reads
 use Rattle.exprs.proofs.plan.planned.Lts as lts
-use Rattle.exprs.proofs.expr_words.put2.Reads as put2-reads
-use Rattle.exprs.proofs.expr_words.put_name.Reads as put-name-reads
-use Rattle.exprs.proofs.expr_words.put_numeral.Reads as put-numeral-reads
+use Rattle.atoms.proofs.expr_words.put2.Reads as put2-reads
+use Rattle.atoms.proofs.expr_words.put_name.Reads as put-name-reads
+use Rattle.atoms.proofs.expr_words.put_numeral.Reads as put-numeral-reads
 use Rattle.exprs.proofs.lists.list_plan.Reads as list-plan-reads
-use Rattle.exprs.proofs.variable.variable.Reads as variable-reads
+use Rattle.atoms.proofs.variable.variable.Reads as variable-reads
 
 -- src/plan.rt:51:16
 mul-kind : tie.Need-mul-kind

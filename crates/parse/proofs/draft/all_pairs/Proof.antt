@@ -2,14 +2,14 @@ use Prim.Native.Nat.{_-_}
 use native.Mathlib.Omega.{arith}
 use borrow.Author.Tests.{not-true, not-false}
 use Rattle.exprs.specs.BinderWords.{BinderRow}
-use Rattle.exprs.proofs.Places.Spots.{spot-within}
+use Rattle.atoms.proofs.Places.Spots.{spot-within}
 use Rattle.parse.proofs.SolutionParts.{Pairing, pairing-start, pairing-end, pairing-bad, pairing-more, pair-spot}
 use Rattle.parse.proofs.draft.all_pairs.Statement.{statement}
 use Rattle.parse.proofs.draft.all_pairs.Tie as tie
 use Rattle.parse.proofs.draft.all_pairs.Reads as reads
 use Rattle.parse.proofs.draft.all_pairs.Lts as lts
 use Rattle.exprs.proofs.binders.is_pair.Reads as is-pair-reads
-use Rattle.exprs.proofs.place.words_at.Reads as words-at-reads
+use Rattle.atoms.proofs.place.words_at.Reads as words-at-reads
 
 abbrev Inv-loop : tie.InvT-loop
 Inv-loop tree at n i₀ p₀ i p = (h : BinderRow tree at n 0) → Pairing tree at n h i p

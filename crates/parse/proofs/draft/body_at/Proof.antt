@@ -6,8 +6,8 @@ use Rattle.parse.proofs.draft.body_at.Reads as reads
 use Rattle.parse.proofs.draft.body_at.Lts as lts
 use Rattle.parse.proofs.ending.no_scopes.Reads as no-scopes-reads
 use Rattle.exprs.proofs.expr.expr.Reads as expr-reads
-use Rattle.exprs.proofs.scopes.opened.Reads as opened-reads
-use Rattle.exprs.proofs.scopes.twice.Reads as twice-reads
+use Rattle.atoms.proofs.scopes.opened.Reads as opened-reads
+use Rattle.atoms.proofs.scopes.twice.Reads as twice-reads
 
 -- src/draft.rt:69:25
 no-scopes-requires : tie.Need-no-scopes-requires

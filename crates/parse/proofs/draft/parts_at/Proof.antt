@@ -1,9 +1,9 @@
 use Prim.Native.Nat.{_+_}
 use native.Mathlib.Omega.{arith}
 use borrow.Author.Tests.{not-true, not-false}
-use Rattle.exprs.proofs.SortPlace.{got-at, bad-at}
-use Rattle.exprs.proofs.Places.Spots.{spot-within}
-use Rattle.exprs.proofs.Places.Inside.{node-list, node-other}
+use Rattle.atoms.proofs.SortPlace.{got-at, bad-at}
+use Rattle.atoms.proofs.Places.Spots.{spot-within}
+use Rattle.atoms.proofs.Places.Inside.{node-list, node-other}
 use Rattle.parse.proofs.SolutionParts.{root, whole-other, whole-count, head-spot, params-spot, params-other, pairs-row, pairs-bad, sorts-bad, parts-body, parts-done}
 use borrow.Author.Needs.{needs}
 use Rattle.parse.proofs.draft.parts_at.Statement.{statement}
@@ -13,11 +13,11 @@ use Rattle.parse.proofs.draft.parts_at.Lts as lts
 use Rattle.exprs.proofs.binders.binder_words.Reads as binder-words-reads
 use Rattle.parse.proofs.draft.all_pairs.Reads as all-pairs-reads
 use Rattle.parse.proofs.draft.body_at.Reads as body-at-reads
-use Rattle.exprs.proofs.expr_words.put1.Reads as put1-reads
+use Rattle.atoms.proofs.expr_words.put1.Reads as put1-reads
 use Rattle.sorts.proofs.number.long.Reads as long-reads
 use Rattle.sorts.proofs.number.wide.Reads as wide-reads
-use Rattle.exprs.proofs.place.node_at.Reads as node-at-reads
-use Rattle.exprs.proofs.place.words_at.Reads as words-at-reads
+use Rattle.atoms.proofs.place.node_at.Reads as node-at-reads
+use Rattle.atoms.proofs.place.words_at.Reads as words-at-reads
 
 -- src/draft.rt:86:32
 node-at-requires : tie.Need-node-at-requires

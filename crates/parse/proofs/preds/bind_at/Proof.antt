@@ -1,7 +1,7 @@
 use native.Mathlib.Omega.{arith}
-use Rattle.exprs.proofs.Places.Spots.{spot-within, two-there}
-use Rattle.exprs.proofs.Places.Inside.{node-list, node-other}
-use Rattle.exprs.proofs.SortPlace.{got-at, bad-at}
+use Rattle.atoms.proofs.Places.Spots.{spot-within, two-there}
+use Rattle.atoms.proofs.Places.Inside.{node-list, node-other}
+use Rattle.atoms.proofs.SortPlace.{got-at, bad-at}
 use Rattle.parse.proofs.PredNames.{symbol-there}
 use Rattle.parse.proofs.BindOf.{whole-spot, bind-atom, bind-none, pair-spot, bind-no-pair, bind-short, name-spot, bind-no-name, sort-small, bind-no-sort, bind-one, pred-here, bind-preds}
 use borrow.Author.Needs.{needs}
@@ -9,11 +9,11 @@ use Rattle.parse.proofs.preds.bind_at.Statement.{statement}
 use Rattle.parse.proofs.preds.bind_at.Tie as tie
 use Rattle.parse.proofs.preds.bind_at.Reads as reads
 use Rattle.parse.proofs.preds.bind_at.Lts as lts
-use Rattle.exprs.proofs.expr_words.put2.Reads as put2-reads
-use Rattle.exprs.proofs.place.node_at.Reads as node-at-reads
-use Rattle.exprs.proofs.place.words_at.Reads as words-at-reads
+use Rattle.atoms.proofs.expr_words.put2.Reads as put2-reads
+use Rattle.atoms.proofs.place.node_at.Reads as node-at-reads
+use Rattle.atoms.proofs.place.words_at.Reads as words-at-reads
 use Rattle.parse.proofs.preds.preds.Reads as preds-reads
-use Rattle.exprs.proofs.sort_at.sort_at.Reads as sort-at-reads
+use Rattle.atoms.proofs.sort_at.sort_at.Reads as sort-at-reads
 
 -- src/preds.rt:161:32
 node-at-requires : tie.Need-node-at-requires

@@ -1,7 +1,7 @@
 use mathlib.Core.Path.{refl}
 use native.Mathlib.Omega.{arith}
-use Rattle.exprs.proofs.SortPlace.{got-at, bad-at}
-use Rattle.exprs.proofs.Places.Spots.{spot-within}
+use Rattle.atoms.proofs.SortPlace.{got-at, bad-at}
+use Rattle.atoms.proofs.Places.Spots.{spot-within}
 use Rattle.parse.proofs.PredNames.{kvar-spot, kvar-there, kvar-row, kvar-few, kvar-bad, kvar-read}
 use borrow.Author.Needs.{needs}
 use Rattle.parse.proofs.preds.kvar.Statement.{statement}
@@ -9,7 +9,7 @@ use Rattle.parse.proofs.preds.kvar.Tie as tie
 use Rattle.parse.proofs.preds.kvar.Reads as reads
 use Rattle.parse.proofs.preds.kvar.Lts as lts
 use Rattle.sorts.proofs.number.wide.Reads as wide-reads
-use Rattle.exprs.proofs.place.words_at.Reads as words-at-reads
+use Rattle.atoms.proofs.place.words_at.Reads as words-at-reads
 use Rattle.parse.proofs.preds.names.Reads as names-reads
 use Rattle.parse.proofs.preds.put_kvar.Reads as put-kvar-reads
 

@@ -4,13 +4,13 @@ use native.Mathlib.Omega.{arith}
 use borrow.Author.Needs.{needs}
 use Prim.Native.Nat.{_-_}
 use Rattle.parse.specs.PredWords.{NameRow}
-use Rattle.exprs.proofs.Places.Spots.{two-there}
+use Rattle.atoms.proofs.Places.Spots.{two-there}
 use Rattle.parse.proofs.PredNames.{Naming, naming-start, naming-end, naming-bad, naming-more, name-spot, name-room, symbol-there}
 use Rattle.parse.proofs.preds.names.Statement.{statement}
 use Rattle.parse.proofs.preds.names.Tie as tie
 use Rattle.parse.proofs.preds.names.Reads as reads
 use Rattle.parse.proofs.preds.names.Lts as lts
-use Rattle.exprs.proofs.expr_words.put_name.Reads as put-name-reads
+use Rattle.atoms.proofs.expr_words.put_name.Reads as put-name-reads
 
 abbrev Inv-loop : tie.InvT-loop
 Inv-loop text tree at n out₀ w i₀ p₀ v₀ out i p v = (length out ≡ length out₀) × ((h : NameRow tree at n w) → Naming text tree at n w h out₀ out i p v)

@@ -1,7 +1,7 @@
 use mathlib.Core.Logic.{⊎-elim}
 use native.Mathlib.Omega.{arith}
-use Rattle.exprs.proofs.Places.Spots.{two-there, spot-within}
-use Rattle.exprs.proofs.Places.Inside.{node-list, node-other}
+use Rattle.atoms.proofs.Places.Spots.{two-there, spot-within}
+use Rattle.atoms.proofs.Places.Inside.{node-list, node-other}
 use Rattle.parse.proofs.ListHead.{head-spot}
 use Rattle.parse.proofs.PredPlans.{pred-atom, pred-none, pred-other, six-there, pred-and, pred-named, kvar-here, pred-kvar, expr-here, expr-bad, expr-read}
 use borrow.Author.Needs.{needs}
@@ -11,10 +11,10 @@ use Rattle.parse.proofs.preds.pred.Reads as reads
 use Rattle.parse.proofs.preds.pred.Lts as lts
 use Rattle.parse.proofs.ending.no_scopes.Reads as no-scopes-reads
 use Rattle.exprs.proofs.expr.expr.Reads as expr-reads
-use Rattle.exprs.proofs.expr_words.put1.Reads as put1-reads
-use Rattle.exprs.proofs.place.node_at.Reads as node-at-reads
-use Rattle.exprs.proofs.place.through.Reads as through-reads
-use Rattle.exprs.proofs.place.words_at.Reads as words-at-reads
+use Rattle.atoms.proofs.expr_words.put1.Reads as put1-reads
+use Rattle.atoms.proofs.place.node_at.Reads as node-at-reads
+use Rattle.atoms.proofs.place.through.Reads as through-reads
+use Rattle.atoms.proofs.place.words_at.Reads as words-at-reads
 use Rattle.parse.proofs.preds.kvar.Reads as kvar-reads
 use Rattle.sorts.proofs.span.bytes_at.Reads as bytes-at-reads
 use Rattle.lexing.proofs.byte.begins_with.Reads as begins-with-reads

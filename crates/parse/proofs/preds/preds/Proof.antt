@@ -4,13 +4,13 @@ use native.Mathlib.Omega.{arith}
 use borrow.Author.Needs.{needs}
 use Prim.Native.Nat.{_-_, _+_}
 use Rattle.parse.specs.PredWords.{PredHere}
-use Rattle.exprs.proofs.Places.Spots.{spot-within}
+use Rattle.atoms.proofs.Places.Spots.{spot-within}
 use Rattle.parse.proofs.PredLoop.{Reading, reading-start, reading-end, reading-refused, reading-more, reading-less, many-fits, pred-here}
 use Rattle.parse.proofs.preds.preds.Statement.{statement}
 use Rattle.parse.proofs.preds.preds.Tie as tie
 use Rattle.parse.proofs.preds.preds.Reads as reads
 use Rattle.parse.proofs.preds.preds.Lts as lts
-use Rattle.exprs.proofs.place.words_at.Reads as words-at-reads
+use Rattle.atoms.proofs.place.words_at.Reads as words-at-reads
 use Rattle.parse.proofs.preds.pred.Reads as pred-reads
 use Rattle.lexing.proofs.words.put.Reads as put-reads
 

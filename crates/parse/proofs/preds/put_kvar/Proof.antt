@@ -1,12 +1,12 @@
-use Rattle.exprs.proofs.Laid.{put-append}
+use Rattle.atoms.proofs.Puts.{put-append}
 use mathlib.Core.List.{[], _∷_}
 use borrow.Author.Needs.{needs}
 use Rattle.parse.proofs.preds.put_kvar.Statement.{statement}
 use Rattle.parse.proofs.preds.put_kvar.Tie as tie
 use Rattle.parse.proofs.preds.put_kvar.Reads as reads
 use Rattle.parse.proofs.preds.put_kvar.Lts as lts
-use Rattle.exprs.proofs.expr_words.put1.Reads as put1-reads
-use Rattle.exprs.proofs.expr_words.put3.Reads as put3-reads
+use Rattle.atoms.proofs.expr_words.put1.Reads as put1-reads
+use Rattle.atoms.proofs.expr_words.put3.Reads as put3-reads
 
 -- src/preds.rt:73:9
 put3-requires : tie.Need-put3-requires

@@ -1,0 +1,91 @@
+//! Flattening of words held against the paper.
+
+mod damage;
+mod extreme;
+mod grower;
+
+use crate::call::{Call, Operation};
+use crate::check;
+use crate::lengths;
+use crate::paper;
+use crate::parsing;
+use crate::random::Random;
+use crate::tally::Tally;
+pub use extreme::words as extremes;
+use grower::Grower;
+
+/// Words that begin, fill and end expressions, for lists of all their orders.
+const ALPHABET: [u32; 11] = [0, 1, 2, 5, 8, 10, 33, 38, 39, 42, 51];
+
+/// Holds flattening against the paper, on all lists of up to so many words and in so many random calls, and prints how they ended.
+pub fn run(small: usize, random: u64, r: &mut Random) -> Result<Tally, String> {
+    let mut all = Tally::default();
+    (0..=small).try_for_each(|len| every(&mut Vec::new(), len, r, &mut all))?;
+    println!("compare: Flatten, all lists of up to {small} words: {all}");
+    let mut tally = Tally::default();
+    let extremes = extremes();
+    while tally.calls() < random {
+        if r.one_in(3000) {
+            let (_, words) = &extremes[r.below(extremes.len())];
+            words_held(words, r, &mut tally)?;
+        } else {
+            words_held(&words(r), r, &mut tally)?;
+        }
+    }
+    println!("compare: Flatten, random words: {tally}");
+    Ok(all + tally)
+}
+
+fn every(words: &mut Vec<u32>, len: usize, r: &mut Random, tally: &mut Tally) -> Result<(), String> {
+    if len == 0 {
+        return words_held(words, r, tally);
+    }
+    for word in ALPHABET {
+        words.push(word);
+        every(words, len - 1, r, tally)?;
+        words.pop();
+    }
+    Ok(())
+}
+
+fn held(words: &[u32], out: usize, tally: &mut Tally) -> Result<(), String> {
+    let answer = paper::flatten(words, out);
+    tally.count(&answer);
+    check::flatten(words, out, &answer)
+}
+
+/// Good words with an output just long enough; any words with one round what they need.
+fn words_held(words: &[u32], r: &mut Random, tally: &mut Tally) -> Result<(), String> {
+    let need = match paper::flatten(words, usize::MAX) {
+        Ok(answer) => {
+            held(words, answer.words.len(), tally)?;
+            answer.words.len()
+        }
+        Err(_) => r.below(8),
+    };
+    held(words, lengths::length(need, r), tally)
+}
+
+fn words(r: &mut Random) -> Vec<u32> {
+    match r.below(20) {
+        0..=7 => grown(r),
+        8..=12 => damage::damaged(grown(r), r),
+        13..=15 => grower::chain(r),
+        16 => damage::damaged(grower::chain(r), r),
+        17 => parsed(r),
+        _ => grower::any(r),
+    }
+}
+
+fn grown(r: &mut Random) -> Vec<u32> {
+    let depth = 1 + r.below(7);
+    let mut g = Grower::new(r);
+    g.expr(depth);
+    g.words
+}
+
+/// Words that the parser writes for an expression, if the text is one.
+fn parsed(r: &mut Random) -> Vec<u32> {
+    let text = parsing::text(Operation::Expression, r);
+    paper::answer(&Call::roomy(Operation::Expression, &text)).map_or(Vec::new(), |a| a.words)
+}

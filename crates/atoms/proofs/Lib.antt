@@ -1,0 +1,5 @@
+pub mod Places
+pub mod Puts
+pub mod FormCode
+pub mod LeafCode
+pub mod SortPlace

@@ -1,0 +1,133 @@
+// One call of a reader.
+use crate::input::put_bytes;
+use crate::line::Line;
+use crate::slices::Reply;
+use crate::slices::fill;
+use crate::slices::is_recorded;
+use crate::slices::is_zero;
+
+// The reader that came back, and whether the answer was the recorded one.
+pub struct Done {
+    pub reader: reader::Reader,
+    pub same: bool,
+}
+
+// The longest text and the longest slices that are recorded.
+const TEXT: usize = 32769;
+
+const WORDS: usize = 120000;
+
+// The text is spelled out, then the call is made.
+pub fn text_line(data: &[u8], line: Line, reader: reader::Reader) -> Done {
+    let mut text = [0u8; TEXT];
+    let n = put_bytes(data, line.input, &mut text);
+    if TEXT < n {
+        return Done {
+            reader: reader,
+            same: false,
+        };
+    }
+    lend(data, line, reader, &text[..n])
+}
+
+// Makes the slices. Reading takes no tree, and only a solution takes a draft.
+fn lend(data: &[u8], line: Line, reader: reader::Reader, text: &[u8]) -> Done {
+    let mut tree = [0u32; WORDS];
+    let mut draft = [0u32; WORDS];
+    let mut out = [0u32; WORDS];
+    if WORDS < line.tree {
+        return Done {
+            reader: reader,
+            same: false,
+        };
+    }
+    if WORDS < line.draft {
+        return Done {
+            reader: reader,
+            same: false,
+        };
+    }
+    if WORDS < line.out {
+        return Done {
+            reader: reader,
+            same: false,
+        };
+    }
+    asked(
+        data,
+        line,
+        reader,
+        text,
+        &mut tree[..line.tree],
+        &mut draft[..line.draft],
+        &mut out[..line.out],
+    )
+}
+
+// Fills the slices, makes the call, and compares.
+fn asked(
+    data: &[u8],
+    line: Line,
+    reader: reader::Reader,
+    text: &[u8],
+    tree: &mut [u32],
+    draft: &mut [u32],
+    out: &mut [u32],
+) -> Done {
+    fill(tree);
+    fill(draft);
+    fill(out);
+    let answer = run(line.op, reader, text, tree, draft, out);
+    let same = is_recorded(data, line, reply(answer), out) && is_clear(line.op, tree, draft);
+    let returned = answer.reader;
+    Done {
+        reader: returned,
+        same: same,
+    }
+}
+
+// Whether the working slices that the operation was lent are zero.
+fn is_clear(op: u8, tree: &[u32], draft: &[u32]) -> bool {
+    if op == b'R' || op == b'A' {
+        return true;
+    }
+    is_zero(tree) && (op != b'L' || is_zero(draft))
+}
+
+fn run(
+    op: u8,
+    reader: reader::Reader,
+    text: &[u8],
+    tree: &mut [u32],
+    draft: &mut [u32],
+    out: &mut [u32],
+) -> reader::Answer {
+    match op {
+        b'R' => reader.read_one(text, out),
+        b'A' => reader.read_all(text, out),
+        b'S' => reader.sort(text, tree, out),
+        b'E' => reader.expression(text, tree, out),
+        b'B' => reader.bind(text, tree, out),
+        _ => reader.solution(text, tree, draft, out),
+    }
+}
+
+fn reply(answer: reader::Answer) -> Reply {
+    let reader = answer.reader;
+    let count = reader.next;
+    let said = answer.said;
+    match said {
+        reader::Said::Accepted(a, b) => Reply {
+            refusal: 0,
+            a: a as u64,
+            b: b as u64,
+            count: count,
+        },
+        reader::Said::Refused(r) => Reply {
+            refusal: r as u64,
+            a: 0,
+            b: 0,
+            count: count,
+        },
+    }
+}

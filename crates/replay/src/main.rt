@@ -1,0 +1,114 @@
+// Replays recorded answers from standard input, a call and its answer a line (line.rt), and says how many there were and how many differ.
+// A call is made on the reader that the last call returned if that one's count is where the line starts, and on a new one if not.
+mod call;
+mod flat;
+mod input;
+mod line;
+mod numbers;
+mod slices;
+
+use crate::call::Done;
+use crate::call::text_line;
+use crate::flat::flatten_line;
+use crate::line::Line;
+use crate::line::line_at;
+
+// What was replayed so far, and the reader that the last call returned.
+struct State {
+    reader: reader::Reader,
+    opened: bool,
+    answers: u64,
+    kept: u64,
+    differing: u64,
+    first: u64,
+}
+
+fn main() {
+    let mut data = [0u8; 163840];
+    let n = io::read_full(0, &mut data);
+    let state = replay(&data[..n]);
+    io::print_decimal(1, state.answers);
+    io::write_all(1, b" answers replayed\n");
+    io::print_decimal(1, state.kept);
+    io::write_all(1, b" of them on a reader that an earlier call returned\n");
+    io::print_decimal(1, state.differing);
+    io::write_all(1, b" differ\n");
+    if 0 < state.differing {
+        io::write_all(1, b"the first is line ");
+        io::print_decimal(1, state.first);
+        io::write_all(1, b"\n");
+    }
+}
+
+// All lines.
+fn replay(data: &[u8]) -> State {
+    let mut at: usize = 0;
+    let mut state = State {
+        reader: reader::Reader::open(0),
+        opened: false,
+        answers: 0,
+        kept: 0,
+        differing: 0,
+        first: 0,
+    };
+    while at < data.len() {
+        let line = line_at(data, at);
+        state = step(data, line, state);
+        if line.next <= at {
+            break;
+        }
+        at = line.next;
+    }
+    state
+}
+
+// One line. Flattening takes no reader.
+fn step(data: &[u8], line: Line, state: State) -> State {
+    if line.op == b'F' {
+        return told(state, flatten_line(data, line));
+    }
+    let reader = state.reader;
+    if state.opened && reader.next == line.start {
+        return returned(state, text_line(data, line, reader), more(state.kept));
+    }
+    returned(
+        state,
+        text_line(data, line, reader::Reader::open(line.start)),
+        state.kept,
+    )
+}
+
+// One call of a reader more.
+fn returned(state: State, done: Done, kept: u64) -> State {
+    let reader = done.reader;
+    let next = State {
+        reader: reader,
+        opened: true,
+        answers: state.answers,
+        kept: kept,
+        differing: state.differing,
+        first: state.first,
+    };
+    told(next, done.same)
+}
+
+// One answer more, and whether it was the recorded one.
+fn told(state: State, same: bool) -> State {
+    let mut next = state;
+    next.answers = more(state.answers);
+    if same {
+        return next;
+    }
+    next.differing = more(state.differing);
+    if state.differing == 0 {
+        next.first = next.answers;
+    }
+    next
+}
+
+fn more(n: u64) -> u64 {
+    if n < u64::MAX {
+        return n + 1;
+    }
+    n
+}
