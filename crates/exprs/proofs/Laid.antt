@@ -1,10 +1,10 @@
 -- Words laid one after the other, and outcomes in sequence.
 use Prim.Native.Nat.{ℕ, _+_, _≤_}
 use mathlib.Core.Path.{_≡_, refl, sym, ap, subst, _∙_}
-use mathlib.Core.List.{List, [], _∷_, _++_}
+use mathlib.Core.List.{List, [], _++_}
 use native.Mathlib.Omega.{arith}
 use native.Mathlib.Nat.{add-zero}
-use lib.ListN.{length, set, length-set, length-append}
+use lib.ListN.{length, length-append}
 use Rattle.reading.specs.Answer.{ok}
 use Rattle.grammar.specs.Written.{W, ahead, after}
 use Rattle.atoms.specs.Laid.{laid}

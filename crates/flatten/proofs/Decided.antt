@@ -5,14 +5,14 @@ use mathlib.Core.Path.{_≡_, refl, sym, ap, ap₂, _∙_}
 use mathlib.Core.List.{List, _++_}
 use native.Mathlib.Omega.{arith}
 use native.Mathlib.Nat.{zero-add}
-use lib.Dec.{eqb, ltb, leb}
+use lib.Dec.{eqb, leb}
 use lib.ListN.{length, take, drop}
 use lib.Seq.{take-append-seam}
-use borrow.Author.Tests.{lt-ltb, le-ltb, le-leb, lt-leb, ltb-true, ltb-false, leb-true, leb-false}
+use borrow.Author.Tests.{lt-ltb, le-ltb, le-leb, lt-leb}
 use Rattle.reading.specs.Limits.{maxNumber, maxNodes}
 use Rattle.reading.specs.Pick.{pick}
-use Rattle.reading.specs.Answer.{number, Res, ok, no, Final, accepts, refuses, finish, fitsIn, over, outputOf}
-use Rattle.reading.proofs.Finish.{finish-spent, finish-short, finish-long}
+use Rattle.reading.specs.Answer.{number, Res, ok, no, accepts, refuses, finish, over, outputOf}
+use Rattle.reading.proofs.Finish.{finish-short, finish-long}
 use Rattle.reading.proofs.Over.{over-fits, over-length}
 use Rattle.grammar.specs.Item.{raise, wordsOf}
 use Rattle.grammar.specs.Expr.{Expr, exprItems, Solution, solutionItems}
@@ -20,7 +20,6 @@ use Rattle.grammar.specs.Raise.{raiseExpr}
 use Rattle.grammar.specs.Operations.{makeSolution, draftFinal}
 use Rattle.grammar.proofs.Items.{words-append}
 use Rattle.grammar.proofs.Lengths.{size-solution}
-use Rattle.grammar.proofs.Post.{Post}
 use Rattle.grammar.proofs.Raise.{raise-append, words-raise, items-raise}
 use Rattle.atoms.specs.Laid.{laid}
 use Rattle.parse.specs.Answers.{Attempted, AttemptedAt, raisedWords, paramItems, bodyItems, draftSaid}
@@ -29,7 +28,7 @@ use Rattle.parse.specs.declared.Counted.the-variants as counted
 use Rattle.parse.specs.declared.Drafted.the-variants as drafted
 use Rattle.sorts.specs.declared.Answer.the-variants as answer
 use Rattle.flatten.specs.Uncurry.{uncurry, mostOperands}
-use Rattle.judge.specs.Judge.{Judged, reads, fails, exprDeep, exprAt, atEnd, judgeExpr}
+use Rattle.judge.specs.Judge.{reads, fails, exprDeep, exprAt, atEnd, judgeExpr}
 use Rattle.judge.specs.Ends.{endOf}
 use Rattle.flatten.specs.Operations.{exprWords, noText, flatFits, flattenBy, flattenFinal, flatItems, solutionFits, solutionFinal}
 use Rattle.flatten.specs.Writing.{mostCount, Wrote, WroteExpr}

@@ -1,7 +1,7 @@
 -- What the writer of flattened words does, step by step: each lemma is one way through the code.
 use Prim.Native.Nat.{ℕ, _+_, _-_, _≤_, _<_, min, max}
 use mathlib.Core.Bool.{Bool}
-use mathlib.Core.Path.{_≡_, refl, sym, ap, ap₂, _∙_}
+use mathlib.Core.Path.{_≡_, refl, sym, ap, _∙_}
 use mathlib.Core.List.{List, [], _∷_, _++_}
 use native.Mathlib.Omega.{arith}
 use lib.ListN.{length, getD, set}
@@ -10,11 +10,11 @@ use Rattle.reading.specs.Tree.{bit}
 use Rattle.reading.proofs.Placed.{at-below, at-word, at-tail}
 use Rattle.grammar.specs.Sort.{Sort}
 use Rattle.grammar.specs.Item.{wordsOf}
-use Rattle.grammar.specs.Expr.{Kind, Expr, Exprs, node, app, enil, econs, exprs, flag, kindItems, outSort, exprItems, exprsItems}
+use Rattle.grammar.specs.Expr.{Kind, Expr, Exprs, exprs, flag, kindItems, outSort, exprItems, exprsItems}
 use Rattle.grammar.proofs.Items.{words-append}
 use Rattle.flatten.specs.Uncurry.{join, uncurry, uncurryAll, mostOperands, mostOperandsAll}
 use Rattle.flatten.specs.Flat.{gathered, spine}
-use Rattle.judge.specs.Judge.{Judged, reads, fails, Reader, operandsOf, argumentsOf, several, sortIf, header, exprDeep}
+use Rattle.judge.specs.Judge.{Judged, reads, operandsOf, argumentsOf, sortIf, header, exprDeep}
 use Rattle.judge.specs.Ends.{endOf, headOf}
 use Rattle.flatten.specs.Operations.{noText}
 use Rattle.judge.specs.Spelled.{Spelled}

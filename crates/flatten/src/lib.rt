@@ -4,7 +4,7 @@
 ghost use mathlib.Core.Path.{_≡_};
 ghost use Rattle.reading.specs.Answer.{zeros, outputOf};
 ghost use Rattle.parse.specs.Answers.{raisedWords};
-ghost use Rattle.flatten.specs.Operations.{exprWords, flattenFinal, flattenOut, flatItems, solutionFinal};
+ghost use Rattle.flatten.specs.Operations.{flattenFinal, flattenOut, flatItems, solutionFinal};
 ghost use Rattle.flatten.specs.Answers.{flattenAnswer, solutionAnswer};
 use parse::Counted;
 use sorts::Answer;

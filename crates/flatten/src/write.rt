@@ -2,7 +2,7 @@
 // a joined count that does not fit in a word.
 ghost use mathlib.Core.Path.{_≡_};
 ghost use mathlib.Core.List.{List};
-ghost use Prim.Native.Nat.{ℕ, _^_, _≤_, min, _+_};
+ghost use Prim.Native.Nat.{ℕ, _≤_, min, _+_};
 ghost use Rattle.reading.specs.Bytes.{Maybe};
 ghost use Rattle.grammar.specs.Sort.{Sort};
 ghost use Rattle.grammar.specs.Expr.{Expr, Exprs, enil, econs};
@@ -14,13 +14,11 @@ ghost use Rattle.judge.specs.Spelled.{Spelled};
 ghost use Rattle.flatten.specs.Writing.{Wrote, WroteExpr, WroteExprs, Patched, Chained, behindOf, mostCount};
 use judge::expr_words::End;
 use judge::expr_words::Header;
+use judge::expr_words::NO_TEXT;
 use judge::expr_words::exprs_end;
 use judge::expr_words::head;
 use judge::expr_words::out_sort;
 use lexing::words::put;
-
-// No text is lent with the words: no span ends behind this.
-pub const NO_TEXT: u64 = 8589934592;
 
 // One more than the largest count that a word holds.
 const TOO_MANY: u64 = 4294967296;

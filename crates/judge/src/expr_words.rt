@@ -13,6 +13,9 @@ use crate::sort_words::span_end;
 // So many expressions may stand inside one another.
 pub const MAX_NODES: u32 = 128;
 
+// The limit of spans where no text is lent with the words: no span ends behind it.
+pub const NO_TEXT: u64 = 8589934592;
+
 // The place behind what was read, or the number of a refusal.
 pub enum End {
     At(usize),

@@ -10,9 +10,9 @@ use borrow.Author.Tests.{le-ltb}
 use Rattle.reading.specs.Limits.{maxNumber}
 use Rattle.reading.specs.Pick.{pick}
 use Rattle.reading.specs.Answer.{number, noRoom, numbersSpent, Ans, got, bad, Res, ok, no, chain, lifted, Final, accepts, refuses, finish, fitsIn, Said, accepted, zeros, saidOf, countOf, outputOf}
-use Rattle.reading.specs.Reading.{Read, readText, readWords, readReport, readFinal}
+use Rattle.reading.specs.Reading.{readText, readWords, readReport, readFinal}
 use Rattle.grammar.specs.Sort.{sortWords}
-use Rattle.grammar.specs.Item.{Item, plains, raise, wordsOf}
+use Rattle.grammar.specs.Item.{Item, plains, wordsOf}
 use Rattle.grammar.specs.Expr.{exprItems, bindItems}
 use Rattle.grammar.specs.ParseSort.{parseSort}
 use Rattle.grammar.specs.Operations.{theTree, makeSort, makeExpr, makeBind, makeSolution, sortFinal, exprFinal, bindFinal}

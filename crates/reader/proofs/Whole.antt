@@ -1,9 +1,9 @@
 -- Demand 3 of what the code answers: the contracts promise the very outcomes that it speaks of.
 use Prim.Native.Nat.{ℕ, _≤_}
-use mathlib.Core.Path.{_≡_, refl, sym, subst, _∙_}
+use mathlib.Core.Path.{_≡_, refl, subst}
 use mathlib.Core.List.{List, [], _∷_}
 use Rattle.reading.specs.Limits.{maxNumber}
-use Rattle.session.specs.Session.{Call, outcome, countAfter}
+use Rattle.session.specs.Session.{Call, countAfter}
 use Rattle.session.specs.Demand3.{Demand3}
 use Rattle.session.proofs.Whole.{demand3}
 use Rattle.reader.specs.Sessions.{Reply, Session, lastCount}

@@ -11,6 +11,7 @@ ghost use Rattle.grammar.specs.Expr.{Solution};
 ghost use Rattle.show.specs.Hex.{digit as digitOf, eightDigits};
 ghost use Rattle.show.specs.Lines.{line as lineOf, refusalText, solutionText, SolutionWords};
 use judge::expr_words::End;
+use judge::expr_words::NO_TEXT;
 use judge::sort_words::sort_end;
 
 // A digit as a byte.
@@ -93,8 +94,7 @@ pub fn solution(words: &[u32], out: &mut [u8]) -> usize
     let mut from = 1;
     let mut left = words[0];
     while 0 < left {
-        // no text is lent with the words, so no span is outside it
-        match sort_end(words, from + 2, 0x2_0000_0000) {
+        match sort_end(words, from + 2, NO_TEXT) {
             End::At(to) => {
                 if to < from {
                     return 0;

@@ -1,4 +1,4 @@
-use mathlib.Core.Path.{sym, _∙_}
+use mathlib.Core.Path.{_∙_}
 use Rattle.parse.proofs.Ended.{closed}
 use borrow.Author.Needs.{needs}
 use Rattle.flatten.proofs.operation.solution.Statement.{statement}

@@ -2,12 +2,12 @@ use borrow.Author.Needs.{needs}
 use mathlib.Core.Path.{_≡_, refl, sym, _∙_}
 use native.Mathlib.Omega.{arith}
 use lib.ListN.{length}
-use Rattle.grammar.specs.Expr.{Expr, Exprs}
+use Rattle.grammar.specs.Expr.{Exprs}
 use Rattle.judge.specs.Judge.{reads}
 use Rattle.flatten.specs.Operations.{noText}
 use Rattle.judge.proofs.ReadExpr.{siblings}
 use Rattle.flatten.proofs.WriteSteps.{LeftExprs, exprs-all, exprs-next, exprs-none, flat-no-room, flat-no-header, flat-operands, flat-arguments, arguments-joined, chain-no-room, chain-no-header, chain-lone, chain-on}
-use Prim.Native.Nat.{ℕ, _<_, _+_, _*_, _≤_}
+use Prim.Native.Nat.{ℕ, _<_, _+_, _*_}
 use borrow.Fn.Kinds.{In}
 use borrow.Fn.PlainCycle.{Measures, is, falls, and}
 use Rattle.flatten.proofs.write.all_arguments.Reads as all-arguments

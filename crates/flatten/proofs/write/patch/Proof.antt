@@ -1,5 +1,5 @@
 use native.Mathlib.Omega.{arith}
-use mathlib.Core.Path.{_≡_, refl}
+use mathlib.Core.Path.{refl}
 use borrow.Author.Needs.{needs}
 use Rattle.flatten.proofs.write.patch.Statement.{statement}
 use Rattle.flatten.proofs.write.patch.Tie as tie
