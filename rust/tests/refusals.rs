@@ -1,0 +1,150 @@
+//! Each refusal by its smallest example, what it leaves behind, and the numbers.
+
+use pinhkray::{flatten, flatten_owned, Reader, Refusal, MAX_BYTES, MAX_EXPRESSIONS, MAX_LISTS};
+use Refusal::*;
+
+/// Lends slices full of ones to the solution operation, and looks at what a refusal leaves.
+fn solution(count: u64, text: &[u8]) -> Option<Refusal> {
+    let mut reader = Reader::open(count);
+    let (mut tree, mut draft, mut out) = ([1; 512], [1; 512], [1; 512]);
+    let answer = reader.solution(text, &mut tree, &mut draft, &mut out);
+    assert_eq!((tree, draft), ([0; 512], [0; 512]));
+    let refusal = answer.err()?;
+    assert_eq!(out, [0; 512]);
+    assert_eq!(reader.count(), count);
+    Some(refusal)
+}
+
+#[test]
+fn numbers_of_a_solution() {
+    let deep = "(".repeat(MAX_LISTS + 1);
+    let long = " ".repeat(MAX_BYTES + 1);
+    let wide = format!("(lambda () (and {}))", "1 ".repeat(200));
+    let cases: [(u32, &[u8]); 13] = [
+        (1, long.as_bytes()),
+        (2, b"\xff"),
+        (3, b""),
+        (4, b")"),
+        (5, b"\""),
+        (6, deep.as_bytes()),
+        (7, wide.as_bytes()),
+        (8, b"a"),
+        (9, b"(lambda () nan)"),
+        (10, b"(lambda ((x Int) (x Int)) x)"),
+        (11, b"(lambda () (lit \"#b\" (BitVec Size3)))"),
+        (12, b"(lambda ((x (func 65 () Int))) x)"),
+        (13, b"(lambda ((x Int)) x)"),
+    ];
+    for (number, text) in cases {
+        let refusal = solution(u64::MAX, text).expect("a refusal");
+        assert_eq!(
+            refusal.number(),
+            number,
+            "{}",
+            String::from_utf8_lossy(text)
+        );
+    }
+    assert_eq!(solution(u64::MAX - 1, b"(lambda ((x Int)) x)"), None);
+}
+
+#[test]
+fn numbers_of_the_others() {
+    let mut reader = Reader::open(0);
+    assert_eq!(reader.read_one_owned(b""), Err(EndsEarly));
+    assert_eq!(reader.read_one_owned(b")"), Err(StrayClose));
+    assert_eq!(reader.read_one_owned(b"@"), Err(Unclosed));
+    assert_eq!(reader.read_one_owned(b"x \xff"), Err(NotUtf8));
+    assert_eq!(reader.read_all_owned(b"x )"), Err(StrayClose));
+    assert_eq!(reader.read_one(b"(a", &mut []), Err(EndsEarly));
+    assert_eq!(reader.sort_owned(b"()"), Err(Malformed));
+    assert_eq!(reader.sort_owned(b"(func -1 () Int)"), Err(FuncNumber));
+    assert_eq!(reader.expression_owned(b"nan"), Err(Decimal));
+    assert_eq!(reader.expression_owned(b"(lit \"#b2\")"), Err(BadBits));
+    assert_eq!(
+        reader.expression_owned(b"(exists ((x Int) (x Int)) x)"),
+        Err(RepeatedName)
+    );
+    assert_eq!(reader.bind_owned(b"((x Int) (nan))"), Err(Decimal));
+    assert_eq!(reader.bind_owned(b"((x Int))"), Err(Malformed));
+    assert_eq!(reader.count(), 0);
+    let mut last = Reader::open(u64::MAX);
+    assert_eq!(
+        last.expression_owned(b"(exists ((x Int)) ())"),
+        Err(Malformed)
+    );
+    assert_eq!(
+        last.expression_owned(b"(exists ((x Int)) x)"),
+        Err(NumbersSpent)
+    );
+    assert_eq!(
+        last.bind_owned(b"((x Int) (exists ((y Int)) y))"),
+        Err(NumbersSpent)
+    );
+    assert_eq!(last.count(), u64::MAX);
+}
+
+#[test]
+fn numbers_of_flattening() {
+    let mut out = [1; 8];
+    for words in [
+        &[][..],
+        &[31],
+        &[33, 2],
+        &[16, 0, 1],
+        &[42, 1],
+        &[33, 1, 33],
+        &[49, 42],
+    ] {
+        assert_eq!(flatten(words, &mut out), Err(BadWords));
+        assert_eq!(out, [0; 8]);
+    }
+    let chain = |nots: usize| [vec![44; nots], vec![33, 1]].concat();
+    assert!(flatten_owned(&chain(MAX_EXPRESSIONS - 1)).is_ok());
+    assert_eq!(flatten_owned(&chain(MAX_EXPRESSIONS)), Err(TooDeep));
+    assert_eq!(flatten(&[33, 1], &mut [0]), Err(NoRoom));
+}
+
+#[test]
+fn limits_of_texts() {
+    let reader = Reader::open(0);
+    let nested = |lists: usize| "(".repeat(lists) + &")".repeat(lists);
+    assert!(reader.read_one_owned(nested(MAX_LISTS).as_bytes()).is_ok());
+    assert_eq!(
+        reader.read_one_owned(nested(MAX_LISTS + 1).as_bytes()),
+        Err(TooDeep)
+    );
+    assert!(reader.read_one_owned(&vec![b'a'; MAX_BYTES]).is_ok());
+    assert_eq!(
+        reader.read_one_owned(&vec![b'a'; MAX_BYTES + 1]),
+        Err(TooLong)
+    );
+    assert_eq!(
+        reader.read_all_owned(&vec![0xff; MAX_BYTES + 1]),
+        Err(TooLong)
+    );
+}
+
+#[test]
+fn every_number_has_its_refusal() {
+    assert_eq!(Refusal::ALL.len(), 14);
+    for (refusal, number) in Refusal::ALL.into_iter().zip(1..) {
+        assert_eq!(refusal.number(), number);
+        assert_eq!(Refusal::from_number(number), Some(refusal));
+    }
+    for none in [0, 15, u32::MAX] {
+        assert_eq!(Refusal::from_number(none), None);
+    }
+}
+
+#[test]
+fn every_refusal_is_an_error_with_a_sentence_of_its_own() {
+    let errors = Refusal::ALL.map(|refusal| Box::new(refusal) as Box<dyn std::error::Error>);
+    let mut sentences: Vec<String> = errors.iter().map(|error| error.to_string()).collect();
+    assert_eq!(
+        sentences[3],
+        "a `)` stands where an expression should start"
+    );
+    sentences.sort();
+    sentences.dedup();
+    assert_eq!(sentences.len(), 14);
+}
