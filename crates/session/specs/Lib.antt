@@ -4,4 +4,5 @@ pub mod Compute
 pub mod Shown
 pub mod Table
 pub mod Readings
+pub mod ReadingsParsed
 pub mod Bounds
