@@ -1,4 +1,4 @@
-//! Links the proved archive, and finds the source that reading is held against, if it is at hand.
+//! Links the proved archive, and tells whether the source that the library is held against is at hand.
 
 use std::path::PathBuf;
 
@@ -9,13 +9,10 @@ fn main() {
     println!("cargo:rustc-link-lib=static=ffi");
     println!("cargo:rerun-if-changed={}", archive.join("libffi.a").display());
 
-    // FLUX_SOURCE names the folder that holds the source's files as they are upstream: lib/liquid-fixpoint/src and so on.
+    // FLUX_SOURCE names the folder that holds the source's files; `upstream` compiles them.
     println!("cargo:rustc-check-cfg=cfg(flux_source)");
     println!("cargo:rerun-if-env-changed=FLUX_SOURCE");
-    if let Ok(source) = std::env::var("FLUX_SOURCE") {
-        let sexp = PathBuf::from(source).join("lib/liquid-fixpoint/src/sexp.rs").canonicalize().expect("sexp.rs of the source");
+    if std::env::var("FLUX_SOURCE").is_ok() {
         println!("cargo:rustc-cfg=flux_source");
-        println!("cargo:rustc-env=SEXP_RS={}", sexp.display());
-        println!("cargo:rerun-if-changed={}", sexp.display());
     }
 }

@@ -3,9 +3,11 @@
 //!     compare gate [ANSWERS]        the recorded answers, the small stack, and some hundred thousand calls
 //!     compare long SEED MILLIONS    so many million random calls for parsing, flattening and sessions together, behind all small texts
 //!     compare reading SEED MILLIONS so many million for read one and read all against sexp.rs, behind all short texts
+//!     compare source SEED MILLIONS  so many million for all operations against parser.rs and constraint.rs, behind all small texts
 //!     compare bench TEXT ..         the time of read one against sexp.rs
+//!     compare bench-solution        the time of solution against sexp.rs, parser.rs and constraint.rs
 //!
-//! The last two need the source when the program is built.
+//! The last four need the source when the program is built.
 
 mod answers;
 mod call;
@@ -14,6 +16,7 @@ mod extreme;
 mod ffi;
 mod flattening;
 mod lengths;
+mod model;
 mod paper;
 mod parsing;
 mod random;
@@ -21,9 +24,12 @@ mod random;
 mod reading;
 mod recorded;
 mod sessions;
+#[cfg(flux_source)]
+mod source;
 mod stack;
 mod tally;
 
+use paper::Paper;
 use parsing::Small;
 use random::Random;
 
@@ -38,6 +44,9 @@ struct Size {
 
 const GATE: Size = Size { small: Small { alone: 5, framed: 4, row: 3 }, words: 5, random: 400_000 };
 const LONG: Small = Small { alone: 6, framed: 5, row: 5 };
+/// The gate's run against the source.
+#[cfg(flux_source)]
+const SOURCE: Size = Size { small: Small { alone: 4, framed: 3, row: 2 }, words: 4, random: 80_000 };
 
 fn gate(answers: Option<&str>) -> Result<(), String> {
     match answers {
@@ -54,8 +63,8 @@ fn gate(answers: Option<&str>) -> Result<(), String> {
 }
 
 fn against_paper(size: &Size, r: &mut Random) -> Result<(), String> {
-    let parsed = parsing::run(size.small, size.random / 2, r)?;
-    let flattened = flattening::run(size.words, size.random / 4, r)?;
+    let parsed = parsing::run::<Paper>("the paper", size.small, size.random / 2, r)?;
+    let flattened = flattening::run("the paper", paper::flatten, size.words, size.random / 4, r)?;
     let sessions = sessions::run(size.random / 4, r)?;
     println!("compare: the paper, these together: {}: no difference", parsed + flattened + sessions);
     Ok(())
@@ -67,12 +76,23 @@ fn against_source(answers: Option<&str>) -> Result<(), String> {
     let recorded = answers.map_or(Ok(0), reading::recorded)?;
     let (short, random) = (reading::every(4, &mut r)?, reading::random(200_000, &mut r)?);
     println!("compare: sexp.rs: {recorded} recorded answers, {short} calls on all short texts, {random} on random ones: no difference");
+    if let Some(path) = answers {
+        let all = source::recorded(path)?;
+        println!("compare: parser.rs and constraint.rs: {all} recorded answers: they give them all");
+    }
+    source_held(&SOURCE, &mut r)
+}
+
+#[cfg(flux_source)]
+fn source_held(size: &Size, r: &mut Random) -> Result<(), String> {
+    let all = source::run(size.small, size.words, size.random, r)?;
+    println!("compare: parser.rs and constraint.rs, these together: {all}: no difference");
     Ok(())
 }
 
 #[cfg(not(flux_source))]
 fn against_source(_: Option<&str>) -> Result<(), String> {
-    println!("compare: sexp.rs skipped, for want of the source");
+    println!("compare: sexp.rs, parser.rs and constraint.rs skipped, for want of the source");
     Ok(())
 }
 
@@ -99,11 +119,21 @@ fn run(words: &[&str]) -> Result<(), String> {
         #[cfg(flux_source)]
         ["reading", seed, millions] => reading_long(seed, millions),
         #[cfg(flux_source)]
+        ["source", seed, millions] => {
+            let size = Size { small: GATE.small, words: 5, random: number(millions)? * 1_000_000 };
+            source_held(&size, &mut Random::new(number(seed)?))
+        }
+        #[cfg(flux_source)]
+        ["bench-solution"] => {
+            source::bench::run();
+            Ok(())
+        }
+        #[cfg(flux_source)]
         ["bench", paths @ ..] => {
             reading::bench::run(paths);
             Ok(())
         }
-        _ => Err("compare gate [ANSWERS] | long SEED MILLIONS | reading SEED MILLIONS | bench TEXT ..".to_string()),
+        _ => Err("compare gate [ANSWERS] | long SEED MILLIONS | reading SEED MILLIONS | source SEED MILLIONS | bench TEXT .. | bench-solution".to_string()),
     }
 }
 

@@ -3,12 +3,13 @@
 use crate::call::{Answer, Call, Operation, Refusal};
 use crate::check;
 use crate::extreme;
-use crate::paper::{self, Fresh};
+use crate::model::Model;
+use crate::paper::{self, Fresh, Paper};
 use crate::parsing;
 use crate::random::Random;
 use crate::tally::Tally;
 
-const OPERATIONS: [Operation; 8] = [
+pub const OPERATIONS: [Operation; 8] = [
     Operation::ReadOne,
     Operation::ReadAll,
     Operation::Sort,
@@ -33,7 +34,7 @@ pub fn run(calls: u64, r: &mut Random) -> Result<Tally, String> {
 }
 
 /// A text for the operation, or seldom one of the deepest and longest.
-fn text(op: Operation, extremes: &[(String, String)], r: &mut Random) -> Vec<u8> {
+pub fn text(op: Operation, extremes: &[(String, String)], r: &mut Random) -> Vec<u8> {
     if r.one_in(3000) {
         return extremes[r.below(extremes.len())].1.clone().into_bytes();
     }
@@ -41,7 +42,7 @@ fn text(op: Operation, extremes: &[(String, String)], r: &mut Random) -> Vec<u8>
 }
 
 /// Where a reader is opened.
-fn opened(r: &mut Random) -> u64 {
+pub fn opened(r: &mut Random) -> u64 {
     match r.below(8) {
         0..=3 => 0,
         4 => r.below(1000) as u64,
@@ -60,7 +61,7 @@ fn session(extremes: &[(String, String)], r: &mut Random, tally: &mut Tally) -> 
         if i == 0 || !r.one_in(6) {
             given = text(op, extremes, r);
         }
-        let call = Call { count, ..parsing::needs(op, &given, r).about(r) };
+        let call = Call { count, ..parsing::needs(&Paper::new(op, &given), op, &given, r).about(r) };
         count = one(&call, tally).map_err(|e| format!("call {i} of a reader opened at {start}, {e}"))?;
     }
     Ok(())

@@ -1,10 +1,10 @@
-//! Flattening of words held against the paper.
+//! Flattening of words held against the paper or the source.
 
 mod damage;
 mod extreme;
 mod grower;
 
-use crate::call::{Call, Operation};
+use crate::call::{Answer, Call, Operation, Refusal};
 use crate::check;
 use crate::lengths;
 use crate::paper;
@@ -17,53 +17,56 @@ use grower::Grower;
 /// Words that begin, fill and end expressions, for lists of all their orders.
 const ALPHABET: [u32; 11] = [0, 1, 2, 5, 8, 10, 33, 38, 39, 42, 51];
 
-/// Holds flattening against the paper, on all lists of up to so many words and in so many random calls, and prints how they ended.
-pub fn run(small: usize, random: u64, r: &mut Random) -> Result<Tally, String> {
+/// The answer to words, and an output of so many.
+pub type Model = fn(&[u32], usize) -> Result<Answer, Refusal>;
+
+/// Holds flattening against a model, on all lists of up to so many words and in so many random calls, and prints how they ended.
+pub fn run(name: &str, model: Model, small: usize, random: u64, r: &mut Random) -> Result<Tally, String> {
     let mut all = Tally::default();
-    (0..=small).try_for_each(|len| every(&mut Vec::new(), len, r, &mut all))?;
-    println!("compare: Flatten, all lists of up to {small} words: {all}");
+    (0..=small).try_for_each(|len| every(model, &mut Vec::new(), len, r, &mut all))?;
+    println!("compare: {name}, Flatten, all lists of up to {small} words: {all}");
     let mut tally = Tally::default();
     let extremes = extremes();
     while tally.calls() < random {
         if r.one_in(3000) {
             let (_, words) = &extremes[r.below(extremes.len())];
-            words_held(words, r, &mut tally)?;
+            words_held(model, words, r, &mut tally)?;
         } else {
-            words_held(&words(r), r, &mut tally)?;
+            words_held(model, &words(r), r, &mut tally)?;
         }
     }
-    println!("compare: Flatten, random words: {tally}");
+    println!("compare: {name}, Flatten, random words: {tally}");
     Ok(all + tally)
 }
 
-fn every(words: &mut Vec<u32>, len: usize, r: &mut Random, tally: &mut Tally) -> Result<(), String> {
+fn every(model: Model, words: &mut Vec<u32>, len: usize, r: &mut Random, tally: &mut Tally) -> Result<(), String> {
     if len == 0 {
-        return words_held(words, r, tally);
+        return words_held(model, words, r, tally);
     }
     for word in ALPHABET {
         words.push(word);
-        every(words, len - 1, r, tally)?;
+        every(model, words, len - 1, r, tally)?;
         words.pop();
     }
     Ok(())
 }
 
-fn held(words: &[u32], out: usize, tally: &mut Tally) -> Result<(), String> {
-    let answer = paper::flatten(words, out);
+fn held(model: Model, words: &[u32], out: usize, tally: &mut Tally) -> Result<(), String> {
+    let answer = model(words, out);
     tally.count(&answer);
     check::flatten(words, out, &answer)
 }
 
 /// Good words with an output just long enough; any words with one round what they need.
-fn words_held(words: &[u32], r: &mut Random, tally: &mut Tally) -> Result<(), String> {
-    let need = match paper::flatten(words, usize::MAX) {
+pub fn words_held(model: Model, words: &[u32], r: &mut Random, tally: &mut Tally) -> Result<(), String> {
+    let need = match model(words, usize::MAX) {
         Ok(answer) => {
-            held(words, answer.words.len(), tally)?;
+            held(model, words, answer.words.len(), tally)?;
             answer.words.len()
         }
         Err(_) => r.below(8),
     };
-    held(words, lengths::length(need, r), tally)
+    held(model, words, lengths::length(need, r), tally)
 }
 
 fn words(r: &mut Random) -> Vec<u32> {

@@ -13,6 +13,7 @@ pub mod theory;
 mod words;
 
 use crate::call::{Answer, Call, Operation, Refusal};
+use crate::model::Model;
 use expr::Parser;
 pub use flatten::{flatten, MAX_NODES};
 use read::Tree;
@@ -37,6 +38,29 @@ fn fits(words: &Words, len: usize) -> Result<(), Refusal> {
         return Err(NO_ROOM);
     }
     Ok(())
+}
+
+/// The paper's answers to the calls on a text.
+pub struct Paper {
+    text: Vec<u8>,
+}
+
+impl Model for Paper {
+    fn new(_: Operation, text: &[u8]) -> Self {
+        Paper { text: text.to_vec() }
+    }
+
+    fn tree_words(&self) -> Result<usize, Refusal> {
+        tree_words(&self.text)
+    }
+
+    fn draft_words(&self) -> Result<usize, Refusal> {
+        draft_words(&self.text)
+    }
+
+    fn answer(&self, call: &Call) -> Result<Answer, Refusal> {
+        answer(call)
+    }
 }
 
 /// How many words the tree of the first expression has, if the text has one.

@@ -1,4 +1,4 @@
-//! Sort, expression, bind and solution held against the paper.
+//! Sort, expression, bind and solution held against the paper or the source.
 
 mod binds;
 mod chains;
@@ -16,7 +16,8 @@ use crate::call::{Call, Operation};
 use crate::check;
 use crate::extreme;
 use crate::lengths;
-use crate::paper::{self, MAX_LISTS};
+use crate::model::Model;
+use crate::paper::MAX_LISTS;
 use crate::random::Random;
 use crate::tally::Tally;
 use chains::Place;
@@ -24,26 +25,26 @@ use grower::Grower;
 pub use small::Small;
 
 /// The operations, and of each how many of a hundred calls are its.
-const OPERATIONS: [(Operation, u64); 4] = [(Operation::Sort, 12), (Operation::Expression, 28), (Operation::Bind, 20), (Operation::Solution, 40)];
+pub const OPERATIONS: [(Operation, u64); 4] = [(Operation::Sort, 12), (Operation::Expression, 28), (Operation::Bind, 20), (Operation::Solution, 40)];
 
-/// Holds the operations against the paper, on all texts up to these sizes and in so many calls on random ones, and prints how they ended.
-pub fn run(most: Small, calls: u64, r: &mut Random) -> Result<Tally, String> {
+/// Holds the operations against a model, on all texts up to these sizes and in so many calls on random ones, and prints how they ended.
+pub fn run<M: Model>(name: &str, most: Small, calls: u64, r: &mut Random) -> Result<Tally, String> {
     let mut all = Tally::default();
     for (op, share) in OPERATIONS {
-        let small = each(op, r, |each| small::texts(op, most, each))?;
-        println!("compare: {op:?}, all small texts: {small}");
-        let words = each(op, r, |each| words::texts(each))?;
-        println!("compare: {op:?}, every word in every place: {words}");
-        let random = random(op, calls * share / 100, r)?;
-        println!("compare: {op:?}, random texts: {random}");
+        let small = each::<M>(op, r, |each| small::texts(op, most, each))?;
+        println!("compare: {name}, {op:?}, all small texts: {small}");
+        let words = each::<M>(op, r, |each| words::texts(each))?;
+        println!("compare: {name}, {op:?}, every word in every place: {words}");
+        let random = random::<M>(op, calls * share / 100, r)?;
+        println!("compare: {name}, {op:?}, random texts: {random}");
         all = all + small + words + random;
     }
     Ok(all)
 }
 
 /// One call.
-fn held(call: &Call, tally: &mut Tally) -> Result<(), String> {
-    let answer = paper::answer(call);
+fn held(model: &impl Model, call: &Call, tally: &mut Tally) -> Result<(), String> {
+    let answer = model.answer(call);
     tally.count(&answer);
     check::call(call, &answer).map(|_| ())
 }
@@ -57,10 +58,10 @@ pub struct Needs<'t> {
     accepted: bool,
 }
 
-pub fn needs<'t>(op: Operation, text: &'t [u8], r: &mut Random) -> Needs<'t> {
-    let tree = if op.takes_tree() { paper::tree_words(text).unwrap_or(4) } else { 0 };
-    let draft = if op.takes_draft() { paper::draft_words(text).unwrap_or_else(|_| r.below(8)) } else { 0 };
-    let answer = paper::answer(&Call::roomy(op, text));
+pub fn needs<'t>(model: &impl Model, op: Operation, text: &'t [u8], r: &mut Random) -> Needs<'t> {
+    let tree = if op.takes_tree() { model.tree_words().unwrap_or(4) } else { 0 };
+    let draft = if op.takes_draft() { model.draft_words().unwrap_or_else(|_| r.below(8)) } else { 0 };
+    let answer = model.answer(&Call::roomy(op, text));
     let out = answer.as_ref().map_or_else(|_| r.below(8), |a| a.words.len());
     let call = Call { op, text, tree, draft, out, count: 0 };
     Needs { call, numbers: answer.as_ref().map_or(1, |a| a.count), accepted: answer.is_ok() }
@@ -85,40 +86,41 @@ fn one_short<'t>(call: Call<'t>, r: &mut Random) -> Call<'t> {
 }
 
 /// A good text with slices just long enough, and one of them a word short; any text with slices and a count round what it needs.
-fn text_held(op: Operation, text: &[u8], r: &mut Random, tally: &mut Tally) -> Result<(), String> {
-    let needs = needs(op, text, r);
+fn text_held<M: Model>(op: Operation, text: &[u8], r: &mut Random, tally: &mut Tally) -> Result<(), String> {
+    let model = M::new(op, text);
+    let needs = needs(&model, op, text, r);
     if needs.accepted {
-        held(&needs.call, tally)?;
+        held(&model, &needs.call, tally)?;
         if r.one_in(4) {
-            held(&one_short(needs.call, r), tally)?;
+            held(&model, &one_short(needs.call, r), tally)?;
         }
     }
     let call = needs.about(r);
-    held(&Call { count: lengths::count(needs.numbers, r), ..call }, tally)
+    held(&model, &Call { count: lengths::count(needs.numbers, r), ..call }, tally)
 }
 
 /// Every text that `texts` hands on.
-fn each(op: Operation, r: &mut Random, texts: impl FnOnce(&mut dyn FnMut(&[u8]))) -> Result<Tally, String> {
+pub fn each<M: Model>(op: Operation, r: &mut Random, texts: impl FnOnce(&mut dyn FnMut(&[u8]))) -> Result<Tally, String> {
     let mut tally = Tally::default();
     let mut result = Ok(());
     texts(&mut |text| {
         if result.is_ok() {
-            result = text_held(op, text, r, &mut tally);
+            result = text_held::<M>(op, text, r, &mut tally);
         }
     });
     result.map(|()| tally)
 }
 
 /// At least `n` calls on random texts.
-fn random(op: Operation, n: u64, r: &mut Random) -> Result<Tally, String> {
+fn random<M: Model>(op: Operation, n: u64, r: &mut Random) -> Result<Tally, String> {
     let mut tally = Tally::default();
     let extremes = extreme::texts();
     while tally.calls() < n {
         if r.one_in(1500) {
             let (_, text) = &extremes[r.below(extremes.len())];
-            text_held(op, text.as_bytes(), r, &mut tally)?;
+            text_held::<M>(op, text.as_bytes(), r, &mut tally)?;
         } else {
-            text_held(op, &text(op, r), r, &mut tally)?;
+            text_held::<M>(op, &text(op, r), r, &mut tally)?;
         }
     }
     Ok(tally)

@@ -1,10 +1,10 @@
 //! The time of read one against `sexp.rs`, on one computer in one run, slices cleared beforehand and the source's result kept.
 
-use super::source::sexp::Parser;
 use crate::call::{Call, Operation};
 use crate::ffi;
 use std::hint::black_box;
 use std::time::{Duration, Instant};
+use upstream::sexp::Parser;
 
 const ROUNDS: usize = 400;
 const WORDS: usize = 200_000;

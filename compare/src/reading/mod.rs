@@ -1,7 +1,7 @@
 //! Read one and read all held against `sexp.rs`, by running both.
 
 pub mod bench;
-mod source;
+pub mod source;
 mod texts;
 
 use crate::answers;

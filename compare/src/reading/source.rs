@@ -1,13 +1,8 @@
 //! What `sexp.rs` answers, with the limits, refusals and words of document 01.
 
-#[allow(dead_code, clippy::all)]
-pub mod sexp {
-    include!(env!("SEXP_RS"));
-}
-
 use crate::call::{Answer, Refusal};
 use crate::paper::{MAX_BYTES, MAX_LISTS};
-use sexp::{Atom, ParseError, Parser, Sexp};
+use upstream::sexp::{Atom, ParseError, Parser, Sexp};
 
 fn refusal(error: &ParseError) -> Refusal {
     match error {

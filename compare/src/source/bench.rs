@@ -1,0 +1,114 @@
+//! The time of solution against the source's way from the text to the flattened term: `sexp.rs`, `parser.rs` and `uncurry`.
+//!
+//! Both on one computer in one run. The slices are just long enough; tree and draft are as the call before left them, cleared, and the output
+//! is cleared beforehand. The source's result is kept until the time is taken. A figure is the median of five turns; in a turn each text's time
+//! is the median of its readings, and a row is their mean, or the sum for a build. The table is as docs/PERFORMANCE.md has its own.
+
+use super::answer::Source;
+use super::reader;
+use super::solutions;
+use crate::call::{Call, Operation};
+use crate::check;
+use crate::ffi;
+use crate::model::Model;
+use crate::random::Random;
+use std::hint::black_box;
+use std::time::{Duration, Instant};
+use upstream::sexp::Parser;
+
+const SEED: u64 = 2026;
+const TURNS: usize = 5;
+/// Bytes of a text, how many such texts are read in turn, so that the computer does not know one by heart, and how often each.
+const SIZES: [(usize, usize, usize); 4] = [(200, 400, 40), (2048, 40, 40), (8192, 10, 40), (32_768, 4, 40)];
+/// Texts of a build: bytes, and how many.
+const BUILD: [(usize, usize); 4] = [(200, 240), (2048, 120), (8192, 36), (32_768, 4)];
+const BUILD_ROUNDS: usize = 20;
+
+fn median(mut times: Vec<Duration>) -> Duration {
+    times.sort();
+    times[times.len() / 2]
+}
+
+/// A text, and slices for it.
+struct Case {
+    text: String,
+    tree: Vec<u32>,
+    draft: Vec<u32>,
+    out: Vec<u32>,
+}
+
+impl Case {
+    /// Both accept it, and with the same words.
+    fn new(text: String) -> Self {
+        let (op, bytes) = (Operation::Solution, text.as_bytes());
+        let source = Source::new(op, bytes);
+        let [tree, draft] = [source.tree_words(), source.draft_words()].map(|n| n.expect("accepted"));
+        let answer = source.answer(&Call::roomy(op, bytes));
+        let out = answer.as_ref().expect("accepted").words.len();
+        check::call(&Call { op, text: bytes, tree, draft, out, count: 0 }, &answer).expect("no difference");
+        let [tree, draft, out] = [tree, draft, out].map(|n| vec![0; n]);
+        Case { text, tree, draft, out }
+    }
+
+    fn ours(&mut self) -> Duration {
+        self.out.fill(0);
+        let call = Call::roomy(Operation::Solution, black_box(self.text.as_bytes()));
+        let began = Instant::now();
+        black_box(ffi::reply(&call, &mut self.tree, &mut self.draft, &mut self.out));
+        began.elapsed()
+    }
+
+    fn source(&mut self) -> Duration {
+        let began = Instant::now();
+        let sexp = Parser::new(black_box(&self.text)).parse().expect("accepted");
+        let solution = black_box(reader::open(0).parse_solution(&sexp));
+        let time = began.elapsed();
+        drop((solution, sexp));
+        time
+    }
+}
+
+/// The medians of the turns; the two go turn by turn, so that both see the same computer, and the first turn warms up.
+fn turns(mut turn: impl FnMut() -> (Duration, Duration)) -> (Duration, Duration) {
+    let turns: Vec<_> = (0..=TURNS).map(|_| turn()).skip(1).collect();
+    (median(turns.iter().map(|t| t.0).collect()), median(turns.iter().map(|t| t.1).collect()))
+}
+
+/// The texts' times together, each the median of the rounds; a round goes through all of them.
+fn round_by_round(cases: &mut [Case], rounds: usize, once: fn(&mut Case) -> Duration) -> Duration {
+    let mut of_each = vec![Vec::with_capacity(rounds); cases.len()];
+    for _ in 0..rounds {
+        cases.iter_mut().zip(&mut of_each).for_each(|(case, of_this)| of_this.push(once(case)));
+    }
+    of_each.into_iter().map(median).sum()
+}
+
+fn times(cases: &mut [Case], rounds: usize) -> (Duration, Duration) {
+    turns(|| (round_by_round(cases, rounds, Case::ours), round_by_round(cases, rounds, Case::source)))
+}
+
+fn row(name: &str, bytes: usize, (ours, source): (Duration, Duration), texts: usize) {
+    let micros = |d: Duration| d.as_nanos() as f64 / 1e3 / texts as f64;
+    println!("| {name} | {bytes} | {:.1} µs | {:.1} µs | {:.2} |", micros(ours), micros(source), ours.as_secs_f64() / source.as_secs_f64());
+}
+
+fn cases(bytes: usize, n: usize, r: &mut Random) -> Vec<Case> {
+    (0..n).map(|_| Case::new(solutions::text(bytes, r))).collect()
+}
+
+fn bytes_of(cases: &[Case]) -> usize {
+    cases.iter().map(|c| c.text.len()).sum()
+}
+
+pub fn run() {
+    let mut r = Random::new(SEED);
+    println!("| text | bytes | solution | sexp.rs, parser.rs, uncurry | ratio |");
+    println!("|---|---|---|---|---|");
+    for (bytes, n, rounds) in SIZES {
+        let mut cases = cases(bytes, n, &mut r);
+        row("a solution", bytes_of(&cases) / n, times(&mut cases, rounds), n);
+    }
+    let mut build: Vec<Case> = BUILD.iter().flat_map(|&(bytes, n)| cases(bytes, n, &mut r)).collect();
+    (1..build.len()).for_each(|i| build.swap(i, r.below(i + 1)));
+    row(&format!("a build: {} solutions", build.len()), bytes_of(&build), times(&mut build, BUILD_ROUNDS), 1);
+}

@@ -1,0 +1,81 @@
+//! All operations held against `parser.rs` and `constraint.rs`, by running both. The source's files are compiled unchanged by `upstream`.
+
+mod answer;
+pub mod bench;
+mod differences;
+mod exprs;
+mod flatten;
+mod names;
+mod reader;
+mod sessions;
+mod solutions;
+mod terms;
+mod words;
+
+use crate::answers;
+use crate::check;
+use crate::extreme;
+use crate::flattening;
+use crate::model::Model;
+use crate::parsing::{self, Small};
+use crate::random::Random;
+use crate::tally::Tally;
+use answer::Source;
+use std::thread;
+
+/// For terms nested as deep as words may be.
+const STACK: usize = 1 << 28;
+
+/// Runs where terms of any depth have room.
+fn roomy<R: Send>(all: impl FnOnce() -> Result<R, String> + Send) -> Result<R, String> {
+    thread::scope(|scope| {
+        let big = thread::Builder::new().stack_size(STACK).spawn_scoped(scope, all);
+        big.map_err(|e| e.to_string())?.join().map_err(|_| "the source's thread ended early".to_string())?
+    })
+}
+
+/// Holds all operations against the source, on texts and lists up to these sizes and in so many random calls.
+pub fn run(small: Small, words: usize, random: u64, r: &mut Random) -> Result<Tally, String> {
+    roomy(|| {
+        let parsed = parsing::run::<Source>("the source", small, random / 2, r)?;
+        let flattened = flattening::run("the source", flatten::flatten, words, random / 4, r)?;
+        let sessions = sessions::run(random / 4, r)?;
+        Ok(parsed + flattened + sessions + extremes(r)?)
+    })
+}
+
+/// The deepest and longest texts and words, and those just past the limits, each at least once.
+fn extremes(r: &mut Random) -> Result<Tally, String> {
+    let mut all = Tally::default();
+    let texts = extreme::texts();
+    for (op, _) in parsing::OPERATIONS {
+        all = all + parsing::each::<Source>(op, r, |each| texts.iter().for_each(|(_, text)| each(text.as_bytes())))?;
+    }
+    for (_, words) in flattening::extremes() {
+        flattening::words_held(flatten::flatten, &words, r, &mut all)?;
+    }
+    println!("compare: the source, the deepest and longest texts and words: {all}");
+    Ok(all)
+}
+
+/// That the source gives the recorded answers today; how many there were.
+pub fn recorded(path: &str) -> Result<usize, String> {
+    let file = std::fs::read_to_string(path).map_err(|e| format!("{path}: {e}"))?;
+    let (cases, flattenings) = answers::read(&file);
+    roomy(|| {
+        for case in &cases {
+            let call = case.call();
+            let answer = Source::new(call.op, call.text).answer(&call);
+            if answer != case.answer {
+                return Err(format!("line {}, {}: the source says {answer:?}, and not {:?}", case.line, check::shown(&call), case.answer));
+            }
+        }
+        for f in &flattenings {
+            let answer = flatten::flatten(&f.words, f.out);
+            if answer != f.answer {
+                return Err(format!("line {}, {}: the source says {answer:?}, and not {:?}", f.line, check::shown_words(&f.words, f.out), f.answer));
+            }
+        }
+        Ok(cases.len() + flattenings.len())
+    })
+}
