@@ -21,7 +21,6 @@ use Rattle.atoms.specs.Spot.{Seen}
 use Rattle.atoms.specs.Scopes.{inner}
 use Rattle.atoms.specs.Laid.{Put}
 use Rattle.exprs.specs.Plans.{Parsed, Listed, PlannedList, EndsAt, endNesting, endSize, most}
-use Rattle.atoms.specs.declared.place.Node.the-variants as node
 use Rattle.exprs.specs.declared.plan.Plan.the-variants.{Go}
 use Rattle.exprs.specs.declared.plan.Run.{Run}
 use Rattle.grammar.proofs.FormsWritten.{after-done, let-told}

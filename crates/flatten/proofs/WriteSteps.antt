@@ -20,7 +20,6 @@ use Rattle.flatten.specs.Operations.{noText}
 use Rattle.judge.specs.Spelled.{Spelled}
 use Rattle.flatten.specs.Writing.{mostCount, Wrote, WroteExpr, WroteExprs, Patched, Chained, behindOf}
 use Rattle.judge.specs.declared.expr_words.End.{End}
-use Rattle.judge.specs.declared.expr_words.End.the-variants as end
 use Rattle.judge.specs.declared.expr_words.Header.the-variants as head
 use Rattle.flatten.specs.declared.write.Places.{Places}
 use Rattle.flatten.specs.declared.write.Joined.{Joined}

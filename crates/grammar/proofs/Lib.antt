@@ -13,9 +13,12 @@ pub mod WalkPreds
 pub mod SolutionOf
 pub mod Small
 pub mod Size
+pub mod SizeBind
 pub mod Lengths
 pub mod Raised
 pub mod Cases
 pub mod TheTree
 pub mod FormsWritten
 pub mod TreeHead
+pub mod SortRefusals
+pub mod ExprRefusals

@@ -20,8 +20,9 @@ use Rattle.grammar.specs.ParseExpr.{numeral}
 use Rattle.grammar.proofs.Items.{length-words, words-front}
 use Rattle.grammar.proofs.Kept.{Kept}
 
+-- As a predicate an expression has one word more.
 pub record Sized (t : Tree) (sc : List Scope) (n : ℕ) (e : Expr) (m : ℕ) : Type 0 where
-  pub words : length (wordsOf (exprItems e)) ≤ 15 * weight t
+  pub words : length (wordsOf (exprItems e)) + 1 ≤ 15 * weight t
   pub numbers : m ≤ n + weight t
 
 pub record SizedAll (ts : Trees) (sc : List Scope) (n : ℕ) (es : Exprs) (m : ℕ) : Type 0 where
@@ -36,7 +37,7 @@ lone-long : (e : Expr) → length (wordsOf (exprsItems (oneOf e))) ≡ length (w
 unfolding exprItems
 lone-long e = ap (λ l. length (wordsOf l)) (append-nil (exprItems e))
 
-sized-leaf : (t : Tree) (sc : List Scope) (n : ℕ) (k : Kind) → length (wordsOf (exprItems (leaf k))) ≤ 15 → Sized t sc n (leaf k) n
+sized-leaf : (t : Tree) (sc : List Scope) (n : ℕ) (k : Kind) → length (wordsOf (exprItems (leaf k))) ≤ 14 → Sized t sc n (leaf k) n
 sized-leaf t sc n k h = record { words = omega (arith, h, weight-some t); numbers = omega arith }
 
 module _ (text : List ℕ) where

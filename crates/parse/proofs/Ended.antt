@@ -27,7 +27,6 @@ use Rattle.atoms.specs.declared.scopes.Entries.{Entries}
 use Rattle.parse.specs.declared.Counted.{Counted}
 use Rattle.parse.specs.declared.Counted.the-variants.{Done, Refused}
 use Rattle.exprs.specs.declared.expr.Progress.{Progress}
-use Rattle.exprs.specs.declared.expr.Progress.the-variants as progress
 use Rattle.grammar.proofs.Raise.{words-raise}
 use Rattle.atoms.proofs.SortPlace.{laid-over}
 use Rattle.parse.proofs.ReadTree.{TreeIn, NoTree}

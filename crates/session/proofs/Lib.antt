@@ -2,3 +2,4 @@ pub mod Terms
 pub mod Made
 pub mod Calls
 pub mod Whole
+pub mod Refusals

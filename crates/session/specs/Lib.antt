@@ -1,5 +1,6 @@
 pub mod Session
 pub mod Demand3
+pub mod Refusals
 pub mod Compute
 pub mod Shown
 pub mod Table

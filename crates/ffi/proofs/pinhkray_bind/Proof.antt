@@ -3,36 +3,25 @@ use Rattle.ffi.proofs.Replies.{accepted-reply, refused-reply, left}
 use borrow.Author.Needs.{needs}
 use Rattle.ffi.proofs.pinhkray_bind.Statement.{statement}
 use Rattle.ffi.proofs.pinhkray_bind.Tie as tie
-use Rattle.ffi.proofs.pinhkray_bind.Reads as reads
-use Rattle.ffi.proofs.pinhkray_bind.Lts as lts
-use Rattle.reader.proofs.Reader.bind.Reads as bind-reads
-use Rattle.reader.proofs.Reader.open.Reads as open-reads
 
--- src/lib.rt:143:18
 open-requires : tie.Need-open-requires
 open-requires c κs = search needs
 
--- src/lib.rt:143:9
 bind-requires : tie.Need-bind-requires
 bind-requires c κs = search needs
 
--- src/lib.rt:147:24
 enum-known-said : tie.Need-enum-known-said
 enum-known-said c = search needs
 
--- src/lib.rt:151:23
 enum-known-said-2 : tie.Need-enum-known-said-2
 enum-known-said-2 c = search needs
 
--- src/lib.rt:128:1
 same-length : tie.Need-same-length
 same-length c = search needs
 
--- src/lib.rt:128:1
 same-length-2 : tie.Need-same-length-2
 same-length-2 c = search needs
 
--- src/lib.rt:128:1
 returns : tie.Need-returns
 returns c =
     let a = c .before .before .before .before .before .before .before .before .before .before .before .before .before .before .args in
@@ -42,15 +31,12 @@ returns c =
     let q = accepted-reply call _ _ o _ _ _ (c .before .said .given .1) (e .0) in
     (q .0, (q .1, (left call _ _ o (λ x. x .count) _ (e .1 .0), (left call _ _ o (λ x. x .tree) _ (e .1 .1 .0), left call _ _ o (λ x. x .out) _ (e .1 .1 .1)))))
 
--- src/lib.rt:128:1
 same-length-3 : tie.Need-same-length-3
 same-length-3 c = search needs
 
--- src/lib.rt:128:1
 same-length-4 : tie.Need-same-length-4
 same-length-4 c = search needs
 
--- src/lib.rt:128:1
 returns-2 : tie.Need-returns-2
 returns-2 c =
     let a = c .before .before .before .before .before .before .before .before .before .before .before .before .before .before .args in

@@ -2,27 +2,19 @@ use Rattle.ffi.proofs.Replies.{flatten-done, flatten-refused}
 use borrow.Author.Needs.{needs}
 use Rattle.ffi.proofs.pinhkray_flatten.Statement.{statement}
 use Rattle.ffi.proofs.pinhkray_flatten.Tie as tie
-use Rattle.ffi.proofs.pinhkray_flatten.Reads as reads
-use Rattle.ffi.proofs.pinhkray_flatten.Lts as lts
-use Rattle.flatten.proofs.flatten.Reads as flatten-reads
 
--- src/lib.rt:202:11
 flatten-requires : tie.Need-flatten-requires
 flatten-requires c κs = search needs
 
--- src/lib.rt:203:29
 enum-known-flat : tie.Need-enum-known-flat
 enum-known-flat c = search needs
 
--- src/lib.rt:207:32
 enum-known-why : tie.Need-enum-known-why
 enum-known-why c = search needs
 
--- src/lib.rt:196:1
 same-length : tie.Need-same-length
 same-length c = search needs
 
--- src/lib.rt:196:1
 returns : tie.Need-returns
 returns c =
     let a = c .before .before .before .before .before .before .before .before .before .args in
@@ -30,11 +22,9 @@ returns c =
     let q = flatten-done (a .words-in .now) (a .out .now) _ _ (c .before .flat .given .1) (e .0) in
     (q .0, (q .1, e .1))
 
--- src/lib.rt:196:1
 same-length-2 : tie.Need-same-length-2
 same-length-2 c = search needs
 
--- src/lib.rt:196:1
 returns-2 : tie.Need-returns-2
 returns-2 c =
     let a = c .before .before .before .before .before .before .before .before .before .args in

@@ -3,40 +3,28 @@ use Rattle.ffi.proofs.Replies.{accepted-reply, refused-reply, left}
 use borrow.Author.Needs.{needs}
 use Rattle.ffi.proofs.pinhkray_solution.Statement.{statement}
 use Rattle.ffi.proofs.pinhkray_solution.Tie as tie
-use Rattle.ffi.proofs.pinhkray_solution.Reads as reads
-use Rattle.ffi.proofs.pinhkray_solution.Lts as lts
-use Rattle.reader.proofs.Reader.solution.Reads as solution-reads
-use Rattle.reader.proofs.Reader.open.Reads as open-reads
 
--- src/lib.rt:180:33
 open-requires : tie.Need-open-requires
 open-requires c κs = search needs
 
--- src/lib.rt:180:9
 solution-requires : tie.Need-solution-requires
 solution-requires c κs = search needs
 
--- src/lib.rt:184:24
 enum-known-said : tie.Need-enum-known-said
 enum-known-said c = search needs
 
--- src/lib.rt:188:23
 enum-known-said-2 : tie.Need-enum-known-said-2
 enum-known-said-2 c = search needs
 
--- src/lib.rt:163:1
 same-length : tie.Need-same-length
 same-length c = search needs
 
--- src/lib.rt:163:1
 same-length-2 : tie.Need-same-length-2
 same-length-2 c = search needs
 
--- src/lib.rt:163:1
 same-length-3 : tie.Need-same-length-3
 same-length-3 c = search needs
 
--- src/lib.rt:163:1
 returns : tie.Need-returns
 returns c =
     let a = c .before .before .before .before .before .before .before .before .before .before .before .before .before .before .before .before .before .before .args in
@@ -46,19 +34,15 @@ returns c =
     let q = accepted-reply call _ _ o _ _ _ (c .before .said .given .1) (e .0) in
     (q .0, (q .1, (left call _ _ o (λ x. x .count) _ (e .1 .0), (left call _ _ o (λ x. x .tree) _ (e .1 .1 .0), (left call _ _ o (λ x. x .draft) _ (e .1 .1 .1 .0), left call _ _ o (λ x. x .out) _ (e .1 .1 .1 .1))))))
 
--- src/lib.rt:163:1
 same-length-4 : tie.Need-same-length-4
 same-length-4 c = search needs
 
--- src/lib.rt:163:1
 same-length-5 : tie.Need-same-length-5
 same-length-5 c = search needs
 
--- src/lib.rt:163:1
 same-length-6 : tie.Need-same-length-6
 same-length-6 c = search needs
 
--- src/lib.rt:163:1
 returns-2 : tie.Need-returns-2
 returns-2 c =
     let a = c .before .before .before .before .before .before .before .before .before .before .before .before .before .before .before .before .before .before .args in

@@ -3,36 +3,25 @@ use Rattle.ffi.proofs.Replies.{accepted-reply, refused-reply, left}
 use borrow.Author.Needs.{needs}
 use Rattle.ffi.proofs.pinhkray_sort.Statement.{statement}
 use Rattle.ffi.proofs.pinhkray_sort.Tie as tie
-use Rattle.ffi.proofs.pinhkray_sort.Reads as reads
-use Rattle.ffi.proofs.pinhkray_sort.Lts as lts
-use Rattle.reader.proofs.Reader.open.Reads as open-reads
-use Rattle.reader.proofs.Reader.sort.Reads as sort-reads
 
--- src/lib.rt:82:18
 open-requires : tie.Need-open-requires
 open-requires c κs = search needs
 
--- src/lib.rt:82:9
 sort-requires : tie.Need-sort-requires
 sort-requires c κs = search needs
 
--- src/lib.rt:85:24
 enum-known-said : tie.Need-enum-known-said
 enum-known-said c = search needs
 
--- src/lib.rt:89:23
 enum-known-said-2 : tie.Need-enum-known-said-2
 enum-known-said-2 c = search needs
 
--- src/lib.rt:70:1
 same-length : tie.Need-same-length
 same-length c = search needs
 
--- src/lib.rt:70:1
 same-length-2 : tie.Need-same-length-2
 same-length-2 c = search needs
 
--- src/lib.rt:70:1
 returns : tie.Need-returns
 returns c =
     let a = c .before .before .before .before .before .before .before .before .before .before .before .before .before .before .args in
@@ -42,15 +31,12 @@ returns c =
     let q = accepted-reply call _ _ o _ _ _ (c .before .said .given .1) (e .0) in
     (q .0, (q .1, (left call _ _ o (λ x. x .tree) _ (e .1 .1 .0), left call _ _ o (λ x. x .out) _ (e .1 .1 .1))))
 
--- src/lib.rt:70:1
 same-length-3 : tie.Need-same-length-3
 same-length-3 c = search needs
 
--- src/lib.rt:70:1
 same-length-4 : tie.Need-same-length-4
 same-length-4 c = search needs
 
--- src/lib.rt:70:1
 returns-2 : tie.Need-returns-2
 returns-2 c =
     let a = c .before .before .before .before .before .before .before .before .before .before .before .before .before .before .args in

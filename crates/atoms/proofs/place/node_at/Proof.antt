@@ -4,39 +4,29 @@ use Rattle.reading.specs.Pick.{pick}
 use Rattle.atoms.proofs.Places.Spots.{two-there}
 use Rattle.atoms.proofs.place.node_at.Statement.{statement}
 use Rattle.atoms.proofs.place.node_at.Tie as tie
-use Rattle.atoms.proofs.place.node_at.Reads as reads
-use Rattle.atoms.proofs.place.node_at.Lts as lts
 
--- src/place.rt:33:8
 mul-if1 : tie.Need-mul-if1
 mul-if1 c = omega (arith, two-there (c .pre))
 
--- src/place.rt:33:8
 shared-slice-read-if1 : tie.Need-shared-slice-read-if1
 shared-slice-read-if1 c = omega (arith, two-there (c .before .pre))
 
--- src/place.rt:34:32
 add-t7 : tie.Need-add-t7
 add-t7 c = omega (arith, two-there (c .before .before .pre))
 
--- src/place.rt:34:27
 mul-t8 : tie.Need-mul-t8
 mul-t8 c = omega (arith, two-there (c .before .before .pre))
 
--- src/place.rt:34:27
 shared-slice-read-t10 : tie.Need-shared-slice-read-t10
 shared-slice-read-t10 c = omega (arith, two-there (c .before .before .before .pre))
 
--- src/place.rt:34:41
 add-t11 : tie.Need-add-t11
 add-t11 c = omega (arith, two-there (c .before .before .before .pre))
 
--- src/place.rt:34:9
 returns : tie.Need-returns
 unfolding pick
 returns c = rw (eq-eqb _ _ (c .before .if1 .taken))
 
--- src/place.rt:29:1
 returns-2 : tie.Need-returns-2
 unfolding pick
 returns-2 c = rw (ne-eqb _ _ (c .if1 .left))

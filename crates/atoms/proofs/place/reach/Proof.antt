@@ -2,19 +2,13 @@ use Rattle.atoms.proofs.Places.Spots.{seen-here}
 use borrow.Author.Needs.{needs}
 use Rattle.atoms.proofs.place.reach.Statement.{statement}
 use Rattle.atoms.proofs.place.reach.Tie as tie
-use Rattle.atoms.proofs.place.reach.Reads as reads
-use Rattle.atoms.proofs.place.reach.Lts as lts
-use Rattle.atoms.proofs.place.through.Reads as through-reads
 
--- src/place.rt:55:9
 returns : tie.Need-returns
 returns c p = seen-here _ _ p (c .if1 .taken)
 
--- src/place.rt:57:5
 through-requires : tie.Need-through-requires
 through-requires c κs = search needs
 
--- src/place.rt:50:1
 returns-2 : tie.Need-returns-2
 returns-2 c p = rw (c .before .if1 .left) (c .through .ensures p)
 

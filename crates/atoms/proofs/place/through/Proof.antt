@@ -5,8 +5,6 @@ use Prim.Native.Nat.{_-_}
 use native.Mathlib.Omega.{arith}
 use Rattle.atoms.proofs.place.through.Statement.{statement}
 use Rattle.atoms.proofs.place.through.Tie as tie
-use Rattle.atoms.proofs.place.through.Reads as reads
-use Rattle.atoms.proofs.place.through.Lts as lts
 
 abbrev Inv-loop : tie.InvT-loop
 Inv-loop text tree at p₀ p = (s : Spot tree at) → Inwards text tree at s p
@@ -14,47 +12,36 @@ Inv-loop text tree at p₀ p = (s : Spot tree at) → Inwards text tree at s p
 abbrev μ-loop : tie.MeasureT-loop
 μ-loop text tree at p₀ p = length tree - p
 
--- src/place.rt:40:5
 loop-holds : tie.Need-loop-holds Inv-loop μ-loop
 loop-holds c = λ s. in-start _ _ _ s
 
--- src/place.rt:40:11
 mul-if1 : tie.Need-mul-if1 Inv-loop μ-loop
 mul-if1 c = omega (arith, two-there (c .loop .inv (c .before .pre) .spot))
 
--- src/place.rt:40:11
 shared-slice-read-if1 : tie.Need-shared-slice-read-if1 Inv-loop μ-loop
 shared-slice-read-if1 c = omega (arith, two-there (c .before .loop .inv (c .before .before .pre) .spot))
 
--- src/place.rt:41:17
 add-if2 : tie.Need-add-if2 Inv-loop μ-loop
 add-if2 c = omega (arith, two-there (c .before .before .loop .inv (c .before .before .before .pre) .spot))
 
--- src/place.rt:41:12
 mul-if2 : tie.Need-mul-if2 Inv-loop μ-loop
 mul-if2 c = omega (arith, two-there (c .before .before .loop .inv (c .before .before .before .pre) .spot))
 
--- src/place.rt:41:12
 shared-slice-read-if2 : tie.Need-shared-slice-read-if2 Inv-loop μ-loop
 shared-slice-read-if2 c = omega (arith, two-there (c .before .before .before .loop .inv (c .before .before .before .before .pre) .spot))
 
--- src/place.rt:42:13
 returns : tie.Need-returns Inv-loop μ-loop
 returns c s = in-many _ _ _ s _ (c .before .before .before .before .loop .inv s) (c .before .before .if1 .taken) (c .if2 .taken)
 
--- src/place.rt:44:9
 add-p : tie.Need-add-p Inv-loop μ-loop
 add-p c = omega (arith, list-there (c .before .before .before .before .loop .inv (c .before .before .before .before .before .pre) .spot) (c .before .before .if1 .taken))
 
--- src/place.rt:40:5
 loop-less : tie.Need-loop-less Inv-loop μ-loop
 loop-less c = omega (arith, list-there (c .before .before .before .before .loop .inv (c .before .before .before .before .before .pre) .spot) (c .before .before .if1 .taken))
 
--- src/place.rt:40:5
 loop-again : tie.Need-loop-again Inv-loop μ-loop
 loop-again c = λ s. in-one _ _ _ s _ (c .before .before .before .before .loop .inv s) (c .before .before .if1 .taken) (c .if2 .left)
 
--- src/place.rt:35:1
 returns-2 : tie.Need-returns-2 Inv-loop μ-loop
 returns-2 c s = in-atom _ _ _ s _ (c .before .before .loop .inv s) (c .if1 .left)
 

@@ -5,31 +5,22 @@ use Rattle.atoms.proofs.Places.Spots.{two-there}
 use borrow.Author.Needs.{needs}
 use Rattle.atoms.proofs.place.words_at.Statement.{statement}
 use Rattle.atoms.proofs.place.words_at.Tie as tie
-use Rattle.atoms.proofs.place.words_at.Reads as reads
-use Rattle.atoms.proofs.place.words_at.Lts as lts
-use Rattle.sorts.proofs.tree.node_words.Reads as node-words-reads
 
--- src/place.rt:14:16
 mul-node-words : tie.Need-mul-node-words
 mul-node-words c = omega (arith, two-there (c .before .pre))
 
--- src/place.rt:14:16
 sub-node-words : tie.Need-sub-node-words
 sub-node-words c = omega (arith, two-there (c .before .pre))
 
--- src/place.rt:14:16
 part-node-words-start : tie.Need-part-node-words-start
 part-node-words-start c = omega (arith, two-there (c .before .pre))
 
--- src/place.rt:14:16
 part-node-words-end : tie.Need-part-node-words-end
 part-node-words-end c = search needs
 
--- src/place.rt:14:5
 node-words-requires : tie.Need-node-words-requires
 node-words-requires c κs = let p = c .before .before .pre in record { first = p .tree; rest = p .rest; words = tail (c .before .before .args .tree .now) (c .before .before .args .at) ∙ p .words }
 
--- src/place.rt:10:1
 returns : tie.Need-returns
 returns c p = c .node-words .ensures (p .tree) (p .rest) (tail (c .before .before .before .args .tree .now) (c .before .before .before .args .at) ∙ p .words)
 

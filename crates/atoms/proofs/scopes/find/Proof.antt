@@ -6,12 +6,6 @@ use mathlib.Core.Path.{_∙_}
 use borrow.Author.Needs.{needs}
 use Rattle.atoms.proofs.scopes.find.Statement.{statement}
 use Rattle.atoms.proofs.scopes.find.Tie as tie
-use Rattle.atoms.proofs.scopes.find.Reads as reads
-use Rattle.atoms.proofs.scopes.find.Lts as lts
-use Rattle.sorts.proofs.number.wide.Reads as wide-reads
-use Rattle.sorts.proofs.number.long.Reads as long-reads
-use Rattle.atoms.proofs.scopes.place_among.Reads as place-among-reads
-use Rattle.std.proofs.num.wrapping_add_u64.Reads as wrapping-add-u64-reads
 
 abbrev Inv-loop : tie.InvT-loop
 Inv-loop text tree base start len scopes d₀ d = (h : OpenScopes tree scopes) → Search text tree scopes h (record { start = start; len = len }) d
@@ -19,75 +13,57 @@ Inv-loop text tree base start len scopes d₀ d = (h : OpenScopes tree scopes) �
 abbrev μ-loop : tie.MeasureT-loop
 μ-loop text tree base start len scopes d₀ d = d
 
--- src/scopes.rt:83:5
 loop-holds : tie.Need-loop-holds Inv-loop μ-loop
 loop-holds c = λ h. search-start _ _ _ h _
 
--- src/scopes.rt:84:32
 sub-e : tie.Need-sub-e Inv-loop μ-loop
 sub-e c = omega (arith, c .before .loop .inv (c .before .before .before .before .pre) .within, c .before .before .before .before .pre .long)
 
--- src/scopes.rt:84:17
 mul-e : tie.Need-mul-e Inv-loop μ-loop
 mul-e c = omega (arith, c .before .loop .inv (c .before .before .before .before .pre) .within, c .before .before .before .before .pre .long)
 
--- src/scopes.rt:84:17
 element-copy-out-e : tie.Need-element-copy-out-e Inv-loop μ-loop
 element-copy-out-e c = omega (arith, c .before .loop .inv (c .before .before .before .before .pre) .within, c .before .before .before .before .pre .long)
 
--- src/scopes.rt:86:27
 add-wide : tie.Need-add-wide Inv-loop μ-loop
 add-wide c = let x = (search-top _ _ _ (c .before .before .before .before .before .pre) _ _ (c .before .before .loop .inv (c .before .before .before .before .before .pre)) (c .before .loop-test .taken)) in omega (arith, list-in (x .entry .place))
 
--- src/scopes.rt:86:22
 mul-wide : tie.Need-mul-wide Inv-loop μ-loop
 mul-wide c = let x = (search-top _ _ _ (c .before .before .before .before .before .pre) _ _ (c .before .before .loop .inv (c .before .before .before .before .before .pre)) (c .before .loop-test .taken)) in omega (arith, list-in (x .entry .place))
 
--- src/scopes.rt:86:22
 shared-slice-read-wide : tie.Need-shared-slice-read-wide Inv-loop μ-loop
 shared-slice-read-wide c = let x = (search-top _ _ _ (c .before .before .before .before .before .before .pre) _ _ (c .before .before .before .loop .inv (c .before .before .before .before .before .before .pre)) (c .before .before .loop-test .taken)) in omega (arith, list-in (x .entry .place))
 
--- src/scopes.rt:86:13
 wide-requires : tie.Need-wide-requires Inv-loop μ-loop
 wide-requires c κs = search needs
 
--- src/scopes.rt:87:41
 add-place-among : tie.Need-add-place-among Inv-loop μ-loop
 add-place-among c = let x = (search-top _ _ _ (c .before .before .before .before .before .before .before .pre) _ _ (c .before .before .before .before .loop .inv (c .before .before .before .before .before .before .before .pre)) (c .before .before .before .loop-test .taken)) in omega (arith, list-in (x .entry .place))
 
--- src/scopes.rt:87:13
 place-among-requires : tie.Need-place-among-requires Inv-loop μ-loop
 place-among-requires c κs = let x = (search-top _ _ _ (c .before .before .before .before .before .before .before .pre) _ _ (c .before .before .before .before .loop .inv (c .before .before .before .before .before .before .before .pre)) (c .before .before .before .loop-test .taken)) in list-pairs (x .entry .place) _ (c .wide .ensures .0)
 
--- src/scopes.rt:89:57
 long-requires : tie.Need-long-requires Inv-loop μ-loop
 long-requires c κs = search needs
 
--- src/scopes.rt:89:17
 wrapping-add-u64-requires : tie.Need-wrapping-add-u64-requires Inv-loop μ-loop
 wrapping-add-u64-requires c κs = search needs
 
--- src/scopes.rt:90:30
 wrapping-add-u64-requires-2 : tie.Need-wrapping-add-u64-requires-2 Inv-loop μ-loop
 wrapping-add-u64-requires-2 c κs = search needs
 
--- src/scopes.rt:90:13
 returns : tie.Need-returns Inv-loop μ-loop
 returns c h = let x = (search-top _ _ _ h _ _ (c .before .before .before .before .before .before .before .before .before .loop .inv h) (c .before .before .before .before .before .before .before .before .loop-test .taken)) in search-hit _ _ _ h _ _ (c .before .before .before .before .before .before .before .before .before .loop .inv h) (c .before .before .before .before .before .before .before .before .loop-test .taken) (c .before .before .before .before .before .wide .ensures .0 ∙ list-trees (x .entry .place)) (c .before .before .before .before .place-among .ensures (list-pairs (x .entry .place) _ (c .before .before .before .before .before .wide .ensures .0))) _ (c .before .before .before .if1 .taken) (wraps _ _ _ _ _ _ (c .before .before .long .ensures) (c .before .wrapping-add-u64 .ensures) (c .wrapping-add-u642 .ensures))
 
--- src/scopes.rt:92:9
 sub-d : tie.Need-sub-d Inv-loop μ-loop
 sub-d c = search needs
 
--- src/scopes.rt:83:5
 loop-less : tie.Need-loop-less Inv-loop μ-loop
 loop-less c = search needs
 
--- src/scopes.rt:83:5
 loop-again : tie.Need-loop-again Inv-loop μ-loop
 loop-again c = λ h. (let x = (search-top _ _ _ h _ _ (c .before .before .before .before .before .before .loop .inv h) (c .before .before .before .before .before .loop-test .taken)) in search-more _ _ _ h _ _ (c .before .before .before .before .before .before .loop .inv h) (c .before .before .before .before .before .loop-test .taken) (c .before .before .wide .ensures .0 ∙ list-trees (x .entry .place)) (c .before .place-among .ensures (list-pairs (x .entry .place) _ (c .before .before .wide .ensures .0))) (c .if1 .left))
 
--- src/scopes.rt:78:1
 returns-2 : tie.Need-returns-2 Inv-loop μ-loop
 returns-2 c h = search-end _ _ _ h _ _ (c .before .loop .inv h) _ (c .loop-test .left)
 

@@ -4,27 +4,20 @@ use borrow.Author.Tests.{eq-eqb, ne-eqb}
 use borrow.Author.Needs.{needs}
 use Rattle.atoms.proofs.scopes.opened.Statement.{statement}
 use Rattle.atoms.proofs.scopes.opened.Tie as tie
-use Rattle.atoms.proofs.scopes.opened.Reads as reads
-use Rattle.atoms.proofs.scopes.opened.Lts as lts
 
--- src/scopes.rt:25:9
 returns : tie.Need-returns
 unfolding pushed pick
 returns c = rw (eq-eqb _ 0 (c .if1 .taken))
 
--- src/scopes.rt:29:5
 mul-t8 : tie.Need-mul-t8
 mul-t8 c = search needs
 
--- src/scopes.rt:29:5
 element-set-from-inner : tie.Need-element-set-from-inner
 element-set-from-inner c = search needs
 
--- src/scopes.rt:33:19
 add-inner : tie.Need-add-inner
 add-inner c = search needs
 
--- src/scopes.rt:20:1
 returns-2 : tie.Need-returns-2
 unfolding pushed pick
 returns-2 c = rw (ne-eqb _ 0 (c .if1 .left))

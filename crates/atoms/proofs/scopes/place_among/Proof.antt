@@ -6,10 +6,6 @@ use mathlib.Core.Path.{refl, sym, _∙_}
 use borrow.Author.Needs.{needs}
 use Rattle.atoms.proofs.scopes.place_among.Statement.{statement}
 use Rattle.atoms.proofs.scopes.place_among.Tie as tie
-use Rattle.atoms.proofs.scopes.place_among.Reads as reads
-use Rattle.atoms.proofs.scopes.place_among.Lts as lts
-use Rattle.sorts.proofs.number.wide.Reads as wide-reads
-use Rattle.atoms.proofs.scopes.same_name.Reads as same-name-reads
 
 abbrev Inv-loop : tie.InvT-loop
 Inv-loop text tree at n start len i₀ p₀ i p = (h : Pairs tree at n) → Walk text tree at n h (record { start = start; len = len }) i p
@@ -17,79 +13,60 @@ Inv-loop text tree at n start len i₀ p₀ i p = (h : Pairs tree at n) → Walk
 abbrev μ-loop : tie.MeasureT-loop
 μ-loop text tree at n start len i₀ p₀ i p = n - i
 
--- src/scopes.rt:61:5
 loop-holds : tie.Need-loop-holds Inv-loop μ-loop
 loop-holds c = λ h. walk-start _ _ _ _ h _
 
--- src/scopes.rt:62:45
 add-same-name : tie.Need-add-same-name Inv-loop μ-loop
 add-same-name c = let x = (walk-pair _ _ _ _ (c .before .before .before .before .pre) _ _ _ (c .before .loop .inv (c .before .before .before .before .pre)) (c .loop-test .taken)) in omega (arith, x .six)
 
--- src/scopes.rt:62:40
 mul-same-name : tie.Need-mul-same-name Inv-loop μ-loop
 mul-same-name c = let x = (walk-pair _ _ _ _ (c .before .before .before .before .pre) _ _ _ (c .before .loop .inv (c .before .before .before .before .pre)) (c .loop-test .taken)) in omega (arith, x .six)
 
--- src/scopes.rt:62:40
 shared-slice-read-same-name : tie.Need-shared-slice-read-same-name Inv-loop μ-loop
 shared-slice-read-same-name c = let x = (walk-pair _ _ _ _ (c .before .before .before .before .before .pre) _ _ _ (c .before .before .loop .inv (c .before .before .before .before .before .pre)) (c .before .loop-test .taken)) in omega (arith, x .six)
 
--- src/scopes.rt:62:58
 add-same-name-2 : tie.Need-add-same-name-2 Inv-loop μ-loop
 add-same-name-2 c = let x = (walk-pair _ _ _ _ (c .before .before .before .before .before .pre) _ _ _ (c .before .before .loop .inv (c .before .before .before .before .before .pre)) (c .before .loop-test .taken)) in omega (arith, x .six)
 
--- src/scopes.rt:62:53
 mul-same-name-2 : tie.Need-mul-same-name-2 Inv-loop μ-loop
 mul-same-name-2 c = let x = (walk-pair _ _ _ _ (c .before .before .before .before .before .pre) _ _ _ (c .before .before .loop .inv (c .before .before .before .before .before .pre)) (c .before .loop-test .taken)) in omega (arith, x .six)
 
--- src/scopes.rt:62:53
 shared-slice-read-same-name-2 : tie.Need-shared-slice-read-same-name-2 Inv-loop μ-loop
 shared-slice-read-same-name-2 c = let x = (walk-pair _ _ _ _ (c .before .before .before .before .before .before .pre) _ _ _ (c .before .before .before .loop .inv (c .before .before .before .before .before .before .pre)) (c .before .before .loop-test .taken)) in omega (arith, x .six)
 
--- src/scopes.rt:62:12
 same-name-requires : tie.Need-same-name-requires Inv-loop μ-loop
 same-name-requires c κs = search needs
 
--- src/scopes.rt:63:13
 returns : tie.Need-returns Inv-loop μ-loop
 returns c h = walk-hit _ _ _ _ h _ _ _ (c .before .before .before .before .before .loop .inv h) (c .before .before .before .before .loop-test .taken) (sym (c .before .same-name .ensures) ∙ c .if1 .taken)
 
--- src/scopes.rt:65:24
 add-wide : tie.Need-add-wide Inv-loop μ-loop
 add-wide c = let x = (walk-pair _ _ _ _ (c .before .before .before .before .before .before .before .before .pre) _ _ _ (c .before .before .before .before .before .loop .inv (c .before .before .before .before .before .before .before .before .pre)) (c .before .before .before .before .loop-test .taken)) in omega (arith, x .six)
 
--- src/scopes.rt:65:19
 mul-wide : tie.Need-mul-wide Inv-loop μ-loop
 mul-wide c = let x = (walk-pair _ _ _ _ (c .before .before .before .before .before .before .before .before .pre) _ _ _ (c .before .before .before .before .before .loop .inv (c .before .before .before .before .before .before .before .before .pre)) (c .before .before .before .before .loop-test .taken)) in omega (arith, x .six)
 
--- src/scopes.rt:65:19
 shared-slice-read-wide : tie.Need-shared-slice-read-wide Inv-loop μ-loop
 shared-slice-read-wide c = let x = (walk-pair _ _ _ _ (c .before .before .before .before .before .before .before .before .before .pre) _ _ _ (c .before .before .before .before .before .before .loop .inv (c .before .before .before .before .before .before .before .before .before .pre)) (c .before .before .before .before .before .loop-test .taken)) in omega (arith, x .six)
 
--- src/scopes.rt:65:14
 wide-requires : tie.Need-wide-requires Inv-loop μ-loop
 wide-requires c κs = search needs
 
--- src/scopes.rt:65:14
 add-p : tie.Need-add-p Inv-loop μ-loop
 add-p c = let x = (walk-pair _ _ _ _ (c .before .before .before .before .before .before .before .before .before .before .pre) _ _ _ (c .before .before .before .before .before .before .before .loop .inv (c .before .before .before .before .before .before .before .before .before .before .pre)) (c .before .before .before .before .before .before .loop-test .taken)) in omega (arith, x .fits, c .wide .ensures .0)
 
--- src/scopes.rt:65:9
 add-p-2 : tie.Need-add-p-2 Inv-loop μ-loop
 add-p-2 c = let x = (walk-pair _ _ _ _ (c .before .before .before .before .before .before .before .before .before .before .pre) _ _ _ (c .before .before .before .before .before .before .before .loop .inv (c .before .before .before .before .before .before .before .before .before .before .pre)) (c .before .before .before .before .before .before .loop-test .taken)) in omega (arith, x .fits, c .wide .ensures .0)
 
--- src/scopes.rt:66:9
 add-i : tie.Need-add-i Inv-loop μ-loop
 add-i c = search needs
 
--- src/scopes.rt:61:5
 loop-less : tie.Need-loop-less Inv-loop μ-loop
 loop-less c = search needs
 
--- src/scopes.rt:61:5
 loop-again : tie.Need-loop-again Inv-loop μ-loop
 loop-again c = λ h. walk-more _ _ _ _ h _ _ _ (c .before .before .before .before .before .before .before .loop .inv h) (c .before .before .before .before .before .before .loop-test .taken) (sym (c .before .before .before .same-name .ensures) ∙ c .before .before .if1 .left) _ (rw (c .wide .ensures .0) refl)
 
--- src/scopes.rt:55:1
 returns-2 : tie.Need-returns-2 Inv-loop μ-loop
 returns-2 c h = walk-end _ _ _ _ h _ _ _ (c .before .loop .inv h) (c .loop-test .left)
 

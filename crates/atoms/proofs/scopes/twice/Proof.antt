@@ -7,10 +7,6 @@ use mathlib.Core.Path.{refl, sym, ap}
 use borrow.Author.Needs.{needs}
 use Rattle.atoms.proofs.scopes.twice.Statement.{statement}
 use Rattle.atoms.proofs.scopes.twice.Tie as tie
-use Rattle.atoms.proofs.scopes.twice.Reads as reads
-use Rattle.atoms.proofs.scopes.twice.Lts as lts
-use Rattle.sorts.proofs.number.wide.Reads as wide-reads
-use Rattle.atoms.proofs.scopes.place_among.Reads as place-among-reads
 
 abbrev Inv-loop : tie.InvT-loop
 Inv-loop text tree names n p₀ i₀ p i = (b : Bound tree names) → Left text tree (b .names) n i p
@@ -18,114 +14,87 @@ Inv-loop text tree names n p₀ i₀ p i = (b : Bound tree names) → Left text 
 abbrev μ-loop : tie.MeasureT-loop
 μ-loop text tree names n p₀ i₀ p i = n - i
 
--- src/scopes.rt:103:9
 returns : tie.Need-returns Inv-loop μ-loop
 unfolding repeated
 returns c b = sym (ap (repeated _) (b .without (c .if1 .taken)))
 
--- src/scopes.rt:105:23
 add-wide : tie.Need-add-wide Inv-loop μ-loop
 add-wide c = omega (arith, (list-in (c .before .before .before .pre .place (c .if1 .left))))
 
--- src/scopes.rt:105:18
 mul-wide : tie.Need-mul-wide Inv-loop μ-loop
 mul-wide c = omega (arith, (list-in (c .before .before .before .pre .place (c .if1 .left))))
 
--- src/scopes.rt:105:18
 shared-slice-read-wide : tie.Need-shared-slice-read-wide Inv-loop μ-loop
 shared-slice-read-wide c = omega (arith, (list-in (c .before .before .before .before .pre .place (c .before .if1 .left))))
 
--- src/scopes.rt:105:9
 wide-requires : tie.Need-wide-requires Inv-loop μ-loop
 wide-requires c κs = search needs
 
--- src/scopes.rt:106:17
 add-p : tie.Need-add-p Inv-loop μ-loop
 add-p c = omega (arith, (list-in (c .before .before .before .before .before .pre .place (c .before .before .if1 .left))))
 
--- src/scopes.rt:108:5
 loop-holds : tie.Need-loop-holds Inv-loop μ-loop
 loop-holds c = λ b. left-start _ _ (b .names) _ (b .place (c .before .before .if1 .left)) (c .wide .ensures .0)
 
--- src/scopes.rt:109:22
 add-s : tie.Need-add-s Inv-loop μ-loop
 add-s c = let x = (left-pair _ _ _ _ _ _ (c .before .loop .inv (c .before .before .before .before .before .before .before .pre)) (c .loop-test .taken)) in omega (arith, x .six)
 
--- src/scopes.rt:109:17
 mul-s : tie.Need-mul-s Inv-loop μ-loop
 mul-s c = let x = (left-pair _ _ _ _ _ _ (c .before .loop .inv (c .before .before .before .before .before .before .before .pre)) (c .loop-test .taken)) in omega (arith, x .six)
 
--- src/scopes.rt:109:17
 shared-slice-read-s : tie.Need-shared-slice-read-s Inv-loop μ-loop
 shared-slice-read-s c = let x = (left-pair _ _ _ _ _ _ (c .before .before .loop .inv (c .before .before .before .before .before .before .before .before .pre)) (c .before .loop-test .taken)) in omega (arith, x .six)
 
--- src/scopes.rt:110:22
 add-l : tie.Need-add-l Inv-loop μ-loop
 add-l c = let x = (left-pair _ _ _ _ _ _ (c .before .before .loop .inv (c .before .before .before .before .before .before .before .before .pre)) (c .before .loop-test .taken)) in omega (arith, x .six)
 
--- src/scopes.rt:110:17
 mul-l : tie.Need-mul-l Inv-loop μ-loop
 mul-l c = let x = (left-pair _ _ _ _ _ _ (c .before .before .loop .inv (c .before .before .before .before .before .before .before .before .pre)) (c .before .loop-test .taken)) in omega (arith, x .six)
 
--- src/scopes.rt:110:17
 shared-slice-read-l : tie.Need-shared-slice-read-l Inv-loop μ-loop
 shared-slice-read-l c = let x = (left-pair _ _ _ _ _ _ (c .before .before .before .loop .inv (c .before .before .before .before .before .before .before .before .before .pre)) (c .before .before .loop-test .taken)) in omega (arith, x .six)
 
--- src/scopes.rt:111:24
 add-wide-2 : tie.Need-add-wide-2 Inv-loop μ-loop
 add-wide-2 c = let x = (left-pair _ _ _ _ _ _ (c .before .before .before .loop .inv (c .before .before .before .before .before .before .before .before .before .pre)) (c .before .before .loop-test .taken)) in omega (arith, x .six)
 
--- src/scopes.rt:111:19
 mul-wide-2 : tie.Need-mul-wide-2 Inv-loop μ-loop
 mul-wide-2 c = let x = (left-pair _ _ _ _ _ _ (c .before .before .before .loop .inv (c .before .before .before .before .before .before .before .before .before .pre)) (c .before .before .loop-test .taken)) in omega (arith, x .six)
 
--- src/scopes.rt:111:19
 shared-slice-read-wide-2 : tie.Need-shared-slice-read-wide-2 Inv-loop μ-loop
 shared-slice-read-wide-2 c = let x = (left-pair _ _ _ _ _ _ (c .before .before .before .before .loop .inv (c .before .before .before .before .before .before .before .before .before .before .pre)) (c .before .before .before .loop-test .taken)) in omega (arith, x .six)
 
--- src/scopes.rt:111:14
 wide-requires-2 : tie.Need-wide-requires-2 Inv-loop μ-loop
 wide-requires-2 c κs = search needs
 
--- src/scopes.rt:111:14
 add-p-2 : tie.Need-add-p-2 Inv-loop μ-loop
 add-p-2 c = let x = (left-pair _ _ _ _ _ _ (c .before .before .before .before .before .loop .inv (c .before .before .before .before .before .before .before .before .before .before .before .pre)) (c .before .before .before .before .loop-test .taken)) in omega (arith, x .fits, c .wide2 .ensures .0)
 
--- src/scopes.rt:111:9
 add-p-3 : tie.Need-add-p-3 Inv-loop μ-loop
 add-p-3 c = let x = (left-pair _ _ _ _ _ _ (c .before .before .before .before .before .loop .inv (c .before .before .before .before .before .before .before .before .before .before .before .pre)) (c .before .before .before .before .loop-test .taken)) in omega (arith, x .fits, c .wide2 .ensures .0)
 
--- src/scopes.rt:112:9
 add-i : tie.Need-add-i Inv-loop μ-loop
 add-i c = omega arith
 
--- src/scopes.rt:113:39
 sub-place-among : tie.Need-sub-place-among Inv-loop μ-loop
 sub-place-among c = omega arith
 
--- src/scopes.rt:113:12
 place-among-requires : tie.Need-place-among-requires Inv-loop μ-loop
 place-among-requires c κs = (left-rest _ _ _ _ _ _ (c .before .before .before .before .before .loop .inv (c .before .before .before .before .before .before .before .before .before .before .before .pre)) (c .before .before .before .before .loop-test .taken) _ (rw (c .wide2 .ensures .0) refl))
 
--- src/scopes.rt:113:54
 sub-if2 : tie.Need-sub-if2 Inv-loop μ-loop
 sub-if2 c = omega arith
 
--- src/scopes.rt:114:13
 returns-2 : tie.Need-returns-2 Inv-loop μ-loop
 returns-2 c b =
     let q : ℕ = c .before .before .before .before .before .before .before .loop .p + (c .before .before .wide2 .result + 3) in
     left-hit _ _ _ _ _ _ (c .before .before .before .before .before .before .before .loop .inv b) (c .before .before .before .before .before .before .loop-test .taken) (c .before .before .before .before .before .before .before .loop .p + (c .before .before .wide2 .result + 3)) (rw (c .before .before .wide2 .ensures .0) refl) (c .before .place-among .ensures (left-rest _ _ _ _ _ _ (c .before .before .before .before .before .before .before .loop .inv b) (c .before .before .before .before .before .before .loop-test .taken) (c .before .before .before .before .before .before .before .loop .p + (c .before .before .wide2 .result + 3)) (rw (c .before .before .wide2 .ensures .0) refl))) (c .if2 .taken)
 
--- src/scopes.rt:108:5
 loop-less : tie.Need-loop-less Inv-loop μ-loop
 loop-less c = omega arith
 
--- src/scopes.rt:108:5
 loop-again : tie.Need-loop-again Inv-loop μ-loop
 loop-again c = λ b. left-more _ _ _ _ _ _ (c .before .before .before .before .before .before .before .loop .inv b) (c .before .before .before .before .before .before .loop-test .taken) _ (rw (c .before .before .wide2 .ensures .0) refl) (c .before .place-among .ensures (left-rest _ _ _ _ _ _ (c .before .before .before .before .before .before .before .loop .inv b) (c .before .before .before .before .before .before .loop-test .taken) _ (rw (c .before .before .wide2 .ensures .0) refl))) (c .if2 .left)
 
--- src/scopes.rt:98:1
 returns-3 : tie.Need-returns-3 Inv-loop μ-loop
 returns-3 c b = left-end _ _ _ _ _ _ (c .before .loop .inv b) (c .loop-test .left)
 

@@ -6,91 +6,67 @@ use Rattle.atoms.proofs.SortPlace.{exact, lent-done, lent-refused, got-
 use borrow.Author.Needs.{needs}
 use Rattle.atoms.proofs.sort_at.sort_at.Statement.{statement}
 use Rattle.atoms.proofs.sort_at.sort_at.Tie as tie
-use Rattle.atoms.proofs.sort_at.sort_at.Reads as reads
-use Rattle.atoms.proofs.sort_at.sort_at.Lts as lts
-use Rattle.sorts.proofs.number.least.Reads as least-reads
-use Rattle.atoms.proofs.place.words_at.Reads as words-at-reads
-use Rattle.sorts.proofs.sorts.sort.Reads as sort-reads
 
--- src/sort_at.rt:20:20
 words-at-requires : tie.Need-words-at-requires
 words-at-requires c κs = search needs
 
--- src/sort_at.rt:20:15
 add-end : tie.Need-add-end
 add-end c = omega (arith, (c .words-at .ensures (c .before .before .before .before .pre .0 .spot)), spot-within (c .before .before .before .before .pre .0 .spot))
 
--- src/sort_at.rt:21:9
 least-requires : tie.Need-least-requires
 least-requires c κs = search needs
 
--- src/sort_at.rt:22:22
 mul-sort : tie.Need-mul-sort
 mul-sort c = omega (arith, two-there (c .before .before .before .before .before .pre .0 .spot))
 
--- src/sort_at.rt:22:22
 sub-sort : tie.Need-sub-sort
 sub-sort c = search needs
 
--- src/sort_at.rt:22:22
 part-sort-start : tie.Need-part-sort-start
 part-sort-start c = search needs
 
--- src/sort_at.rt:22:22
 part-sort-end : tie.Need-part-sort-end
 part-sort-end c = omega (arith, (c .before .words-at .ensures (c .before .before .before .before .before .pre .0 .spot)), spot-within (c .before .before .before .before .before .pre .0 .spot))
 
--- src/sort_at.rt:22:38
 mul-sort-2 : tie.Need-mul-sort-2
 mul-sort-2 c = search needs
 
--- src/sort_at.rt:22:38
 sub-sort-2 : tie.Need-sub-sort-2
 sub-sort-2 c = search needs
 
--- src/sort_at.rt:22:38
 part-sort-start-2 : tie.Need-part-sort-start-2
 part-sort-start-2 c = search needs
 
--- src/sort_at.rt:22:38
 part-sort-end-2 : tie.Need-part-sort-end-2
 part-sort-end-2 c = search needs
 
--- src/sort_at.rt:22:11
 sort-requires : tie.Need-sort-requires
 sort-requires c κs =
     let p = c .before .before .before .before .before .before .before .pre .0 in
     let e = exact (p .spot) _ (c .before .before .before .words-at .ensures (c .before .before .before .before .before .before .before .pre .0 .spot)) in
     record { tree = p .spot .tree; words = e; small = omega (arith, p .small, ap length e) }
 
--- src/sort_at.rt:23:25
 enum-known-e : tie.Need-enum-known-e
 enum-known-e c = search needs
 
--- src/sort_at.rt:24:22
 enum-known-n : tie.Need-enum-known-n
 enum-known-n c = search needs
 
--- src/sort_at.rt:24:41
 add-t22 : tie.Need-add-t22
 add-t22 c =
     let p = c .before .before .before .before .before .before .before .before .before .before .before .before .before .pre .0 in
     let g = got-at (over-at (c .before .before .before .before .before .sort .ensures (p .spot .tree) (exact (p .spot) _ (c .before .before .before .before .before .before .before .before .before .words-at .ensures (c .before .before .before .before .before .before .before .before .before .before .before .before .before .pre .0 .spot))))) (c .before .n .given .1) in
     omega (arith, c .before .before .before .before .before .before .before .before .before .before .before .before .before .pre .1, p .small, g .put .is, sort-short (c .before .before .before .before .before .before .before .before .before .before .before .before .before .args .text .now) (p .spot .tree) (g .is))
 
--- src/sort_at.rt:16:1
 same-length : tie.Need-same-length
 same-length c = search needs
 
--- src/sort_at.rt:16:1
 returns : tie.Need-returns
 returns c p = lent-refused (c .before .before .before .before .before .sort .ensures (p .spot .tree) (exact (p .spot) _ (c .before .before .before .before .before .before .before .before .before .words-at .ensures (p .spot)))) (c .before .e .given .1)
 
--- src/sort_at.rt:16:1
 same-length-2 : tie.Need-same-length-2
 same-length-2 c = search needs
 
--- src/sort_at.rt:16:1
 returns-2 : tie.Need-returns-2
 returns-2 c p = lent-done (c .before .before .before .before .before .before .before .before .least .ensures) (c .before .before .before .before .before .sort .ensures (p .spot .tree) (exact (p .spot) _ (c .before .before .before .before .before .before .before .before .before .words-at .ensures (p .spot)))) (c .before .n .given .1)
 

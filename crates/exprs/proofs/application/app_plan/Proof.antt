@@ -8,62 +8,42 @@ use Rattle.atoms.proofs.SortPlace.{got-at, bad-at}
 use borrow.Author.Needs.{needs}
 use Rattle.exprs.proofs.application.app_plan.Statement.{statement}
 use Rattle.exprs.proofs.application.app_plan.Tie as tie
-use Rattle.exprs.proofs.application.app_plan.Reads as reads
-use Rattle.exprs.proofs.application.app_plan.Lts as lts
-use Rattle.exprs.proofs.application.is_apply.Reads as is-apply-reads
-use Rattle.atoms.proofs.expr_words.put3.Reads as put3-reads
-use Rattle.sorts.proofs.number.wide.Reads as wide-reads
-use Rattle.atoms.proofs.place.node_at.Reads as node-at-reads
-use Rattle.atoms.proofs.place.words_at.Reads as words-at-reads
-use Rattle.atoms.proofs.sort_at.sort_at.Reads as sort-at-reads
 
--- src/application.rt:46:16
 add-head : tie.Need-add-head
 add-head c = omega (arith, ap-two (c .before .before .before .pre .listed))
 
--- src/application.rt:47:32
 node-at-requires : tie.Need-node-at-requires
 node-at-requires c κs = head-spot (c .before .before .before .pre .listed)
 
--- src/application.rt:47:20
 enum-known-m : tie.Need-enum-known-m
 enum-known-m c = search needs
 
--- src/application.rt:48:9
 enum-told : tie.Need-enum-told
 enum-told c = search needs
 
--- src/application.rt:48:9
 returns : tie.Need-returns
 returns c t us h = ap-atom h _ (node-other (c .before .before .before .before .before .before .args .tree .now) (c .before .before .before .before .before .before .args .at + 3) (c .before .before .node-at .ensures) (c .enum-told .given .1))
 
--- src/application.rt:51:9
 returns-2 : tie.Need-returns-2
 returns-2 c t us h = ap-short h (node-list (c .before .before .before .before .before .before .before .before .args .tree .now) (c .before .before .before .before .before .before .before .before .args .at + 3) (c .before .before .before .before .node-at .ensures) (c .before .before .m .given .1)) _ (c .if1 .taken)
 
--- src/application.rt:53:18
 add-n : tie.Need-add-n
 add-n c = omega (arith, ap-two (c .before .before .before .before .before .before .before .before .pre .listed), c .before .before .before .before .before .before .before .before .good)
 
--- src/application.rt:53:13
 mul-n : tie.Need-mul-n
 mul-n c = omega (arith, ap-two (c .before .before .before .before .before .before .before .before .pre .listed), c .before .before .before .before .before .before .before .before .good)
 
--- src/application.rt:53:13
 shared-slice-read-n : tie.Need-shared-slice-read-n
 shared-slice-read-n c = omega (arith, ap-two (c .before .before .before .before .before .before .before .before .before .pre .listed))
 
--- src/application.rt:54:24
 words-at-requires : tie.Need-words-at-requires
 words-at-requires c κs = head-spot (c .before .before .before .before .before .before .before .before .before .pre .listed)
 
--- src/application.rt:54:17
 add-first : tie.Need-add-first
 add-first c =
     let p = head-spot (c .before .before .before .before .before .before .before .before .before .before .pre .listed) in
     omega (arith, spot-within p, c .words-at .ensures p, c .before .before .before .before .before .before .before .before .before .before .good)
 
--- src/application.rt:55:26
 words-at-requires-2 : tie.Need-words-at-requires-2
 words-at-requires-2 c κs =
     let h = c .before .before .before .before .before .before .before .before .before .before .pre .listed in
@@ -71,7 +51,6 @@ words-at-requires-2 c κs =
     let two = c .before .before .if1 .left in
     inner-spot h n two
 
--- src/application.rt:55:18
 add-second : tie.Need-add-second
 add-second c =
     let h = c .before .before .before .before .before .before .before .before .before .before .before .pre .listed in
@@ -80,7 +59,6 @@ add-second c =
     let p = inner-spot h n two in
     omega (arith, spot-within p, c .words-at2 .ensures p, c .before .before .before .before .before .before .before .before .before .before .before .good)
 
--- src/application.rt:56:8
 is-apply-requires : tie.Need-is-apply-requires
 is-apply-requires c κs =
     let h = c .before .before .before .before .before .before .before .before .before .before .before .pre .listed in
@@ -89,7 +67,6 @@ is-apply-requires c κs =
     let js = c .words-at2 .ensures (inner-spot h n two) in
     second-spot h n two js
 
--- src/application.rt:58:13
 returns-3 : tie.Need-returns-3
 returns-3 c t us h =
     let n = node-list (c .before .before .before .before .before .before .before .before .before .before .before .before .before .before .args .tree .now) (c .before .before .before .before .before .before .before .before .before .before .before .before .before .before .args .at + 3) (c .before .before .before .before .before .before .before .before .before .before .node-at .ensures) (c .before .before .before .before .before .before .before .before .m .given .1) in
@@ -98,11 +75,9 @@ returns-3 c t us h =
     let x = sym (c .before .before .is-apply .ensures (second-spot h n two js)) ∙ c .before .if2 .taken in
     in-short h n two js x _ (c .if3 .taken)
 
--- src/application.rt:60:13
 put3-requires : tie.Need-put3-requires
 put3-requires c κs = omega (arith, ap-room (c .before .before .before .before .before .before .before .before .before .before .before .before .before .before .before .pre .listed))
 
--- src/application.rt:61:42
 add-sort-at : tie.Need-add-sort-at
 add-sort-at c =
     let h = c .before .before .before .before .before .before .before .before .before .before .before .before .before .before .before .before .before .before .pre .listed in
@@ -112,7 +87,6 @@ add-sort-at c =
     let x = sym (c .before .before .before .before .before .before .is-apply .ensures (second-spot h n two js)) ∙ c .before .before .before .before .before .if2 .taken in
     omega (arith, two-there (third-spot h n two js x (c .before .before .before .before .if3 .left)), c .before .before .before .before .before .before .before .before .before .before .before .before .before .before .before .before .before .before .good)
 
--- src/application.rt:61:22
 sort-at-requires : tie.Need-sort-at-requires
 sort-at-requires c κs =
     let h = c .before .before .before .before .before .before .before .before .before .before .before .before .before .before .before .before .before .before .before .pre .listed in
@@ -124,27 +98,21 @@ sort-at-requires c κs =
     let small = third-small h n two js x three (λ i. c .before .before .before .before .before .before .before .before .before .before .before .before .before .before .before .before .before .shared-slice-known2 .given i .fits) in
     (small, omega (arith, ap-room h, c .before .before .before .put3 .ensures .is))
 
--- src/application.rt:62:29
 enum-known-e : tie.Need-enum-known-e
 enum-known-e c = search needs
 
--- src/application.rt:63:26
 enum-known-u : tie.Need-enum-known-u
 enum-known-u c = search needs
 
--- src/application.rt:65:28
 sub-wide : tie.Need-sub-wide
 sub-wide c = omega (arith, ap-many (c .before .before .before .before .before .before .before .before .before .before .before .before .before .before .before .before .before .before .before .before .before .before .before .before .before .pre .listed))
 
--- src/application.rt:65:23
 wide-requires : tie.Need-wide-requires
 wide-requires c κs = search needs
 
--- src/application.rt:61:9
 same-length : tie.Need-same-length
 same-length c = search needs
 
--- src/application.rt:61:9
 returns-4 : tie.Need-returns-4
 returns-4 c t us h =
     let n = node-list (c .before .before .before .before .before .before .before .before .before .before .before .before .before .before .before .before .before .before .before .before .before .before .before .before .before .args .tree .now) (c .before .before .before .before .before .before .before .before .before .before .before .before .before .before .before .before .before .before .before .before .before .before .before .before .before .args .at + 3) (c .before .before .before .before .before .before .before .before .before .before .before .before .before .before .before .before .before .before .before .before .before .node-at .ensures) (c .before .before .before .before .before .before .before .before .before .before .before .before .before .before .before .before .before .before .before .m .given .1) in
@@ -155,11 +123,9 @@ returns-4 c t us h =
     let small = third-small h n two js x three (λ i. c .before .before .before .before .before .before .before .before .before .before .before .before .before .before .before .before .before .before .before .before .before .before .before .shared-slice-known2 .given i .fits) in
     in-bad h n two js x three _ (bad-at (c .before .before .before .before .before .sort-at .ensures small) (c .before .e .given .1))
 
--- src/application.rt:61:9
 same-length-2 : tie.Need-same-length-2
 same-length-2 c = search needs
 
--- src/application.rt:61:9
 returns-5 : tie.Need-returns-5
 returns-5 c t us h =
     let n = node-list (c .before .before .before .before .before .before .before .before .before .before .before .before .before .before .before .before .before .before .before .before .before .before .before .before .before .before .args .tree .now) (c .before .before .before .before .before .before .before .before .before .before .before .before .before .before .before .before .before .before .before .before .before .before .before .before .before .before .args .at + 3) (c .before .before .before .before .before .before .before .before .before .before .before .before .before .before .before .before .before .before .before .before .before .before .node-at .ensures) (c .before .before .before .before .before .before .before .before .before .before .before .before .before .before .before .before .before .before .before .before .m .given .1) in
@@ -170,35 +136,27 @@ returns-5 c t us h =
     let small = third-small h n two js x three (λ i. c .before .before .before .before .before .before .before .before .before .before .before .before .before .before .before .before .before .before .before .before .before .before .before .before .shared-slice-known2 .given i .fits) in
     in-apply h n two js x three _ (c .before .before .before .before .before .before .before .before .before .before .put3 .ensures) (got-at (c .before .before .before .before .before .before .sort-at .ensures small) (c .before .before .u .given .1)) (c .before .before .before .before .before .before .before .before .before .before .before .before .before .before .before .before .words-at .ensures (head-spot h)) (c .wide .ensures .0)
 
--- src/application.rt:75:34
 sub-put3 : tie.Need-sub-put3
 sub-put3 c = omega (arith, ap-many (c .before .before .before .before .before .before .before .before .before .before .before .before .before .before .pre .listed))
 
--- src/application.rt:75:9
 put3-requires-2 : tie.Need-put3-requires-2
 put3-requires-2 c κs = omega (arith, ap-room (c .before .before .before .before .before .before .before .before .before .before .before .before .before .before .pre .listed))
 
--- src/application.rt:78:20
 sub-wide-2 : tie.Need-sub-wide-2
 sub-wide-2 c = omega (arith, ap-many (c .before .before .before .before .before .before .before .before .before .before .before .before .before .before .before .before .before .pre .listed))
 
--- src/application.rt:78:15
 wide-requires-2 : tie.Need-wide-requires-2
 wide-requires-2 c κs = search needs
 
--- src/application.rt:79:20
 sub-wide-3 : tie.Need-sub-wide-3
 sub-wide-3 c = omega (arith, ap-many (c .before .before .before .before .before .before .before .before .before .before .before .before .before .before .before .before .before .before .pre .listed))
 
--- src/application.rt:79:15
 wide-requires-3 : tie.Need-wide-requires-3
 wide-requires-3 c κs = search needs
 
--- src/application.rt:34:1
 same-length-3 : tie.Need-same-length-3
 same-length-3 c = search needs
 
--- src/application.rt:34:1
 returns-6 : tie.Need-returns-6
 returns-6 c t us h =
     let n = node-list (c .before .before .before .before .before .before .before .before .before .before .before .before .before .before .before .before .before .before .before .args .tree .now) (c .before .before .before .before .before .before .before .before .before .before .before .before .before .before .before .before .before .before .before .args .at + 3) (c .before .before .before .before .before .before .before .before .before .before .before .before .before .before .before .node-at .ensures) (c .before .before .before .before .before .before .before .before .before .before .before .before .before .m .given .1) in

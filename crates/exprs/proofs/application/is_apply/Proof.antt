@@ -6,60 +6,43 @@ use Rattle.exprs.proofs.Applied.{apply-other, apply-here, symbol-there}
 use borrow.Author.Needs.{needs}
 use Rattle.exprs.proofs.application.is_apply.Statement.{statement}
 use Rattle.exprs.proofs.application.is_apply.Tie as tie
-use Rattle.exprs.proofs.application.is_apply.Reads as reads
-use Rattle.exprs.proofs.application.is_apply.Lts as lts
-use Rattle.sorts.proofs.span.bytes_at.Reads as bytes-at-reads
-use Rattle.lexing.proofs.byte.same.Reads as same-reads
 
--- src/application.rt:27:8
 mul-if1 : tie.Need-mul-if1
 mul-if1 c = omega (arith, two-there (c .before .before .pre))
 
--- src/application.rt:27:8
 shared-slice-read-if1 : tie.Need-shared-slice-read-if1
 shared-slice-read-if1 c = omega (arith, two-there (c .before .before .before .pre))
 
--- src/application.rt:28:9
 returns : tie.Need-returns
 returns c p = apply-other (c .before .before .before .before .args .text .now) p (c .if1 .taken)
 
--- src/application.rt:30:30
 add-bytes-at : tie.Need-add-bytes-at
 add-bytes-at c = omega (arith, (symbol-there (c .before .before .before .before .args .text .now) (c .before .before .before .before .pre) (c .if1 .left)))
 
--- src/application.rt:30:25
 mul-bytes-at : tie.Need-mul-bytes-at
 mul-bytes-at c = omega (arith, (symbol-there (c .before .before .before .before .args .text .now) (c .before .before .before .before .pre) (c .if1 .left)))
 
--- src/application.rt:30:25
 shared-slice-read-bytes-at : tie.Need-shared-slice-read-bytes-at
 shared-slice-read-bytes-at c = omega (arith, (symbol-there (c .before .before .before .before .before .args .text .now) (c .before .before .before .before .before .pre) (c .before .if1 .left)))
 
--- src/application.rt:30:44
 add-bytes-at-2 : tie.Need-add-bytes-at-2
 add-bytes-at-2 c = omega (arith, (symbol-there (c .before .before .before .before .before .args .text .now) (c .before .before .before .before .before .pre) (c .before .if1 .left)))
 
--- src/application.rt:30:39
 mul-bytes-at-2 : tie.Need-mul-bytes-at-2
 mul-bytes-at-2 c = omega (arith, (symbol-there (c .before .before .before .before .before .args .text .now) (c .before .before .before .before .before .pre) (c .before .if1 .left)))
 
--- src/application.rt:30:39
 shared-slice-read-bytes-at-2 : tie.Need-shared-slice-read-bytes-at-2
 shared-slice-read-bytes-at-2 c = omega (arith, (symbol-there (c .before .before .before .before .before .before .args .text .now) (c .before .before .before .before .before .before .pre) (c .before .before .if1 .left)))
 
--- src/application.rt:30:10
 bytes-at-requires : tie.Need-bytes-at-requires
 bytes-at-requires c κs = search needs
 
--- src/application.rt:30:54
 slice-aggregate-same : tie.Need-slice-aggregate-same
 slice-aggregate-same c = search needs
 
--- src/application.rt:30:5
 same-requires : tie.Need-same-requires
 same-requires c κs = search needs
 
--- src/application.rt:23:1
 returns-2 : tie.Need-returns-2
 returns-2 c p = c .same .ensures ∙ ap (λ l. sameBytes l (ascii "apply")) (c .before .before .bytes-at .ensures) ∙ apply-here (c .before .before .before .before .before .before .before .before .before .args .text .now) p (c .before .before .before .before .before .if1 .left)
 

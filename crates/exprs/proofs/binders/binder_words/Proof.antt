@@ -9,15 +9,6 @@ use Rattle.atoms.proofs.Places.Spots.{spot-within}
 use Rattle.exprs.proofs.BinderPairs.{Numbering, numbering-start, numbering-end, numbering-bad, numbering-refused, numbering-more, binder-spot, binder-room, sort-small, sort-within}
 use Rattle.exprs.proofs.binders.binder_words.Statement.{statement}
 use Rattle.exprs.proofs.binders.binder_words.Tie as tie
-use Rattle.exprs.proofs.binders.binder_words.Reads as reads
-use Rattle.exprs.proofs.binders.binder_words.Lts as lts
-use Rattle.exprs.proofs.binders.is_pair.Reads as is-pair-reads
-use Rattle.atoms.proofs.expr_words.put2.Reads as put2-reads
-use Rattle.sorts.proofs.number.high.Reads as high-reads
-use Rattle.sorts.proofs.number.low.Reads as low-reads
-use Rattle.atoms.proofs.place.words_at.Reads as words-at-reads
-use Rattle.atoms.proofs.sort_at.sort_at.Reads as sort-at-reads
-use Rattle.std.proofs.num.wrapping_add_u64.Reads as wrapping-add-u64-reads
 
 abbrev Inv-loop : tie.InvT-loop
 Inv-loop text tree at n from out₀ w i₀ p₀ k₀ v₀ out i p k v = (length out ≡ length out₀) × ((h : BinderRow tree at n w) → Numbering text tree at n from w h out₀ out i p k v)
@@ -25,34 +16,27 @@ Inv-loop text tree at n from out₀ w i₀ p₀ k₀ v₀ out i p k v = (length 
 abbrev μ-loop : tie.MeasureT-loop
 μ-loop text tree at n from out₀ w i₀ p₀ k₀ v₀ out i p k v = n - i
 
--- src/binders.rt:49:5
 loop-holds : tie.Need-loop-holds Inv-loop μ-loop
 loop-holds c = (refl, λ h. numbering-start)
 
--- src/binders.rt:50:13
 is-pair-requires : tie.Need-is-pair-requires Inv-loop μ-loop
 is-pair-requires c κs = binder-spot (c .before .loop .inv .1 (c .before .before .before .before .before .pre)) (c .loop-test .taken)
 
--- src/binders.rt:51:13
 same-length : tie.Need-same-length Inv-loop μ-loop
 same-length c = search (needs, c .before .before .before .loop .inv .0)
 
--- src/binders.rt:51:13
 returns : tie.Need-returns Inv-loop μ-loop
 returns c h =
     let g = c .before .before .before .loop .inv .1 h in
     let l = c .before .before .loop-test .taken in
     numbering-bad g l (c .before .is-pair .ensures (binder-spot g l)) (not-true _ (c .if1 .taken))
 
--- src/binders.rt:53:30
 low-requires : tie.Need-low-requires Inv-loop μ-loop
 low-requires c κs = search needs
 
--- src/binders.rt:53:38
 high-requires : tie.Need-high-requires Inv-loop μ-loop
 high-requires c κs = search needs
 
--- src/binders.rt:53:13
 put2-requires : tie.Need-put2-requires Inv-loop μ-loop
 put2-requires c κs =
     let g = c .before .before .before .before .before .before .loop .inv .1 (c .before .before .before .before .before .before .before .before .before .before .pre) in
@@ -61,7 +45,6 @@ put2-requires c κs =
     let e = not-false (c .before .before .before .before .is-pair .result) (c .before .before .before .if1 .left) in
     omega (arith, binder-room g l x e)
 
--- src/binders.rt:54:35
 add-sort-at : tie.Need-add-sort-at Inv-loop μ-loop
 add-sort-at c =
     let g = c .before .before .before .before .before .before .before .before .before .loop .inv .1 (c .before .before .before .before .before .before .before .before .before .before .before .before .before .pre) in
@@ -70,7 +53,6 @@ add-sort-at c =
     let e = not-false (c .before .before .before .before .before .before .before .is-pair .result) (c .before .before .before .before .before .before .if1 .left) in
     omega (arith, sort-within g l x e)
 
--- src/binders.rt:54:15
 sort-at-requires : tie.Need-sort-at-requires Inv-loop μ-loop
 sort-at-requires c κs =
     let g = c .before .before .before .before .before .before .before .before .before .before .loop .inv .1 (c .before .before .before .before .before .before .before .before .before .before .before .before .before .before .pre) in
@@ -79,15 +61,12 @@ sort-at-requires c κs =
     let e = not-false (c .before .before .before .before .before .before .before .before .is-pair .result) (c .before .before .before .before .before .before .before .if1 .left) in
     (sort-small g l x e, omega (arith, binder-room g l x e, c .before .before .before .put2 .ensures .is))
 
--- src/binders.rt:55:29
 enum-known-e : tie.Need-enum-known-e Inv-loop μ-loop
 enum-known-e c = search needs
 
--- src/binders.rt:56:17
 same-length-2 : tie.Need-same-length-2 Inv-loop μ-loop
 same-length-2 c = search (needs, c .before .before .before .before .before .before .before .before .before .before .before .before .before .before .before .before .loop .inv .0)
 
--- src/binders.rt:56:17
 returns-2 : tie.Need-returns-2 Inv-loop μ-loop
 returns-2 c h =
     let g = c .before .before .before .before .before .before .before .before .before .before .before .before .before .before .before .before .loop .inv .1 h in
@@ -96,33 +75,26 @@ returns-2 c h =
     let e = not-false (c .before .before .before .before .before .before .before .before .before .before .before .before .before .before .is-pair .result) (c .before .before .before .before .before .before .before .before .before .before .before .before .before .if1 .left) in
     numbering-refused g l x e (c .before .before .before .before .before .before .before .before .before .before .before .low .ensures) (c .before .before .before .before .before .before .before .before .before .before .high .ensures) (c .before .before .before .before .before .before .before .before .before .put2 .ensures) (c .before .before .before .before .before .sort-at .ensures (sort-small g l x e)) (c .before .e .given .1)
 
--- src/binders.rt:58:26
 enum-known-x : tie.Need-enum-known-x Inv-loop μ-loop
 enum-known-x c = search needs
 
--- src/binders.rt:59:22
 words-at-requires : tie.Need-words-at-requires Inv-loop μ-loop
 words-at-requires c κs = binder-spot (c .before .before .before .before .before .before .before .before .before .before .before .before .before .before .before .before .loop .inv .1 (c .before .before .before .before .before .before .before .before .before .before .before .before .before .before .before .before .before .before .before .before .pre)) (c .before .before .before .before .before .before .before .before .before .before .before .before .before .before .before .loop-test .taken)
 
--- src/binders.rt:59:17
 add-p : tie.Need-add-p Inv-loop μ-loop
 add-p c =
     let p = binder-spot (c .before .before .before .before .before .before .before .before .before .before .before .before .before .before .before .before .before .loop .inv .1 (c .before .before .before .before .before .before .before .before .before .before .before .before .before .before .before .before .before .before .before .before .before .pre)) (c .before .before .before .before .before .before .before .before .before .before .before .before .before .before .before .before .loop-test .taken) in
     omega (arith, c .words-at .ensures p, spot-within p)
 
--- src/binders.rt:60:17
 wrapping-add-u64-requires : tie.Need-wrapping-add-u64-requires Inv-loop μ-loop
 wrapping-add-u64-requires c κs = search needs
 
--- src/binders.rt:62:17
 add-i : tie.Need-add-i Inv-loop μ-loop
 add-i c = omega arith
 
--- src/binders.rt:49:5
 loop-less : tie.Need-loop-less Inv-loop μ-loop
 loop-less c = omega (arith, c .before .before .before .before .before .before .before .before .before .before .before .before .before .before .before .before .before .loop-test .taken)
 
--- src/binders.rt:49:5
 loop-again : tie.Need-loop-again Inv-loop μ-loop
 loop-again c = (
   search (needs, c .before .before .before .before .before .before .before .before .before .before .before .before .before .before .before .before .before .before .loop .inv .0),
@@ -134,11 +106,9 @@ loop-again c = (
       numbering-more g l x e (c .before .before .before .before .before .before .before .before .before .before .before .before .before .low .ensures) (c .before .before .before .before .before .before .before .before .before .before .before .before .high .ensures) (c .before .before .before .before .before .before .before .before .before .before .before .put2 .ensures) (c .before .before .before .before .before .before .before .sort-at .ensures (sort-small g l x e)) (c .before .before .before .x .given .1) (c .wrapping-add-u64 .ensures) (c .before .words-at .ensures (binder-spot g l))),
 )
 
--- src/binders.rt:33:1
 same-length-3 : tie.Need-same-length-3 Inv-loop μ-loop
 same-length-3 c = search (needs, c .before .loop .inv .0)
 
--- src/binders.rt:33:1
 returns-3 : tie.Need-returns-3 Inv-loop μ-loop
 returns-3 c h = numbering-end (c .before .loop .inv .1 h) (c .loop-test .left)
 

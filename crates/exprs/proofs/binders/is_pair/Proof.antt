@@ -3,50 +3,37 @@ use Rattle.atoms.proofs.Places.Spots.{two-there}
 use Rattle.exprs.proofs.BinderPairs.{pair-atom, pair-count, pair-there, pair-name}
 use Rattle.exprs.proofs.binders.is_pair.Statement.{statement}
 use Rattle.exprs.proofs.binders.is_pair.Tie as tie
-use Rattle.exprs.proofs.binders.is_pair.Reads as reads
-use Rattle.exprs.proofs.binders.is_pair.Lts as lts
 
--- src/binders.rt:23:8
 mul-if1 : tie.Need-mul-if1
 mul-if1 c = omega (arith, two-there (c .pre))
 
--- src/binders.rt:23:8
 shared-slice-read-if1 : tie.Need-shared-slice-read-if1
 shared-slice-read-if1 c = omega (arith, two-there (c .before .pre))
 
--- src/binders.rt:24:9
 returns : tie.Need-returns
 returns c p = pair-atom p (c .if1 .taken)
 
--- src/binders.rt:26:13
 add-if2 : tie.Need-add-if2
 add-if2 c = omega (arith, two-there (c .before .before .pre))
 
--- src/binders.rt:26:8
 mul-if2 : tie.Need-mul-if2
 mul-if2 c = omega (arith, two-there (c .before .before .pre))
 
--- src/binders.rt:26:8
 shared-slice-read-if2 : tie.Need-shared-slice-read-if2
 shared-slice-read-if2 c = omega (arith, two-there (c .before .before .before .pre))
 
--- src/binders.rt:27:9
 returns-2 : tie.Need-returns-2
 returns-2 c p = pair-count p (c .before .before .if1 .left) (c .if2 .taken)
 
--- src/binders.rt:29:10
 add-result : tie.Need-add-result
 add-result c = omega (arith, pair-there (c .before .before .before .before .pre) (c .before .before .if1 .left) (c .if2 .left))
 
--- src/binders.rt:29:5
 mul-result : tie.Need-mul-result
 mul-result c = omega (arith, pair-there (c .before .before .before .before .pre) (c .before .before .if1 .left) (c .if2 .left))
 
--- src/binders.rt:29:5
 shared-slice-read-result : tie.Need-shared-slice-read-result
 shared-slice-read-result c = omega (arith, pair-there (c .before .before .before .before .before .pre) (c .before .before .before .if1 .left) (c .before .if2 .left))
 
--- src/binders.rt:19:1
 returns-3 : tie.Need-returns-3
 returns-3 c p = pair-name p (c .before .before .before .if1 .left) (c .before .if2 .left)
 

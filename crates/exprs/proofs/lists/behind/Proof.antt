@@ -5,23 +5,16 @@ use Rattle.exprs.specs.declared.plan.Plan.the-variants.{Go}
 use borrow.Author.Needs.{needs}
 use Rattle.exprs.proofs.lists.behind.Statement.{statement}
 use Rattle.exprs.proofs.lists.behind.Tie as tie
-use Rattle.exprs.proofs.lists.behind.Reads as reads
-use Rattle.exprs.proofs.lists.behind.Lts as lts
-use Rattle.sorts.proofs.number.wide.Reads as wide-reads
 
--- src/lists.rt:38:16
 add-t5 : tie.Need-add-t5
 add-t5 c = search needs
 
--- src/lists.rt:39:20
 sub-wide : tie.Need-sub-wide
 sub-wide c = search needs
 
--- src/lists.rt:39:15
 wide-requires : tie.Need-wide-requires
 wide-requires c κs = search needs
 
--- src/lists.rt:33:1
 returns : tie.Need-returns
 returns c = ap (λ k. Go (record { first = c .before .args .at + 6; have = k; want = c .before .args .want; last = 0; plain = false; names = 0; fresh = 0; words = c .before .args .words })) (c .wide .ensures .0)
 

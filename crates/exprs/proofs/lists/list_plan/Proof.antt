@@ -4,60 +4,43 @@ use Rattle.exprs.proofs.ListPlans.{list-within, first-there, some-heade
 use borrow.Author.Needs.{needs}
 use Rattle.exprs.proofs.lists.list_plan.Statement.{statement}
 use Rattle.exprs.proofs.lists.list_plan.Tie as tie
-use Rattle.exprs.proofs.lists.list_plan.Reads as reads
-use Rattle.exprs.proofs.lists.list_plan.Lts as lts
-use Rattle.exprs.proofs.application.app_plan.Reads as app-plan-reads
-use Rattle.exprs.proofs.lists.named_plan.Reads as named-plan-reads
 
--- src/lists.rt:128:13
 add-if1 : tie.Need-add-if1
 add-if1 c = omega (arith, list-within (c .before .before .before .pre .listed))
 
--- src/lists.rt:128:8
 mul-if1 : tie.Need-mul-if1
 mul-if1 c = omega (arith, list-within (c .before .before .before .pre .listed))
 
--- src/lists.rt:128:8
 shared-slice-read-if1 : tie.Need-shared-slice-read-if1
 shared-slice-read-if1 c = omega (arith, list-within (c .before .before .before .before .pre .listed))
 
--- src/lists.rt:129:9
 returns : tie.Need-returns
 returns c items h = read-none _ _ _ _ _ _ _ _ (Stop 8) items h (c .if1 .taken)
 
--- src/lists.rt:131:13
 add-if2 : tie.Need-add-if2
 add-if2 c = omega (arith, first-there (c .before .before .before .before .before .pre .items) (c .before .before .before .before .before .pre .listed) (c .if1 .left))
 
--- src/lists.rt:131:8
 mul-if2 : tie.Need-mul-if2
 mul-if2 c = omega (arith, first-there (c .before .before .before .before .before .pre .items) (c .before .before .before .before .before .pre .listed) (c .if1 .left))
 
--- src/lists.rt:131:8
 shared-slice-read-if2 : tie.Need-shared-slice-read-if2
 shared-slice-read-if2 c = omega (arith, first-there (c .before .before .before .before .before .before .pre .items) (c .before .before .before .before .before .before .pre .listed) (c .before .if1 .left))
 
--- src/lists.rt:132:9
 named-plan-requires : tie.Need-named-plan-requires
 named-plan-requires c κs = some-headed (c .before .before .before .before .before .before .before .before .pre .items) (c .before .before .before .before .before .before .before .before .pre .listed) (c .before .before .before .if1 .left) (c .before .if2 .taken)
 
--- src/lists.rt:132:9
 same-length : tie.Need-same-length
 same-length c = search needs
 
--- src/lists.rt:132:9
 returns-2 : tie.Need-returns-2
 returns-2 c items h = read-named _ _ _ _ _ _ _ _ (c .before .before .named-plan .result) items h (c .before .before .before .before .before .before .if1 .left) (c .before .before .before .before .if2 .taken) (c .before .before .named-plan .ensures)
 
--- src/lists.rt:134:5
 app-plan-requires : tie.Need-app-plan-requires
 app-plan-requires c κs = some-filled (c .before .before .before .before .before .before .before .before .pre .items) (c .before .before .before .before .before .before .before .before .pre .listed) (c .before .before .before .if1 .left)
 
--- src/lists.rt:116:1
 same-length-2 : tie.Need-same-length-2
 same-length-2 c = search needs
 
--- src/lists.rt:116:1
 returns-3 : tie.Need-returns-3
 returns-3 c items h = read-applied _ _ _ _ _ _ _ _ (c .before .before .app-plan .result) items h (c .before .before .before .before .before .before .if1 .left) (c .before .before .before .before .if2 .left) (c .before .before .app-plan .ensures)
 

@@ -6,101 +6,73 @@ use Rattle.exprs.proofs.LitPlans.{width-atom, width-other, width-first,
 use borrow.Author.Needs.{needs}
 use Rattle.exprs.proofs.lits.width_at.Statement.{statement}
 use Rattle.exprs.proofs.lits.width_at.Tie as tie
-use Rattle.exprs.proofs.lits.width_at.Reads as reads
-use Rattle.exprs.proofs.lits.width_at.Lts as lts
-use Rattle.sorts.proofs.names.size_named.Reads as size-named-reads
-use Rattle.atoms.proofs.place.words_at.Reads as words-at-reads
-use Rattle.sorts.proofs.span.bytes_at.Reads as bytes-at-reads
 
--- src/lits.rt:31:8
 mul-if1 : tie.Need-mul-if1
 mul-if1 c = omega (arith, two-there (c .before .before .pre))
 
--- src/lits.rt:31:8
 shared-slice-read-if1 : tie.Need-shared-slice-read-if1
 shared-slice-read-if1 c = omega (arith, two-there (c .before .before .before .pre))
 
--- src/lits.rt:32:9
 returns : tie.Need-returns
 returns c p = width-atom _ p (c .if1 .taken)
 
--- src/lits.rt:34:13
 add-if2 : tie.Need-add-if2
 add-if2 c = omega (arith, two-there (c .before .before .before .before .pre))
 
--- src/lits.rt:34:8
 mul-if2 : tie.Need-mul-if2
 mul-if2 c = omega (arith, two-there (c .before .before .before .before .pre))
 
--- src/lits.rt:34:8
 shared-slice-read-if2 : tie.Need-shared-slice-read-if2
 shared-slice-read-if2 c = omega (arith, two-there (c .before .before .before .before .before .pre))
 
--- src/lits.rt:35:9
 returns-2 : tie.Need-returns-2
 returns-2 c p = width-other _ p (c .before .before .if1 .left) (c .if2 .taken)
 
--- src/lits.rt:37:16
 add-size : tie.Need-add-size
 add-size c = omega (arith, two-there (lead-spot (width-first (c .before .before .before .before .before .before .args .text .now) (c .before .before .before .before .before .before .pre) (c .before .before .if1 .left) (c .if2 .left))))
 
--- src/lits.rt:37:40
 add-words-at : tie.Need-add-words-at
 add-words-at c = omega (arith, two-there (lead-spot (width-first (c .before .before .before .before .before .before .args .text .now) (c .before .before .before .before .before .before .pre) (c .before .before .if1 .left) (c .if2 .left))))
 
--- src/lits.rt:37:25
 words-at-requires : tie.Need-words-at-requires
 words-at-requires c κs = lead-spot (width-first (c .before .before .before .before .before .before .args .text .now) (c .before .before .before .before .before .before .pre) (c .before .before .if1 .left) (c .if2 .left))
 
--- src/lits.rt:37:16
 add-size-2 : tie.Need-add-size-2
 add-size-2 c = omega (arith, two-there (lead-spot (width-second (c .before .before .before .before .before .before .before .args .text .now) (c .before .before .before .before .before .before .before .pre) (c .before .before .before .if1 .left) (c .before .if2 .left) (c .words-at .ensures (lead-spot (width-first (c .before .before .before .before .before .before .before .args .text .now) (c .before .before .before .before .before .before .before .pre) (c .before .before .before .if1 .left) (c .before .if2 .left)))))))
 
--- src/lits.rt:38:8
 mul-if3 : tie.Need-mul-if3
 mul-if3 c = omega (arith, two-there (lead-spot (width-second (c .before .before .before .before .before .before .before .args .text .now) (c .before .before .before .before .before .before .before .pre) (c .before .before .before .if1 .left) (c .before .if2 .left) (c .words-at .ensures (lead-spot (width-first (c .before .before .before .before .before .before .before .args .text .now) (c .before .before .before .before .before .before .before .pre) (c .before .before .before .if1 .left) (c .before .if2 .left)))))))
 
--- src/lits.rt:38:8
 shared-slice-read-if3 : tie.Need-shared-slice-read-if3
 shared-slice-read-if3 c = omega (arith, two-there (lead-spot (width-second (c .before .before .before .before .before .before .before .before .args .text .now) (c .before .before .before .before .before .before .before .before .pre) (c .before .before .before .before .if1 .left) (c .before .before .if2 .left) (c .before .words-at .ensures (lead-spot (width-first (c .before .before .before .before .before .before .before .before .args .text .now) (c .before .before .before .before .before .before .before .before .pre) (c .before .before .before .before .if1 .left) (c .before .before .if2 .left)))))))
 
--- src/lits.rt:39:9
 returns-3 : tie.Need-returns-3
 returns-3 c p = width-unnamed _ p (c .before .before .before .before .before .if1 .left) (c .before .before .before .if2 .left) (c .before .before .words-at .ensures (lead-spot (width-first (c .before .before .before .before .before .before .before .before .before .args .text .now) (p) (c .before .before .before .before .before .if1 .left) (c .before .before .before .if2 .left)))) (c .if3 .taken)
 
--- src/lits.rt:41:36
 add-bytes-at : tie.Need-add-bytes-at
 add-bytes-at c = omega (arith, two-there (lead-spot (width-second (c .before .before .before .before .before .before .before .before .before .args .text .now) (c .before .before .before .before .before .before .before .before .before .pre) (c .before .before .before .before .before .if1 .left) (c .before .before .before .if2 .left) (c .before .before .words-at .ensures (lead-spot (width-first (c .before .before .before .before .before .before .before .before .before .args .text .now) (c .before .before .before .before .before .before .before .before .before .pre) (c .before .before .before .before .before .if1 .left) (c .before .before .before .if2 .left)))))))
 
--- src/lits.rt:41:31
 mul-bytes-at : tie.Need-mul-bytes-at
 mul-bytes-at c = omega (arith, two-there (lead-spot (width-second (c .before .before .before .before .before .before .before .before .before .args .text .now) (c .before .before .before .before .before .before .before .before .before .pre) (c .before .before .before .before .before .if1 .left) (c .before .before .before .if2 .left) (c .before .before .words-at .ensures (lead-spot (width-first (c .before .before .before .before .before .before .before .before .before .args .text .now) (c .before .before .before .before .before .before .before .before .before .pre) (c .before .before .before .before .before .if1 .left) (c .before .before .before .if2 .left)))))))
 
--- src/lits.rt:41:31
 shared-slice-read-bytes-at : tie.Need-shared-slice-read-bytes-at
 shared-slice-read-bytes-at c = omega (arith, two-there (lead-spot (width-second (c .before .before .before .before .before .before .before .before .before .before .args .text .now) (c .before .before .before .before .before .before .before .before .before .before .pre) (c .before .before .before .before .before .before .if1 .left) (c .before .before .before .before .if2 .left) (c .before .before .before .words-at .ensures (lead-spot (width-first (c .before .before .before .before .before .before .before .before .before .before .args .text .now) (c .before .before .before .before .before .before .before .before .before .before .pre) (c .before .before .before .before .before .before .if1 .left) (c .before .before .before .before .if2 .left)))))))
 
--- src/lits.rt:41:52
 add-bytes-at-2 : tie.Need-add-bytes-at-2
 add-bytes-at-2 c = omega (arith, three-there (lead-spot (width-second (c .before .before .before .before .before .before .before .before .before .before .args .text .now) (c .before .before .before .before .before .before .before .before .before .before .pre) (c .before .before .before .before .before .before .if1 .left) (c .before .before .before .before .if2 .left) (c .before .before .before .words-at .ensures (lead-spot (width-first (c .before .before .before .before .before .before .before .before .before .before .args .text .now) (c .before .before .before .before .before .before .before .before .before .before .pre) (c .before .before .before .before .before .before .if1 .left) (c .before .before .before .before .if2 .left)))))) (λ e. omega (arith, c .before .if3 .left)))
 
--- src/lits.rt:41:47
 mul-bytes-at-2 : tie.Need-mul-bytes-at-2
 mul-bytes-at-2 c = omega (arith, three-there (lead-spot (width-second (c .before .before .before .before .before .before .before .before .before .before .args .text .now) (c .before .before .before .before .before .before .before .before .before .before .pre) (c .before .before .before .before .before .before .if1 .left) (c .before .before .before .before .if2 .left) (c .before .before .before .words-at .ensures (lead-spot (width-first (c .before .before .before .before .before .before .before .before .before .before .args .text .now) (c .before .before .before .before .before .before .before .before .before .before .pre) (c .before .before .before .before .before .before .if1 .left) (c .before .before .before .before .if2 .left)))))) (λ e. omega (arith, c .before .if3 .left)))
 
--- src/lits.rt:41:47
 shared-slice-read-bytes-at-2 : tie.Need-shared-slice-read-bytes-at-2
 shared-slice-read-bytes-at-2 c = omega (arith, three-there (lead-spot (width-second (c .before .before .before .before .before .before .before .before .before .before .before .args .text .now) (c .before .before .before .before .before .before .before .before .before .before .before .pre) (c .before .before .before .before .before .before .before .if1 .left) (c .before .before .before .before .before .if2 .left) (c .before .before .before .before .words-at .ensures (lead-spot (width-first (c .before .before .before .before .before .before .before .before .before .before .before .args .text .now) (c .before .before .before .before .before .before .before .before .before .before .before .pre) (c .before .before .before .before .before .before .before .if1 .left) (c .before .before .before .before .before .if2 .left)))))) (λ e. omega (arith, c .before .before .if3 .left)))
 
--- src/lits.rt:41:16
 bytes-at-requires : tie.Need-bytes-at-requires
 bytes-at-requires c κs = search needs
 
--- src/lits.rt:41:5
 size-named-requires : tie.Need-size-named-requires
 size-named-requires c κs = search needs
 
--- src/lits.rt:27:1
 returns-4 : tie.Need-returns-4
 returns-4 c p = width-named _ p (c .before .before .before .before .before .before .before .before .before .if1 .left) (c .before .before .before .before .before .before .before .if2 .left) (c .before .before .before .before .before .before .words-at .ensures (lead-spot (width-first (c .before .before .before .before .before .before .before .before .before .before .before .before .before .args .text .now) (p) (c .before .before .before .before .before .before .before .before .before .if1 .left) (c .before .before .before .before .before .before .before .if2 .left)))) (c .size-named .result) (c .before .before .before .before .if3 .left) (c .before .bytes-at .ensures) (c .size-named .ensures)
 

@@ -3,32 +3,22 @@ use Rattle.parse.proofs.Ended.{closed}
 use borrow.Author.Needs.{needs}
 use Rattle.flatten.proofs.operation.solution.Statement.{statement}
 use Rattle.flatten.proofs.operation.solution.Tie as tie
-use Rattle.flatten.proofs.operation.solution.Reads as reads
-use Rattle.flatten.proofs.operation.solution.Lts as lts
-use Rattle.flatten.proofs.operation.attempt_solution.Reads as attempt-solution-reads
-use Rattle.parse.proofs.ending.close.Reads as close-reads
 
--- src/operation.rt:86:9
 attempt-solution-requires : tie.Need-attempt-solution-requires
 attempt-solution-requires c κs = search needs
 
--- src/operation.rt:87:5
 close-requires : tie.Need-close-requires
 close-requires c κs = search needs
 
--- src/operation.rt:74:1
 same-length : tie.Need-same-length
 same-length c = search needs
 
--- src/operation.rt:74:1
 same-length-2 : tie.Need-same-length-2
 same-length-2 c = search needs
 
--- src/operation.rt:74:1
 same-length-3 : tie.Need-same-length-3
 same-length-3 c = search needs
 
--- src/operation.rt:74:1
 returns : tie.Need-returns
 returns c =
     let a = c .before .before .before .before .before .before .before .before .before .before .before .before .before .attempt-solution .ensures in

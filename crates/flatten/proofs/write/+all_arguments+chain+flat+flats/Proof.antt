@@ -91,178 +91,136 @@ flat-claims t = (head-reads.Asked, head-reads.Learnt, copy-reads.Asked, copy-rea
 abbrev flats-claims : ℕ → flats-lts.Claims
 flats-claims t = (flat-below t, flat.Post)
 
--- src/write.rt:171:20
 all-arguments-exprs-end-requires : (t : ℕ) → all-arguments-lts.Need-exprs-end-requires (all-arguments-claims t) (all-arguments-at t) all-arguments.Post
 all-arguments-exprs-end-requires t c κs = search needs
 
--- src/write.rt:171:9
 all-arguments-behind-requires : (t : ℕ) → all-arguments-lts.Need-behind-requires (all-arguments-claims t) (all-arguments-at t) all-arguments.Post
 all-arguments-behind-requires t c κs = search needs
 
--- src/write.rt:172:20
 all-arguments-out-sort-requires : (t : ℕ) → all-arguments-lts.Need-out-sort-requires (all-arguments-claims t) (all-arguments-at t) all-arguments.Post
 all-arguments-out-sort-requires t c κs = search needs
 
--- src/write.rt:172:9
 all-arguments-behind-requires-2 : (t : ℕ) → all-arguments-lts.Need-behind-requires-2 (all-arguments-claims t) (all-arguments-at t) all-arguments.Post
 all-arguments-behind-requires-2 t c κs = search needs
 
--- src/write.rt:173:9
 all-arguments-chain-requires : (t : ℕ) → all-arguments-lts.Need-chain-requires (all-arguments-claims t) (all-arguments-at t) all-arguments.Post
 all-arguments-chain-requires t c κs = search needs
 
--- src/write.rt:174:9
 all-arguments-flats-requires : (t : ℕ) → all-arguments-lts.Need-flats-requires (all-arguments-claims t) (all-arguments-at t) all-arguments.Post
 all-arguments-flats-requires t c κs = search needs
 
--- src/write.rt:178:16
 all-arguments-added-requires : (t : ℕ) → all-arguments-lts.Need-added-requires (all-arguments-claims t) (all-arguments-at t) all-arguments.Post
 all-arguments-added-requires t c κs = c .before .before .before .before .before .before .chain .ensures .0 .1
 
--- src/write.rt:159:1
 all-arguments-same-length : (t : ℕ) → all-arguments-lts.Need-same-length (all-arguments-claims t) (all-arguments-at t) all-arguments.Post
 all-arguments-same-length t c = search needs
 
--- src/write.rt:159:1
 all-arguments-returns : (t : ℕ) → all-arguments-lts.Need-returns (all-arguments-claims t) (all-arguments-at t) all-arguments.Post
 all-arguments-returns t c = (
   (c .before .before .before .before .before .before .before .chain .ensures .0 .0, omega (arith, c .added .ensures)),
   arguments-joined _ _ _ _ _ _ _ (c .before .before .before .before .before .before .before .before .before .before .before .before .exprs-end .ensures) (c .before .before .before .before .before .before .before .before .before .before .before .behind .ensures) (c .before .before .before .before .before .before .before .before .before .before .out-sort .ensures) (c .before .before .before .before .before .before .before .before .before .behind2 .ensures) (c .before .before .before .before .before .before .before .chain .ensures .1) (c .before .before .before .flats .ensures) refl refl (c .added .ensures) refl refl refl,
 )
 
--- src/write.rt:191:9
 chain-lone-requires : (t : ℕ) → chain-lts.Need-lone-requires (chain-claims t) (chain-at t) chain.Post
 chain-lone-requires t c κs = search needs
 
--- src/write.rt:191:9
 chain-returns : (t : ℕ) → chain-lts.Need-returns (chain-claims t) (chain-at t) chain.Post
 chain-returns t c = ((omega (arith, c .lone .ensures .1), omega (arith, c .lone .ensures .2)), chain-no-room _ _ _ _ _ (c .before .if1 .taken))
 
--- src/write.rt:193:11
 chain-head-requires : (t : ℕ) → chain-lts.Need-head-requires (chain-claims t) (chain-at t) chain.Post
 chain-head-requires t c κs = search needs
 
--- src/write.rt:194:35
 chain-enum-told : (t : ℕ) → chain-lts.Need-enum-told (chain-claims t) (chain-at t) chain.Post
 chain-enum-told t c = search needs
 
--- src/write.rt:194:35
 chain-lone-requires-2 : (t : ℕ) → chain-lts.Need-lone-requires-2 (chain-claims t) (chain-at t) chain.Post
 chain-lone-requires-2 t c κs = search needs
 
--- src/write.rt:195:27
 chain-enum-known-a : (t : ℕ) → chain-lts.Need-enum-known-a (chain-claims t) (chain-at t) chain.Post
 chain-enum-known-a t c = search needs
 
--- src/write.rt:195:75
 chain-sub-all-arguments : (t : ℕ) → chain-lts.Need-sub-all-arguments (chain-claims t) (chain-at t) chain.Post
 chain-sub-all-arguments t c = search needs
 
--- src/write.rt:195:42
 chain-all-arguments-requires : (t : ℕ) → chain-lts.Need-all-arguments-requires (chain-claims t) (chain-at t) chain.Post
 chain-all-arguments-requires t c κs = search needs
 
--- src/write.rt:196:26
 chain-enum-told-2 : (t : ℕ) → chain-lts.Need-enum-told-2 (chain-claims t) (chain-at t) chain.Post
 chain-enum-told-2 t c = search needs
 
--- src/write.rt:196:26
 chain-lone-requires-3 : (t : ℕ) → chain-lts.Need-lone-requires-3 (chain-claims t) (chain-at t) chain.Post
 chain-lone-requires-3 t c κs = search needs
 
--- src/write.rt:186:1
 chain-returns-2 : (t : ℕ) → chain-lts.Need-returns-2 (chain-claims t) (chain-at t) chain.Post
 chain-returns-2 t c =
     let e = c .lone2 .ensures in
     ((omega (arith, e .1), omega (arith, e .2)), chain-lone _ _ _ _ _ (c .before .before .before .before .if1 .left) (sym (c .before .enum-told .given .1) ∙ c .before .before .before .head .ensures) (e .0) (e .1) (e .2) (e .3))
 
--- src/write.rt:186:1
 chain-same-length : (t : ℕ) → chain-lts.Need-same-length (chain-claims t) (chain-at t) chain.Post
 chain-same-length t c = search needs
 
--- src/write.rt:186:1
 chain-returns-3 : (t : ℕ) → chain-lts.Need-returns-3 (chain-claims t) (chain-at t) chain.Post
 chain-returns-3 t c = ((omega (arith, c .before .before .all-arguments .ensures .0 .0), c .before .before .all-arguments .ensures .0 .1), chain-on _ _ _ _ _ (c .before .before .before .before .before .before .before .before .if1 .left) (sym (c .before .before .before .before .before .a .given .1) ∙ c .before .before .before .before .before .before .before .head .ensures) (c .before .before .all-arguments .ensures .1))
 
--- src/write.rt:186:1
 chain-returns-4 : (t : ℕ) → chain-lts.Need-returns-4 (chain-claims t) (chain-at t) chain.Post
 chain-returns-4 t c =
     let e = c .lone3 .ensures in
     ((omega (arith, e .1), omega (arith, e .2)), chain-no-header _ _ _ _ _ (c .before .before .before .before .if1 .left) (sym (c .before .enum-told2 .given .1) ∙ c .before .before .before .head .ensures))
 
--- src/write.rt:118:9
 flat-returns : (t : ℕ) → flat-lts.Need-returns (flat-claims t) (flat-at t) flat.Post
 flat-returns t c = flat-no-room _ _ _ _ _ (c .if1 .taken)
 
--- src/write.rt:123:11
 flat-head-requires : (t : ℕ) → flat-lts.Need-head-requires (flat-claims t) (flat-at t) flat.Post
 flat-head-requires t c κs = search needs
 
--- src/write.rt:124:26
 flat-enum-known-a : (t : ℕ) → flat-lts.Need-enum-known-a (flat-claims t) (flat-at t) flat.Post
 flat-enum-known-a t c = search needs
 
--- src/write.rt:125:17
 flat-copy-requires : (t : ℕ) → flat-lts.Need-copy-requires (flat-claims t) (flat-at t) flat.Post
 flat-copy-requires t c κs = search needs
 
--- src/write.rt:126:32
 flat-sub-flats : (t : ℕ) → flat-lts.Need-sub-flats (flat-claims t) (flat-at t) flat.Post
 flat-sub-flats t c = search needs
 
--- src/write.rt:126:13
 flat-flats-requires : (t : ℕ) → flat-lts.Need-flats-requires (flat-claims t) (flat-at t) flat.Post
 flat-flats-requires t c κs = search needs
 
--- src/write.rt:128:27
 flat-enum-known-a-2 : (t : ℕ) → flat-lts.Need-enum-known-a-2 (flat-claims t) (flat-at t) flat.Post
 flat-enum-known-a-2 t c = search needs
 
--- src/write.rt:129:17
 flat-copy-requires-2 : (t : ℕ) → flat-lts.Need-copy-requires-2 (flat-claims t) (flat-at t) flat.Post
 flat-copy-requires-2 t c κs = search needs
 
--- src/write.rt:130:54
 flat-sub-all-arguments : (t : ℕ) → flat-lts.Need-sub-all-arguments (flat-claims t) (flat-at t) flat.Post
 flat-sub-all-arguments t c = search needs
 
--- src/write.rt:130:17
 flat-all-arguments-requires : (t : ℕ) → flat-lts.Need-all-arguments-requires (flat-claims t) (flat-at t) flat.Post
 flat-all-arguments-requires t c κs = search needs
 
--- src/write.rt:131:17
 flat-patch-requires : (t : ℕ) → flat-lts.Need-patch-requires (flat-claims t) (flat-at t) flat.Post
 flat-patch-requires t c κs = search needs
 
--- src/write.rt:132:17
 flat-copy-requires-3 : (t : ℕ) → flat-lts.Need-copy-requires-3 (flat-claims t) (flat-at t) flat.Post
 flat-copy-requires-3 t c κs = search needs
 
--- src/write.rt:133:13
 flat-flat-requires : (t : ℕ) → flat-lts.Need-flat-requires (flat-claims t) (flat-at t) flat.Post
 flat-flat-requires t c κs = omega (arith, c .before .before .before .before .before .before .before .before .before .before .before .all-arguments .ensures .0 .0, c .before .before .before .before .before .before .before .before .before .before .before .before .before .before .before .before .before .before .before .before .before .before .before .before .pre .0, c .before .before .before .before .before .before .before .before .before .before .before .before .before .before .before .before .before .before .before .before .before .if1 .left)
 
--- src/write.rt:135:26
 flat-enum-told : (t : ℕ) → flat-lts.Need-enum-told (flat-claims t) (flat-at t) flat.Post
 flat-enum-told t c = search needs
 
--- src/write.rt:114:1
 flat-same-length : (t : ℕ) → flat-lts.Need-same-length (flat-claims t) (flat-at t) flat.Post
 flat-same-length t c = search needs
 
--- src/write.rt:114:1
 flat-returns-2 : (t : ℕ) → flat-lts.Need-returns-2 (flat-claims t) (flat-at t) flat.Post
 flat-returns-2 t c = flat-operands _ _ _ _ _ (c .before .before .before .before .before .before .before .before .before .before .before .before .if1 .left) (λ i h. c .before .before .before .before .before .before .before .before .before .before .before .before .before .before .shared-slice-known .given i .fits) (omega arith) (sym (c .before .before .before .before .before .before .before .before .before .a .given .1) ∙ c .before .before .before .before .before .before .before .before .before .before .before .head .ensures) (c .before .before .before .before .before .before .copy .ensures) (c .before .before .flats .ensures)
 
--- src/write.rt:114:1
 flat-same-length-2 : (t : ℕ) → flat-lts.Need-same-length-2 (flat-claims t) (flat-at t) flat.Post
 flat-same-length-2 t c = search needs
 
--- src/write.rt:114:1
 flat-returns-3 : (t : ℕ) → flat-lts.Need-returns-3 (flat-claims t) (flat-at t) flat.Post
 flat-returns-3 t c = flat-arguments _ _ _ _ _ (c .before .before .before .before .before .before .before .before .before .before .before .before .before .before .before .before .before .before .before .before .before .before .before .before .if1 .left) (λ i h. c .before .before .before .before .before .before .before .before .before .before .before .before .before .before .before .before .before .before .before .before .before .before .before .before .before .before .shared-slice-known .given i .fits) (sym (c .before .before .before .before .before .before .before .before .before .before .before .before .before .before .before .before .before .before .before .before .before .a2 .given .1) ∙ c .before .before .before .before .before .before .before .before .before .before .before .before .before .before .before .before .before .before .before .before .before .before .before .head .ensures) (c .before .before .before .before .before .before .before .before .before .before .before .before .before .before .before .before .before .before .copy2 .ensures) (c .before .before .before .before .before .before .before .before .before .before .before .before .before .before .all-arguments .ensures .1) (c .before .before .before .before .before .before .before .before .before .before .patch .ensures) (c .before .before .before .before .before .before .copy3 .ensures) (c .before .before .flat .ensures)
 
--- src/write.rt:114:1
 flat-returns-4 : (t : ℕ) → flat-lts.Need-returns-4 (flat-claims t) (flat-at t) flat.Post
 flat-returns-4 t c = flat-no-header _ _ _ _ _ (c .before .before .before .if1 .left) (sym (c .enum-told .given .1) ∙ c .before .before .head .ensures)
 
@@ -272,31 +230,24 @@ flats-Inv-loop words at n room out₀ place a₀ p₀ i₀ out a p i = (length o
 abbrev flats-μ-loop : flats-lts.MeasureT-loop
 flats-μ-loop words at n room out₀ place a₀ p₀ i₀ out a p i = i
 
--- src/write.rt:149:5
 flats-loop-holds : (t : ℕ) → flats-lts.Need-loop-holds (flats-claims t) (flats-at t) flats.Post flats-Inv-loop flats-μ-loop
 flats-loop-holds t c = (refl, λ es m s. exprs-all es m s)
 
--- src/write.rt:150:13
 flats-flat-requires : (t : ℕ) → flats-lts.Need-flat-requires (flats-claims t) (flats-at t) flats.Post flats-Inv-loop flats-μ-loop
 flats-flat-requires t c κs = search needs
 
--- src/write.rt:153:9
 flats-sub-i : (t : ℕ) → flats-lts.Need-sub-i (flats-claims t) (flats-at t) flats.Post flats-Inv-loop flats-μ-loop
 flats-sub-i t c = search needs
 
--- src/write.rt:149:5
 flats-loop-less : (t : ℕ) → flats-lts.Need-loop-less (flats-claims t) (flats-at t) flats.Post flats-Inv-loop flats-μ-loop
 flats-loop-less t c = search needs
 
--- src/write.rt:149:5
 flats-loop-again : (t : ℕ) → flats-lts.Need-loop-again (flats-claims t) (flats-at t) flats.Post flats-Inv-loop flats-μ-loop
 flats-loop-again t c = (c .before .before .flat .kept .1 .1 .1 .0 ∙ c .before .before .before .before .before .loop .inv .0, λ es m s. exprs-next es m (c .before .before .before .before .loop-test .taken) (c .before .before .flat .ensures) (c .before .before .before .before .before .loop .inv .1 es m s))
 
--- src/write.rt:143:1
 flats-same-length : (t : ℕ) → flats-lts.Need-same-length (flats-claims t) (flats-at t) flats.Post flats-Inv-loop flats-μ-loop
 flats-same-length t c = search needs
 
--- src/write.rt:143:1
 flats-returns : (t : ℕ) → flats-lts.Need-returns (flats-claims t) (flats-at t) flats.Post flats-Inv-loop flats-μ-loop
 flats-returns t c es m s = exprs-none es m (c .loop-test .left) (c .before .loop .inv .1 es m s)
 

@@ -8,8 +8,6 @@ use Rattle.judge.specs.Spelled.{Spelled}
 use Rattle.flatten.proofs.WriteSteps.{Left, left-all, left-next, left-none, left-full, left-past}
 use Rattle.flatten.proofs.write.copy.Statement.{statement}
 use Rattle.flatten.proofs.write.copy.Tie as tie
-use Rattle.flatten.proofs.write.copy.Reads as reads
-use Rattle.flatten.proofs.write.copy.Lts as lts
 
 abbrev Inv-loop : tie.InvT-loop
 Inv-loop words from to out₀ place i₀ p₀ out i p = (length out ≡ length out₀) × ((xs : List ℕ) → Spelled words from to xs → Left words i to p out out₀ place xs)
@@ -17,71 +15,54 @@ Inv-loop words from to out₀ place i₀ p₀ out i p = (length out ≡ length o
 abbrev μ-loop : tie.MeasureT-loop
 μ-loop words from to out₀ place i₀ p₀ out i p = to - i
 
--- src/write.rt:50:5
 loop-holds : tie.Need-loop-holds Inv-loop μ-loop
 loop-holds c = (refl, λ xs s. left-all xs s)
 
--- src/write.rt:52:20
 add-result : tie.Need-add-result Inv-loop μ-loop
 add-result c = search needs
 
--- src/write.rt:52:13
 same-length : tie.Need-same-length Inv-loop μ-loop
 same-length c = search needs
 
--- src/write.rt:52:13
 returns : tie.Need-returns Inv-loop μ-loop
 returns c xs s = left-past xs (c .before .loop-test .taken) (c .if1 .taken) (c .before .before .loop .inv .1 xs s)
 
--- src/write.rt:55:20
 add-result-2 : tie.Need-add-result-2 Inv-loop μ-loop
 add-result-2 c = search needs
 
--- src/write.rt:55:13
 same-length-2 : tie.Need-same-length-2 Inv-loop μ-loop
 same-length-2 c = search needs
 
--- src/write.rt:55:13
 returns-2 : tie.Need-returns-2 Inv-loop μ-loop
 returns-2 c xs s = left-full xs (c .before .before .loop-test .taken) (c .if2 .taken) (omega arith) (c .before .before .before .loop .inv .1 xs s)
 
--- src/write.rt:57:18
 mul-out : tie.Need-mul-out Inv-loop μ-loop
 mul-out c = search needs
 
--- src/write.rt:57:18
 shared-slice-read-out : tie.Need-shared-slice-read-out Inv-loop μ-loop
 shared-slice-read-out c = search needs
 
--- src/write.rt:57:9
 mul-out-2 : tie.Need-mul-out-2 Inv-loop μ-loop
 mul-out-2 c = search needs
 
--- src/write.rt:57:9
 slice-write-out : tie.Need-slice-write-out Inv-loop μ-loop
 slice-write-out c = search needs
 
--- src/write.rt:58:9
 add-p : tie.Need-add-p Inv-loop μ-loop
 add-p c = search needs
 
--- src/write.rt:59:9
 add-i : tie.Need-add-i Inv-loop μ-loop
 add-i c = search needs
 
--- src/write.rt:50:5
 loop-less : tie.Need-loop-less Inv-loop μ-loop
 loop-less c = search needs
 
--- src/write.rt:50:5
 loop-again : tie.Need-loop-again Inv-loop μ-loop
 loop-again c = (length-set (c .before .before .before .before .loop .out) (c .before .before .before .before .loop .p) _ ∙ c .before .before .before .before .loop .inv .0, λ xs s. left-next xs (c .before .before .before .loop-test .taken) (c .before .before .before .before .loop .inv .1 xs s))
 
--- src/write.rt:45:1
 same-length-3 : tie.Need-same-length-3 Inv-loop μ-loop
 same-length-3 c = search needs
 
--- src/write.rt:45:1
 returns-3 : tie.Need-returns-3 Inv-loop μ-loop
 returns-3 c xs s = left-none xs (c .loop-test .left) (c .before .loop .inv .1 xs s)
 

@@ -3,35 +3,25 @@ use mathlib.Core.Path.{refl}
 use borrow.Author.Needs.{needs}
 use Rattle.flatten.proofs.write.patch.Statement.{statement}
 use Rattle.flatten.proofs.write.patch.Tie as tie
-use Rattle.flatten.proofs.write.patch.Reads as reads
-use Rattle.flatten.proofs.write.patch.Lts as lts
-use Rattle.lexing.proofs.words.put.Reads as put-reads
 
--- src/write.rt:91:16
 add-result : tie.Need-add-result
 add-result c = search needs
 
--- src/write.rt:91:9
 returns : tie.Need-returns
 returns c = record { kept = refl; stored = λ h _. absurd (omega (arith, h, c .if1 .taken)); over = λ _. refl }
 
--- src/write.rt:94:18
 sub-put : tie.Need-sub-put
 sub-put c = search needs
 
--- src/write.rt:94:29
 cast-put : tie.Need-cast-put
 cast-put c = search needs
 
--- src/write.rt:94:9
 put-requires : tie.Need-put-requires
 put-requires c κs = search needs
 
--- src/write.rt:87:1
 same-length : tie.Need-same-length
 same-length c = search needs
 
--- src/write.rt:87:1
 returns-2 : tie.Need-returns-2
 returns-2 c =
     record {
@@ -40,7 +30,6 @@ returns-2 c =
       over = λ h. absurd (omega (arith, h, c .before .before .before .before .before .if1 .left));
     }
 
--- src/write.rt:87:1
 returns-3 : tie.Need-returns-3
 returns-3 c = record { kept = refl; stored = λ _ h. absurd (omega (arith, h, c .if2 .left)); over = λ h. absurd (omega (arith, h, c .before .if1 .left)) }
 

@@ -6,10 +6,6 @@ use Rattle.atoms.proofs.Places.Spots.{spot-within}
 use Rattle.parse.proofs.SolutionParts.{Pairing, pairing-start, pairing-end, pairing-bad, pairing-more, pair-spot}
 use Rattle.parse.proofs.draft.all_pairs.Statement.{statement}
 use Rattle.parse.proofs.draft.all_pairs.Tie as tie
-use Rattle.parse.proofs.draft.all_pairs.Reads as reads
-use Rattle.parse.proofs.draft.all_pairs.Lts as lts
-use Rattle.exprs.proofs.binders.is_pair.Reads as is-pair-reads
-use Rattle.atoms.proofs.place.words_at.Reads as words-at-reads
 
 abbrev Inv-loop : tie.InvT-loop
 Inv-loop tree at n i₀ p₀ i p = (h : BinderRow tree at n 0) → Pairing tree at n h i p
@@ -17,38 +13,30 @@ Inv-loop tree at n i₀ p₀ i p = (h : BinderRow tree at n 0) → Pairing tree 
 abbrev μ-loop : tie.MeasureT-loop
 μ-loop tree at n i₀ p₀ i p = n - i
 
--- src/draft.rt:45:5
 loop-holds : tie.Need-loop-holds Inv-loop μ-loop
 loop-holds c = λ h. pairing-start
 
--- src/draft.rt:46:13
 is-pair-requires : tie.Need-is-pair-requires Inv-loop μ-loop
 is-pair-requires c κs = pair-spot (c .before .loop .inv (c .before .before .before .pre)) (c .loop-test .taken)
 
--- src/draft.rt:47:13
 returns : tie.Need-returns Inv-loop μ-loop
 returns c h =
     let g = c .before .before .before .loop .inv h in
     let l = c .before .before .loop-test .taken in
     pairing-bad g l (c .before .is-pair .ensures (pair-spot g l)) (not-true _ (c .if1 .taken))
 
--- src/draft.rt:49:14
 words-at-requires : tie.Need-words-at-requires Inv-loop μ-loop
 words-at-requires c κs = pair-spot (c .before .before .before .loop .inv (c .before .before .before .before .before .pre)) (c .before .before .loop-test .taken)
 
--- src/draft.rt:49:9
 add-p : tie.Need-add-p Inv-loop μ-loop
 add-p c = let p = pair-spot (c .before .before .before .before .loop .inv (c .before .before .before .before .before .before .pre)) (c .before .before .before .loop-test .taken) in omega (arith, c .words-at .ensures p, spot-within p)
 
--- src/draft.rt:50:9
 add-i : tie.Need-add-i Inv-loop μ-loop
 add-i c = omega (arith, c .before .before .before .loop-test .taken)
 
--- src/draft.rt:45:5
 loop-less : tie.Need-loop-less Inv-loop μ-loop
 loop-less c = omega (arith, c .before .before .before .loop-test .taken)
 
--- src/draft.rt:45:5
 loop-again : tie.Need-loop-again Inv-loop μ-loop
 loop-again c =
     λ h.
@@ -56,7 +44,6 @@ loop-again c =
     let l = c .before .before .before .loop-test .taken in
     pairing-more g l (c .before .before .is-pair .ensures (pair-spot g l)) (not-false (c .before .before .is-pair .result) (c .before .if1 .left)) (c .words-at .ensures (pair-spot g l)))
 
--- src/draft.rt:39:1
 returns-2 : tie.Need-returns-2 Inv-loop μ-loop
 returns-2 c h = pairing-end (c .before .loop .inv h) (c .loop-test .left)
 

@@ -6,61 +6,43 @@ use Rattle.parse.proofs.Drafts.{draft-ended, draft-final, draft-none}
 use borrow.Author.Needs.{needs}
 use Rattle.parse.proofs.draft.attempt.Statement.{statement}
 use Rattle.parse.proofs.draft.attempt.Tie as tie
-use Rattle.parse.proofs.draft.attempt.Reads as reads
-use Rattle.parse.proofs.draft.attempt.Lts as lts
-use Rattle.parse.proofs.draft.judged.Reads as judged-reads
-use Rattle.parse.proofs.draft.parts_at.Reads as parts-at-reads
-use Rattle.text.proofs.read_one.Reads as read-one-reads
 
--- src/draft.rt:132:11
 read-one-requires : tie.Need-read-one-requires
 read-one-requires c κs = search needs
 
--- src/draft.rt:133:31
 enum-known-n : tie.Need-enum-known-n
 enum-known-n c = search needs
 
--- src/draft.rt:134:32
 enum-known-words : tie.Need-enum-known-words
 enum-known-words c = search needs
 
--- src/draft.rt:135:36
 slice-reshare-prefix-parts-at : tie.Need-slice-reshare-prefix-parts-at
 slice-reshare-prefix-parts-at c = tree-in (c .before .before .before .before .before .read-one .ensures .0) (c .before .before .before .before .before .read-one .ensures .1) (c .before .words .given .1) .within
 
--- src/draft.rt:135:36
 slice-aggregate-parts-at : tie.Need-slice-aggregate-parts-at
 slice-aggregate-parts-at c = let x = tree-in (c .before .before .before .before .before .before .read-one .ensures .0) (c .before .before .before .before .before .before .read-one .ensures .1) (c .before .before .words .given .1) in rw length-take (omega (arith, x .within))
 
--- src/draft.rt:135:17
 parts-at-requires : tie.Need-parts-at-requires
 parts-at-requires c κs = whole-in (tree-in (c .before .before .before .before .before .before .before .before .read-one .ensures .0) (c .before .before .before .before .before .before .before .before .read-one .ensures .1) (c .before .before .before .before .words .given .1))
 
--- src/draft.rt:136:13
 judged-requires : tie.Need-judged-requires
 judged-requires c κs = search needs
 
--- src/draft.rt:129:1
 same-length : tie.Need-same-length
 same-length c = search needs
 
--- src/draft.rt:129:1
 returns : tie.Need-returns
 returns c = draft-none _ _ _ _ (no-tree (c .before .before .before .before .before .read-one .ensures .0) (c .before .before .before .before .before .read-one .ensures .1) (c .before .n .given .1))
 
--- src/draft.rt:129:1
 same-length-2 : tie.Need-same-length-2
 same-length-2 c = search needs
 
--- src/draft.rt:129:1
 same-length-3 : tie.Need-same-length-3
 same-length-3 c = search needs
 
--- src/draft.rt:129:1
 same-length-4 : tie.Need-same-length-4
 same-length-4 c = search needs
 
--- src/draft.rt:129:1
 returns-2 : tie.Need-returns-2
 returns-2 c =
     let x = tree-in (c .before .before .before .before .before .before .before .before .before .before .before .before .before .before .read-one .ensures .0) (c .before .before .before .before .before .before .before .before .before .before .before .before .before .before .read-one .ensures .1) (c .before .before .before .before .before .before .before .before .before .before .words .given .1) in

@@ -2,51 +2,37 @@ use mathlib.Core.Path.{refl, sym}
 use borrow.Author.Needs.{needs}
 use Rattle.parse.proofs.draft.shut.Statement.{statement}
 use Rattle.parse.proofs.draft.shut.Tie as tie
-use Rattle.parse.proofs.draft.shut.Reads as reads
-use Rattle.parse.proofs.draft.shut.Lts as lts
-use Rattle.lexing.proofs.words.clear.Reads as clear-reads
 
--- src/draft.rt:148:5
 clear-requires : tie.Need-clear-requires
 clear-requires c κs = search needs
 
--- src/draft.rt:150:23
 enum-known-answer : tie.Need-enum-known-answer
 enum-known-answer c = search needs
 
--- src/draft.rt:151:26
 enum-known-answer-2 : tie.Need-enum-known-answer-2
 enum-known-answer-2 c = search needs
 
--- src/draft.rt:152:13
 clear-requires-2 : tie.Need-clear-requires-2
 clear-requires-2 c κs = search needs
 
--- src/draft.rt:153:13
 clear-requires-3 : tie.Need-clear-requires-3
 clear-requires-3 c κs = search needs
 
--- src/draft.rt:142:1
 same-length : tie.Need-same-length
 same-length c = search needs
 
--- src/draft.rt:142:1
 returns : tie.Need-returns
 returns c = (sym (c .before .answer .given .1), (c .before .before .before .before .before .clear .ensures, (rw (c .before .answer .given .1) refl, rw (c .before .answer .given .1) refl)))
 
--- src/draft.rt:142:1
 same-length-2 : tie.Need-same-length-2
 same-length-2 c = search needs
 
--- src/draft.rt:142:1
 same-length-3 : tie.Need-same-length-3
 same-length-3 c = search needs
 
--- src/draft.rt:142:1
 same-length-4 : tie.Need-same-length-4
 same-length-4 c = search needs
 
--- src/draft.rt:142:1
 returns-2 : tie.Need-returns-2
 returns-2 c = (sym (c .before .before .before .before .before .before .before .before .before .answer2 .given .1), (c .before .before .before .before .before .before .before .before .before .before .before .before .before .clear .ensures, (rw (c .before .before .before .before .before .before .before .before .before .answer2 .given .1) (c .before .before .before .before .before .before .clear2 .ensures), rw (c .before .before .before .before .before .before .before .before .before .answer2 .given .1) (c .before .before .clear3 .ensures))))
 

@@ -5,32 +5,22 @@ use Rattle.parse.proofs.Drafts.{body-cleared, params-cleared}
 use borrow.Author.Needs.{needs}
 use Rattle.parse.proofs.draft.solution_draft.Statement.{statement}
 use Rattle.parse.proofs.draft.solution_draft.Tie as tie
-use Rattle.parse.proofs.draft.solution_draft.Reads as reads
-use Rattle.parse.proofs.draft.solution_draft.Lts as lts
-use Rattle.parse.proofs.draft.attempt.Reads as attempt-reads
-use Rattle.parse.proofs.draft.shut.Reads as shut-reads
 
--- src/draft.rt:172:9
 attempt-requires : tie.Need-attempt-requires
 attempt-requires c κs = search needs
 
--- src/draft.rt:173:5
 shut-requires : tie.Need-shut-requires
 shut-requires c κs = search needs
 
--- src/draft.rt:160:1
 same-length : tie.Need-same-length
 same-length c = search needs
 
--- src/draft.rt:160:1
 same-length-2 : tie.Need-same-length-2
 same-length-2 c = search needs
 
--- src/draft.rt:160:1
 same-length-3 : tie.Need-same-length-3
 same-length-3 c = search needs
 
--- src/draft.rt:160:1
 returns : tie.Need-returns
 returns c =
     let a = c .before .before .before .before .before .before .before .before .before .before .before .before .before .before .before .before .attempt .ensures in (

@@ -4,40 +4,30 @@ use borrow.Author.Tests.{lt-ltb, le-ltb}
 use borrow.Author.Needs.{needs}
 use Rattle.parse.proofs.ending.finished.Statement.{statement}
 use Rattle.parse.proofs.ending.finished.Tie as tie
-use Rattle.parse.proofs.ending.finished.Reads as reads
-use Rattle.parse.proofs.ending.finished.Lts as lts
 
--- src/ending.rt:32:27
 enum-known-p : tie.Need-enum-known-p
 enum-known-p c = search needs
 
--- src/ending.rt:33:24
 enum-known-p-2 : tie.Need-enum-known-p-2
 enum-known-p-2 c = search needs
 
--- src/ending.rt:34:16
 sub-if1 : tie.Need-sub-if1
 sub-if1 c = search needs
 
--- src/ending.rt:35:17
 returns : tie.Need-returns
 unfolding pick
 returns c = rw (c .before .before .p2 .given .1, lt-ltb _ _ (c .if1 .taken)) refl
 
--- src/ending.rt:38:17
 returns-2 : tie.Need-returns-2
 unfolding pick
 returns-2 c = rw (c .before .before .before .p2 .given .1, le-ltb _ _ (c .before .if1 .left), lt-ltb _ _ (c .if2 .taken)) refl
 
--- src/ending.rt:40:30
 add-t8 : tie.Need-add-t8
 add-t8 c = search needs
 
--- src/ending.rt:28:1
 returns-3 : tie.Need-returns-3
 returns-3 c = rw (c .before .p .given .1) refl
 
--- src/ending.rt:28:1
 returns-4 : tie.Need-returns-4
 unfolding pick
 returns-4 c = rw (c .before .before .before .p2 .given .1, le-ltb _ _ (c .before .if1 .left), le-ltb _ _ (c .if2 .left)) refl

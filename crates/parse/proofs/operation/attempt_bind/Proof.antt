@@ -5,57 +5,40 @@ use Rattle.parse.proofs.Ended.{ended, whole-in, bind-final, bind-none}
 use borrow.Author.Needs.{needs}
 use Rattle.parse.proofs.operation.attempt_bind.Statement.{statement}
 use Rattle.parse.proofs.operation.attempt_bind.Tie as tie
-use Rattle.parse.proofs.operation.attempt_bind.Reads as reads
-use Rattle.parse.proofs.operation.attempt_bind.Lts as lts
-use Rattle.parse.proofs.ending.finished.Reads as finished-reads
-use Rattle.parse.proofs.preds.bind_at.Reads as bind-at-reads
-use Rattle.text.proofs.read_one.Reads as read-one-reads
 
--- src/operation.rt:83:11
 read-one-requires : tie.Need-read-one-requires
 read-one-requires c κs = search needs
 
--- src/operation.rt:84:31
 enum-known-n : tie.Need-enum-known-n
 enum-known-n c = search needs
 
--- src/operation.rt:85:32
 enum-known-words : tie.Need-enum-known-words
 enum-known-words c = search needs
 
--- src/operation.rt:86:35
 slice-reshare-prefix-bind-at : tie.Need-slice-reshare-prefix-bind-at
 slice-reshare-prefix-bind-at c = tree-in (c .before .before .before .before .before .read-one .ensures .0) (c .before .before .before .before .before .read-one .ensures .1) (c .before .words .given .1) .within
 
--- src/operation.rt:86:35
 slice-aggregate-bind-at : tie.Need-slice-aggregate-bind-at
 slice-aggregate-bind-at c = let x = tree-in (c .before .before .before .before .before .before .read-one .ensures .0) (c .before .before .before .before .before .before .read-one .ensures .1) (c .before .before .words .given .1) in rw length-take (omega (arith, x .within))
 
--- src/operation.rt:86:17
 bind-at-requires : tie.Need-bind-at-requires
 bind-at-requires c κs = whole-in (tree-in (c .before .before .before .before .before .before .before .read-one .ensures .0) (c .before .before .before .before .before .before .before .read-one .ensures .1) (c .before .before .before .words .given .1))
 
--- src/operation.rt:87:13
 finished-requires : tie.Need-finished-requires
 finished-requires c κs = search needs
 
--- src/operation.rt:80:1
 same-length : tie.Need-same-length
 same-length c = search needs
 
--- src/operation.rt:80:1
 returns : tie.Need-returns
 returns c = bind-none _ _ _ _ (no-tree (c .before .before .before .before .before .read-one .ensures .0) (c .before .before .before .before .before .read-one .ensures .1) (c .before .n .given .1))
 
--- src/operation.rt:80:1
 same-length-2 : tie.Need-same-length-2
 same-length-2 c = search needs
 
--- src/operation.rt:80:1
 same-length-3 : tie.Need-same-length-3
 same-length-3 c = search needs
 
--- src/operation.rt:80:1
 returns-2 : tie.Need-returns-2
 returns-2 c =
     let x = tree-in (c .before .before .before .before .before .before .before .before .before .before .before .read-one .ensures .0) (c .before .before .before .before .before .before .before .before .before .before .before .read-one .ensures .1) (c .before .before .before .before .before .before .before .words .given .1) in

@@ -6,106 +6,76 @@ use Rattle.parse.proofs.PredNames.{kvar-spot, kvar-there, kvar-row, kva
 use borrow.Author.Needs.{needs}
 use Rattle.parse.proofs.preds.kvar.Statement.{statement}
 use Rattle.parse.proofs.preds.kvar.Tie as tie
-use Rattle.parse.proofs.preds.kvar.Reads as reads
-use Rattle.parse.proofs.preds.kvar.Lts as lts
-use Rattle.sorts.proofs.number.wide.Reads as wide-reads
-use Rattle.atoms.proofs.place.words_at.Reads as words-at-reads
-use Rattle.parse.proofs.preds.names.Reads as names-reads
-use Rattle.parse.proofs.preds.put_kvar.Reads as put-kvar-reads
 
--- src/preds.rt:82:18
 add-n : tie.Need-add-n
 add-n c = omega (arith, kvar-there (c .before .before .before .pre))
 
--- src/preds.rt:82:13
 mul-n : tie.Need-mul-n
 mul-n c = omega (arith, kvar-there (c .before .before .before .pre))
 
--- src/preds.rt:82:13
 shared-slice-read-n : tie.Need-shared-slice-read-n
 shared-slice-read-n c = omega (arith, kvar-there (c .before .before .before .before .pre))
 
--- src/preds.rt:84:9
 returns : tie.Need-returns
 returns c h count = kvar-few h count (c .if1 .taken)
 
--- src/preds.rt:86:44
 add-t11 : tie.Need-add-t11
 add-t11 c = omega (arith, kvar-there (c .before .before .before .before .before .before .pre))
 
--- src/preds.rt:86:39
 mul-t12 : tie.Need-mul-t12
 mul-t12 c = omega (arith, kvar-there (c .before .before .before .before .before .before .pre))
 
--- src/preds.rt:86:39
 shared-slice-read-t14 : tie.Need-shared-slice-read-t14
 shared-slice-read-t14 c = omega (arith, kvar-there (c .before .before .before .before .before .before .before .pre))
 
--- src/preds.rt:86:58
 add-t19 : tie.Need-add-t19
 add-t19 c = omega (arith, kvar-there (c .before .before .before .before .before .before .before .pre))
 
--- src/preds.rt:86:53
 mul-t20 : tie.Need-mul-t20
 mul-t20 c = omega (arith, kvar-there (c .before .before .before .before .before .before .before .pre))
 
--- src/preds.rt:86:53
 shared-slice-read-t22 : tie.Need-shared-slice-read-t22
 shared-slice-read-t22 c = omega (arith, kvar-there (c .before .before .before .before .before .before .before .before .pre))
 
--- src/preds.rt:86:68
 sub-put-kvar : tie.Need-sub-put-kvar
 sub-put-kvar c = search needs
 
--- src/preds.rt:86:9
 put-kvar-requires : tie.Need-put-kvar-requires
 put-kvar-requires c κs = omega (arith, c .before .before .before .before .before .before .before .before .pre .room)
 
--- src/preds.rt:87:29
 add-names : tie.Need-add-names
 add-names c = omega (arith, kvar-there (c .before .before .before .before .before .before .before .before .before .before .before .pre))
 
--- src/preds.rt:87:42
 sub-wide : tie.Need-sub-wide
 sub-wide c = search needs
 
--- src/preds.rt:87:37
 wide-requires : tie.Need-wide-requires
 wide-requires c κs = search needs
 
--- src/preds.rt:87:11
 names-requires : tie.Need-names-requires
 names-requires c κs = kvar-row (c .before .before .before .before .before .before .before .before .before .before .before .before .before .pre) (c .before .before .before .before .put-kvar .ensures .is) (c .before .wide .ensures .0)
 
--- src/preds.rt:88:25
 enum-known-e : tie.Need-enum-known-e
 enum-known-e c = search needs
 
--- src/preds.rt:89:22
 enum-known-u : tie.Need-enum-known-u
 enum-known-u c = search needs
 
--- src/preds.rt:89:42
 words-at-requires : tie.Need-words-at-requires
 words-at-requires c κs = kvar-spot (c .before .before .before .before .before .before .before .before .before .before .before .before .before .before .before .before .before .before .before .pre)
 
--- src/preds.rt:89:37
 add-t30 : tie.Need-add-t30
 add-t30 c = omega (arith, c .words-at .ensures (kvar-spot (c .before .before .before .before .before .before .before .before .before .before .before .before .before .before .before .before .before .before .before .before .pre)), spot-within (kvar-spot (c .before .before .before .before .before .before .before .before .before .before .before .before .before .before .before .before .before .before .before .before .pre)))
 
--- src/preds.rt:78:1
 same-length : tie.Need-same-length
 same-length c = search needs
 
--- src/preds.rt:78:1
 returns-2 : tie.Need-returns-2
 returns-2 c h count = kvar-bad h count (c .before .before .before .before .before .before .before .before .before .before .before .before .before .before .if1 .left) (bad-at (c .before .before .before .before .before .names .ensures (kvar-row h (c .before .before .before .before .before .before .before .before .before .before .put-kvar .ensures .is) (c .before .before .before .before .before .before .before .wide .ensures .0))) (c .before .e .given .1))
 
--- src/preds.rt:78:1
 same-length-2 : tie.Need-same-length-2
 same-length-2 c = search needs
 
--- src/preds.rt:78:1
 returns-3 : tie.Need-returns-3
 returns-3 c h count = kvar-read h count (c .before .before .before .before .before .before .before .before .before .before .before .before .before .before .before .if1 .left) (c .before .before .before .before .before .before .before .before .before .before .before .put-kvar .ensures) refl (got-at (c .before .before .before .before .before .before .names .ensures (kvar-row h (c .before .before .before .before .before .before .before .before .before .before .before .put-kvar .ensures .is) (c .before .before .before .before .before .before .before .before .wide .ensures .0))) (c .before .before .u .given .1)) (c .words-at .ensures (kvar-spot h))
 

@@ -8,11 +8,6 @@ use Rattle.atoms.proofs.Places.Spots.{spot-within}
 use Rattle.parse.proofs.PredLoop.{Reading, reading-start, reading-end, reading-refused, reading-more, reading-less, many-fits, pred-here}
 use Rattle.parse.proofs.preds.preds.Statement.{statement}
 use Rattle.parse.proofs.preds.preds.Tie as tie
-use Rattle.parse.proofs.preds.preds.Reads as reads
-use Rattle.parse.proofs.preds.preds.Lts as lts
-use Rattle.atoms.proofs.place.words_at.Reads as words-at-reads
-use Rattle.parse.proofs.preds.pred.Reads as pred-reads
-use Rattle.lexing.proofs.words.put.Reads as put-reads
 
 abbrev Inv-loop : tie.InvT-loop
 Inv-loop text tree at count out₀ w end p₀ v₀ next₀ n₀ out p v next n = (length out ≡ length out₀) × ((h : PredHere text tree at (w + 1) 0) → Reading text count tree at w end h out₀ out p v next n)
@@ -20,63 +15,48 @@ Inv-loop text tree at count out₀ w end p₀ v₀ next₀ n₀ out p v next n =
 abbrev μ-loop : tie.MeasureT-loop
 μ-loop text tree at count out₀ w end p₀ v₀ next₀ n₀ out p v next n = end - p
 
--- src/preds.rt:134:20
 words-at-requires : tie.Need-words-at-requires Inv-loop μ-loop
 words-at-requires c κs = c .before .before .before .pre .spot
 
--- src/preds.rt:134:15
 add-end : tie.Need-add-end Inv-loop μ-loop
 add-end c = omega (arith, c .before .before .before .before .good, c .words-at .ensures (c .before .before .before .before .pre .spot), spot-within (c .before .before .before .before .pre .spot))
 
--- src/preds.rt:136:17
 add-v : tie.Need-add-v Inv-loop μ-loop
 add-v c = omega (arith, c .before .before .before .before .pre .room)
 
--- src/preds.rt:139:5
 loop-holds : tie.Need-loop-holds Inv-loop μ-loop
 loop-holds c = (refl, λ h. reading-start (c .words-at .ensures (h .spot)) refl)
 
--- src/preds.rt:140:15
 pred-requires : tie.Need-pred-requires Inv-loop μ-loop
 pred-requires c κs = pred-here (c .before .before .loop .inv .1 (c .before .before .before .before .before .before .before .pre)) (c .before .loop-test .taken)
 
--- src/preds.rt:141:27
 enum-known-e : tie.Need-enum-known-e Inv-loop μ-loop
 enum-known-e c = search needs
 
--- src/preds.rt:142:17
 same-length : tie.Need-same-length Inv-loop μ-loop
 same-length c = search (needs, c .before .before .before .before .before .before .before .before .loop .inv .0)
 
--- src/preds.rt:142:17
 returns : tie.Need-returns Inv-loop μ-loop
 returns c h = reading-refused (c .before .before .before .before .before .before .before .before .loop .inv .1 h) (c .before .before .before .before .before .before .before .loop-test .taken) (c .before .before .before .before .before .pred .ensures (pred-here (c .before .before .before .before .before .before .before .before .loop .inv .1 h) (c .before .before .before .before .before .before .before .loop-test .taken))) (c .before .e .given .1)
 
--- src/preds.rt:144:22
 enum-known-q : tie.Need-enum-known-q Inv-loop μ-loop
 enum-known-q c = search needs
 
--- src/preds.rt:148:17
 add-n : tie.Need-add-n Inv-loop μ-loop
 add-n c = omega (arith, many-fits (c .before .before .before .before .before .before .before .before .loop .inv .1 (c .before .before .before .before .before .before .before .before .before .before .before .before .before .pre)) (c .before .before .before .before .before .before .before .loop-test .taken) (c .before .before .before .before .before .pred .ensures (pred-here (c .before .before .before .before .before .before .before .before .loop .inv .1 (c .before .before .before .before .before .before .before .before .before .before .before .before .before .pre)) (c .before .before .before .before .before .before .before .loop-test .taken))) (c .before .q .given .1))
 
--- src/preds.rt:139:5
 loop-less : tie.Need-loop-less Inv-loop μ-loop
 loop-less c = reading-less (c .before .before .before .before .before .before .before .before .loop .inv .1 (c .before .before .before .before .before .before .before .before .before .before .before .before .before .pre)) (c .before .before .before .before .before .before .before .loop-test .taken) (c .before .before .before .before .before .pred .ensures (pred-here (c .before .before .before .before .before .before .before .before .loop .inv .1 (c .before .before .before .before .before .before .before .before .before .before .before .before .before .pre)) (c .before .before .before .before .before .before .before .loop-test .taken))) (c .before .q .given .1)
 
--- src/preds.rt:139:5
 loop-again : tie.Need-loop-again Inv-loop μ-loop
 loop-again c = (search (needs, c .before .before .before .before .before .before .before .before .loop .inv .0), λ h. reading-more (c .before .before .before .before .before .before .before .before .loop .inv .1 h) (c .before .before .before .before .before .before .before .loop-test .taken) (c .before .before .before .before .before .pred .ensures (pred-here (c .before .before .before .before .before .before .before .before .loop .inv .1 h) (c .before .before .before .before .before .before .before .loop-test .taken))) (c .before .q .given .1))
 
--- src/preds.rt:152:5
 put-requires : tie.Need-put-requires Inv-loop μ-loop
 put-requires c κs = search needs
 
--- src/preds.rt:130:1
 same-length-2 : tie.Need-same-length-2 Inv-loop μ-loop
 same-length-2 c = search (needs, c .before .before .before .before .before .loop .inv .0)
 
--- src/preds.rt:130:1
 returns-2 : tie.Need-returns-2 Inv-loop μ-loop
 returns-2 c h = reading-end (c .before .before .before .before .before .loop .inv .1 h) (c .before .before .before .before .loop-test .left) (c .before .before .put .ensures)
 

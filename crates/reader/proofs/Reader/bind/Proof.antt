@@ -5,31 +5,22 @@ use Rattle.reader.proofs.Told.{counted-done, counted-refused}
 use borrow.Author.Needs.{needs}
 use Rattle.reader.proofs.Reader.bind.Statement.{statement}
 use Rattle.reader.proofs.Reader.bind.Tie as tie
-use Rattle.reader.proofs.Reader.bind.Reads as reads
-use Rattle.reader.proofs.Reader.bind.Lts as lts
-use Rattle.parse.proofs.bind.Reads as bind-reads
 
--- src/lib.rt:126:15
 bind-requires : tie.Need-bind-requires
 bind-requires c κs = search needs
 
--- src/lib.rt:127:27
 enum-known-words : tie.Need-enum-known-words
 enum-known-words c = search needs
 
--- src/lib.rt:131:30
 enum-known-r : tie.Need-enum-known-r
 enum-known-r c = search needs
 
--- src/lib.rt:119:5
 same-length : tie.Need-same-length
 same-length c = search needs
 
--- src/lib.rt:119:5
 same-length-2 : tie.Need-same-length-2
 same-length-2 c = search needs
 
--- src/lib.rt:119:5
 returns : tie.Need-returns
 returns c =
     let a = c .before .before .before .before .before .before .before .before .before .before .before .before .before .args in
@@ -38,15 +29,12 @@ returns c =
     let q = counted-done bindItems _ _ _ k _ _ _ (c .before .words .given .1) (e .0) in
     (q .0, (q .1, (e .1 .0 ∙ k .tree, e .1 .1 ∙ k .out)))
 
--- src/lib.rt:119:5
 same-length-3 : tie.Need-same-length-3
 same-length-3 c = search needs
 
--- src/lib.rt:119:5
 same-length-4 : tie.Need-same-length-4
 same-length-4 c = search needs
 
--- src/lib.rt:119:5
 returns-2 : tie.Need-returns-2
 returns-2 c =
     let a = c .before .before .before .before .before .before .before .before .before .before .before .before .before .args in

@@ -9,27 +9,19 @@ use Rattle.reader.proofs.Told.{read-accepted, read-refused}
 use borrow.Author.Needs.{needs}
 use Rattle.reader.proofs.Reader.read_all.Statement.{statement}
 use Rattle.reader.proofs.Reader.read_all.Tie as tie
-use Rattle.reader.proofs.Reader.read_all.Reads as reads
-use Rattle.reader.proofs.Reader.read_all.Lts as lts
-use Rattle.text.proofs.read_all.Reads as read-all-reads
 
--- src/lib.rt:64:15
 read-all-requires : tie.Need-read-all-requires
 read-all-requires c κs = search needs
 
--- src/lib.rt:65:36
 enum-known-expressions : tie.Need-enum-known-expressions
 enum-known-expressions c = search needs
 
--- src/lib.rt:69:35
 enum-known-r : tie.Need-enum-known-r
 enum-known-r c = search needs
 
--- src/lib.rt:59:5
 same-length : tie.Need-same-length
 same-length c = search needs
 
--- src/lib.rt:59:5
 returns : tie.Need-returns
 unfolding readOut
 returns c =
@@ -40,11 +32,9 @@ returns c =
     let q = read-accepted true (a .text .now) (a .out .now) _ (a .self .next) small k _ _ _ (c .before .expressions .given .1) (e .0) in
     (q .0, (q .1, e .1 ∙ k .out))
 
--- src/lib.rt:59:5
 same-length-2 : tie.Need-same-length-2
 same-length-2 c = search needs
 
--- src/lib.rt:59:5
 returns-2 : tie.Need-returns-2
 unfolding readOut
 returns-2 c =

@@ -9,27 +9,19 @@ use Rattle.reader.proofs.Told.{read-accepted, read-refused}
 use borrow.Author.Needs.{needs}
 use Rattle.reader.proofs.Reader.read_one.Statement.{statement}
 use Rattle.reader.proofs.Reader.read_one.Tie as tie
-use Rattle.reader.proofs.Reader.read_one.Reads as reads
-use Rattle.reader.proofs.Reader.read_one.Lts as lts
-use Rattle.text.proofs.read_one.Reads as read-one-reads
 
--- src/lib.rt:46:15
 read-one-requires : tie.Need-read-one-requires
 read-one-requires c κs = search needs
 
--- src/lib.rt:47:36
 enum-known-words : tie.Need-enum-known-words
 enum-known-words c = search needs
 
--- src/lib.rt:51:35
 enum-known-r : tie.Need-enum-known-r
 enum-known-r c = search needs
 
--- src/lib.rt:41:5
 same-length : tie.Need-same-length
 same-length c = search needs
 
--- src/lib.rt:41:5
 returns : tie.Need-returns
 unfolding readOut
 returns c =
@@ -40,11 +32,9 @@ returns c =
     let q = read-accepted false (a .text .now) (a .out .now) _ (a .self .next) small k _ _ _ (c .before .words .given .1) (e .0) in
     (q .0, (q .1, e .1 ∙ k .out))
 
--- src/lib.rt:41:5
 same-length-2 : tie.Need-same-length-2
 same-length-2 c = search needs
 
--- src/lib.rt:41:5
 returns-2 : tie.Need-returns-2
 unfolding readOut
 returns-2 c =

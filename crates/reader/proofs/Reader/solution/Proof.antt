@@ -5,35 +5,25 @@ use Rattle.reader.proofs.Told.{counted-done, counted-refused}
 use borrow.Author.Needs.{needs}
 use Rattle.reader.proofs.Reader.solution.Statement.{statement}
 use Rattle.reader.proofs.Reader.solution.Tie as tie
-use Rattle.reader.proofs.Reader.solution.Reads as reads
-use Rattle.reader.proofs.Reader.solution.Lts as lts
-use Rattle.flatten.proofs.solution.Reads as solution-reads
 
--- src/lib.rt:156:15
 solution-requires : tie.Need-solution-requires
 solution-requires c κs = search needs
 
--- src/lib.rt:157:27
 enum-known-words : tie.Need-enum-known-words
 enum-known-words c = search needs
 
--- src/lib.rt:161:30
 enum-known-r : tie.Need-enum-known-r
 enum-known-r c = search needs
 
--- src/lib.rt:142:5
 same-length : tie.Need-same-length
 same-length c = search needs
 
--- src/lib.rt:142:5
 same-length-2 : tie.Need-same-length-2
 same-length-2 c = search needs
 
--- src/lib.rt:142:5
 same-length-3 : tie.Need-same-length-3
 same-length-3 c = search needs
 
--- src/lib.rt:142:5
 returns : tie.Need-returns
 returns c =
     let a = c .before .before .before .before .before .before .before .before .before .before .before .before .before .before .before .before .before .args in
@@ -42,19 +32,15 @@ returns c =
     let q = counted-done flatItems _ _ _ k _ _ _ (c .before .words .given .1) (e .0) in
     (q .0, (q .1, (e .1 .0 ∙ k .tree, (e .1 .1 .0 ∙ k .draft, e .1 .1 .1 ∙ k .out))))
 
--- src/lib.rt:142:5
 same-length-4 : tie.Need-same-length-4
 same-length-4 c = search needs
 
--- src/lib.rt:142:5
 same-length-5 : tie.Need-same-length-5
 same-length-5 c = search needs
 
--- src/lib.rt:142:5
 same-length-6 : tie.Need-same-length-6
 same-length-6 c = search needs
 
--- src/lib.rt:142:5
 returns-2 : tie.Need-returns-2
 returns-2 c =
     let a = c .before .before .before .before .before .before .before .before .before .before .before .before .before .before .before .before .before .args in

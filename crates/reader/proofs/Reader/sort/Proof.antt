@@ -7,31 +7,22 @@ use Rattle.reader.proofs.Told.{sort-done, sort-refused}
 use borrow.Author.Needs.{needs}
 use Rattle.reader.proofs.Reader.sort.Statement.{statement}
 use Rattle.reader.proofs.Reader.sort.Tie as tie
-use Rattle.reader.proofs.Reader.sort.Reads as reads
-use Rattle.reader.proofs.Reader.sort.Lts as lts
-use Rattle.parse.proofs.sort.Reads as sort-reads
 
--- src/lib.rt:84:15
 sort-requires : tie.Need-sort-requires
 sort-requires c κs = search needs
 
--- src/lib.rt:85:33
 enum-known-size : tie.Need-enum-known-size
 enum-known-size c = search needs
 
--- src/lib.rt:89:36
 enum-known-r : tie.Need-enum-known-r
 enum-known-r c = search needs
 
--- src/lib.rt:78:5
 same-length : tie.Need-same-length
 same-length c = search needs
 
--- src/lib.rt:78:5
 same-length-2 : tie.Need-same-length-2
 same-length-2 c = search needs
 
--- src/lib.rt:78:5
 returns : tie.Need-returns
 returns c =
     let a = c .before .before .before .before .before .before .before .before .before .before .before .before .before .args in
@@ -41,15 +32,12 @@ returns c =
     let q = sort-done (a .text .now) (a .tree .now) (a .out .now) (a .self .next) small _ _ (c .before .size .given .1) (e .0) in
     (q .0, (q .1, (e .1 .0 ∙ k .tree, e .1 .1 ∙ k .out)))
 
--- src/lib.rt:78:5
 same-length-3 : tie.Need-same-length-3
 same-length-3 c = search needs
 
--- src/lib.rt:78:5
 same-length-4 : tie.Need-same-length-4
 same-length-4 c = search needs
 
--- src/lib.rt:78:5
 returns-2 : tie.Need-returns-2
 returns-2 c =
     let a = c .before .before .before .before .before .before .before .before .before .before .before .before .before .args in

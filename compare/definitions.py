@@ -1,0 +1,183 @@
+#!/usr/bin/env python3
+"""Computes the definitions on recorded answers: compare/definitions.py [ANSWERS [CASES]]
+
+ANSWERS is crates/replay/stdin unless another file is named; CASES is how many go into one module. The prover evaluates `outcome`
+(crates/session/specs/Session.antt) and `flattenFinal` (crates/flatten/specs/Operations.antt) on each case and has to find the recorded
+refusal or numbers, the count and the words; no code of the library runs. The cases go into a crate of their own, beside links to the
+crates here, in target/definitions.
+"""
+
+import os
+import subprocess
+import sys
+from pathlib import Path
+
+TOP = Path(__file__).resolve().parent.parent
+OPERATIONS = {"R": "readOne", "A": "readAll", "S": "sort", "E": "expression", "B": "bind", "L": "solution"}
+# More words than these take too long to compute.
+MOST_WORDS = 8000
+
+HEAD = """-- Recorded answers, computed.
+use Prim.Native.Nat.{ℕ}
+use mathlib.Core.Path.{_≡_, refl}
+use mathlib.Core.List.{List, [], _∷_, _++_}
+use lib.ListN.{replicate}
+use Rattle.reading.specs.Answer.{accepted, refused}
+use Rattle.session.specs.Session.{readOne, readAll, sort, expression, bind, solution}
+use Rattle.session.specs.Shown.{lending, refusal, words}
+use Rattle.computed.specs.Case.{Case, case, Flat, flat, Words, plain, times, spread, answers, recorded, flattens, flattened}
+"""
+
+CASE = """-- A call on a reader at a count, and what was recorded of it.
+use Prim.Native.Nat.{ℕ}
+use mathlib.Core.List.{List, [], _∷_, _++_, map}
+use lib.ListN.{replicate}
+use Rattle.reading.specs.Answer.{Said}
+use Rattle.session.specs.Session.{Call, termWords, final, outcome}
+use Rattle.session.specs.Shown.{Shown, shown}
+use Rattle.session.specs.Compute.{readerComputes}
+use Rattle.flatten.specs.Operations.{exprWords, flattenFinal}
+
+-- Words or bytes: some, and some that are repeated.
+pub data Words : Type 0 where
+  plain : List ℕ → Words
+  times : ℕ → List ℕ → Words
+
+unfoldable pub again : ℕ → List ℕ → List ℕ
+again n [] = []
+again n (x ∷ []) = replicate n x
+again n (x ∷ y ∷ l) = []
+
+unfoldable pub spread : List Words → List ℕ
+unfolding again
+spread [] = []
+spread (plain l ∷ ws) = l ++ spread ws
+spread (times n l ∷ ws) = again n l ++ spread ws
+
+pub record Case : Type 0 where
+  pub call : Call
+  pub start : ℕ
+  pub said : Said
+  pub count : ℕ
+  pub answer : Shown
+
+abbrev pub case : Call → ℕ → Said → ℕ → Shown → Case
+case call start said count answer = record { call = call; start = start; said = said; count = count; answer = answer }
+
+pub record Answer : Type 0 where
+  pub said : Said
+  pub count : ℕ
+  pub answer : Shown
+
+unfoldable pub answers : List Case → List Answer
+unfolding readerComputes spread
+answers cases = map (λ c. record { said = outcome (c .call) (c .start) .said; count = outcome (c .call) (c .start) .count; answer = shown (termWords (c .start)) (final (c .call) (c .start)) }) cases
+
+unfoldable pub recorded : List Case → List Answer
+unfolding spread
+recorded cases = map (λ c. record { said = c .said; count = c .count; answer = c .answer }) cases
+
+pub record Flat : Type 0 where
+  pub input : List ℕ
+  pub out : ℕ
+  pub answer : Shown
+
+abbrev pub flat : List ℕ → ℕ → Shown → Flat
+flat input out answer = record { input = input; out = out; answer = answer }
+
+unfoldable pub flattens : List Flat → List Shown
+unfolding readerComputes spread
+flattens cases = map (λ c. shown exprWords (flattenFinal (c .input) (replicate (c .out) 0))) cases
+
+unfoldable pub flattened : List Flat → List Shown
+unfolding spread
+flattened cases = map (λ c. c .answer) cases
+"""
+
+
+def listed(numbers):
+    return " ∷ ".join(map(str, numbers)) + " ∷ []" if numbers else "[]"
+
+
+def spread(parts):
+    """Parts, each a list of numbers and how often it stands there, as one list."""
+    if all(times == 1 for _, times in parts):
+        return f"({listed([n for numbers, _ in parts for n in numbers])})"
+    words = " ∷ ".join(f"times {times} ({listed(numbers)})" if times > 1 else f"plain ({listed(numbers)})" for numbers, times in parts)
+    return f"(spread ({words} ∷ []))"
+
+
+def parts_of(text, joined, numbers):
+    parts = []
+    for part in [] if text == "-" else text.split(joined):
+        one, _, times = part.partition("*")
+        some, times = numbers(one), int(times or 1)
+        if times > 1 and len(some) > 1:
+            some, times = some * times, 1
+        parts.append((some, times))
+    return parts
+
+
+def words_of(text):
+    return parts_of(text, ",", lambda one: [int(one, 16)])
+
+
+def bytes_of(text):
+    return parts_of(text, ".", lambda one: list(bytes.fromhex(one)))
+
+
+def row(line):
+    asked, answer = line.split(" = ")
+    op, start, tree, draft, out, given = asked.split()
+    number, a, b, count, words = answer.split()
+    if sum(len(part) * times for part, times in words_of(words)) > MOST_WORDS or (op == "F" and sum(t for _, t in words_of(given)) > MOST_WORDS):
+        return None
+    shown = f"(refusal {number})" if number != "0" else f"(words {spread(words_of(words))})"
+    if op == "F":
+        return "F", f"flat {spread(words_of(given))} {out} {shown}"
+    said = f"(refused {number})" if number != "0" else f"(accepted {a} {b})"
+    return "T", f"case (lending {tree} {draft} {out} {OPERATIONS[op]} {spread(bytes_of(given))}) {start} {said} {count} {shown}"
+
+
+def module(kind, rows):
+    of, made, kept = ("Case", "answers", "recorded") if kind == "T" else ("Flat", "flattens", "flattened")
+    table = "\n    ∷ ".join(rows)
+    return f"{HEAD}\nabbrev cases : List {of}\ncases =\n    {table}\n    ∷ []\n\npub cases-hold : {made} cases ≡ {kept} cases\nunfolding {made} {kept}\ncases-hold = refl\n"
+
+
+def main():
+    answers = Path(sys.argv[1]) if len(sys.argv) > 1 else TOP / "crates/replay/stdin"
+    size = int(sys.argv[2]) if len(sys.argv) > 2 else 50
+    folder = TOP / "target/definitions"
+    specs = folder / "crates/computed/specs"
+    subprocess.run(["rm", "-rf", str(folder)], check=True)
+    specs.mkdir(parents=True)
+    (folder / "crates/computed/src").mkdir()
+    (folder / "crates/computed/src/lib.rt").write_text("// Recorded answers, computed: definitions only.\n")
+    for crate in (TOP / "crates").iterdir():
+        os.symlink(crate, folder / "crates" / crate.name)
+    os.symlink(TOP / "target", folder / "target")
+    (folder / "crates.txt").write_text((TOP / "crates.txt").read_text() + "computed: session flatten reading\n")
+    (specs / "Case.antt").write_text(CASE)
+    rows, left = {"T": [], "F": []}, 0
+    for line in answers.read_text().splitlines():
+        made = row(line)
+        if made is None:
+            left += 1
+        else:
+            rows[made[0]].append(made[1])
+    names = ["Case"]
+    for kind in rows:
+        for at in range(0, len(rows[kind]), size):
+            names.append(f"{kind}{at // size}")
+            (specs / f"{names[-1]}.antt").write_text(module(kind, rows[kind][at:at + size]))
+    (specs / "Lib.antt").write_text("".join(f"pub mod {name}\n" for name in names))
+    total = len(rows["T"]) + len(rows["F"])
+    done = subprocess.run(["rt", "check", "computed"], cwd=folder, capture_output=True, text=True)
+    if done.returncode != 0:
+        sys.stdout.write(done.stdout[-4000:] + done.stderr[-4000:])
+        sys.exit("definitions: a recorded answer is not what the definitions compute")
+    print(f"definitions: {total} recorded answers computed, all as recorded; {left} too long to compute")
+
+
+main()

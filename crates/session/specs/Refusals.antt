@@ -1,0 +1,58 @@
+-- Which refusals each operation has, and how long slices are that never meet 7.
+use Prim.Native.Nat.{ℕ, _*_, _≤_}
+use mathlib.Core.Bool.{Bool, true, false}
+use mathlib.Core.Path.{_≡_}
+use mathlib.Core.List.{List, [], _∷_, _++_}
+use lib.Dec.{eqb}
+use lib.ListN.{length}
+use Rattle.reading.specs.Pick.{pick}
+use Rattle.reading.specs.Answer.{number, noRoom, refused}
+use Rattle.session.specs.Session.{Op, readOne, readAll, sort, expression, bind, solution, Call, outcome}
+
+unfoldable pub isAmong : ℕ → List ℕ → Bool
+isAmong r [] = false
+isAmong r (x ∷ xs) = pick (eqb r x) true (isAmong r xs)
+
+-- "Refusals by operation" of document 01.
+abbrev pub ofReading : List ℕ
+ofReading = 1 ∷ 2 ∷ 3 ∷ 4 ∷ 5 ∷ 6 ∷ 7 ∷ []
+
+abbrev pub ofSort : List ℕ
+ofSort = 8 ∷ 12 ∷ []
+
+abbrev pub ofExpr : List ℕ
+ofExpr = 8 ∷ 9 ∷ 10 ∷ 11 ∷ 12 ∷ 13 ∷ []
+
+abbrev pub refusalsOf : Op → List ℕ
+refusalsOf readOne = ofReading
+refusalsOf readAll = ofReading
+refusalsOf sort = ofReading ++ ofSort
+refusalsOf expression = ofReading ++ ofExpr
+refusalsOf bind = ofReading ++ ofExpr
+refusalsOf solution = ofReading ++ ofExpr
+
+-- Words for each byte of the text.
+pub record PerByte : Type 0 where
+  pub tree : ℕ
+  pub draft : ℕ
+  pub out : ℕ
+
+abbrev pub perByte : Op → PerByte
+perByte readOne = record { tree = 0; draft = 0; out = 5 }
+perByte readAll = record { tree = 0; draft = 0; out = 5 }
+perByte sort = record { tree = 5; draft = 0; out = 15 }
+perByte expression = record { tree = 5; draft = 0; out = 15 }
+perByte bind = record { tree = 5; draft = 0; out = 15 }
+perByte solution = record { tree = 5; draft = 15; out = 15 }
+
+-- The slices of a call have so many words.
+pub record Roomy (call : Call) : Type 0 where
+  pub tree : perByte (call .op) .tree * length (call .text) ≤ length (call .tree)
+  pub draft : perByte (call .op) .draft * length (call .text) ≤ length (call .draft)
+  pub out : perByte (call .op) .out * length (call .text) ≤ length (call .out)
+
+-- What holds of the refusals of a call on a reader at a count that it can have: the operation has them, and 7 is none of them where the
+-- slices are roomy.
+pub record RefusalsOf (call : Call) (c : ℕ) : Type 0 where
+  pub among : (r : ℕ) → outcome call c .said ≡ refused r → isAmong r (refusalsOf (call .op)) ≡ true
+  pub noSeven : Roomy call → outcome call c .said ≡ refused (number noRoom) → ⊥
