@@ -7,4 +7,6 @@ pub mod PredNames
 pub mod PredPlans
 pub mod PredLoop
 pub mod BindOf
+pub mod ParamNames
+pub mod SolutionBody
 pub mod SolutionParts

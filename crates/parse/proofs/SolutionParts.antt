@@ -1,175 +1,40 @@
 -- The parts of a solution: its parameters, which are pairs of a name and a sort, and its body under them.
 use Prim.Native.Nat.{ℕ, suc, _+_, _^_, _≤_, _<_, max}
 use mathlib.Core.Path.{_≡_, refl, sym, ap, _∙_}
-use mathlib.Core.Bool.{Bool, true, false, true≢false}
+use mathlib.Core.Bool.{Bool, true, false}
 use mathlib.Core.List.{List, [], _∷_, _++_}
 use native.Mathlib.Omega.{arith}
 use native.Mathlib.Nat.{zero-add, le-max-left, le-max-right}
 use lib.ListN.{length, getD, drop}
 use borrow.Author.Tests.{ne-eqb}
 use Rattle.reading.specs.Limits.{maxLists}
-use Rattle.reading.specs.Pick.{pick}
 use Rattle.reading.specs.Bytes.{Span}
 use Rattle.reading.specs.Tree.{Tree, Trees, list, tnil, tcons, trees, treeWords, treesWords, nesting}
-use Rattle.reading.specs.Answer.{Refusal, number, malformed, Ans, got, bad, andThen, Res, ok, no, chain, lifted}
-use Rattle.grammar.specs.Sort.{Sort}
+use Rattle.reading.specs.Answer.{Refusal, malformed, Ans, got, bad, Res, ok, no, chain, lifted}
 use Rattle.grammar.specs.Item.{raise, wordsOf}
 use Rattle.grammar.specs.Expr.{Expr, exprItems, Solution}
 use Rattle.grammar.specs.ParseSort.{inList, treeAt}
-use Rattle.grammar.specs.Scope.{Scope, numbered, repeated, distinct}
+use Rattle.grammar.specs.Scope.{numbered, distinct}
 use Rattle.grammar.specs.ParseExpr
-use Rattle.grammar.specs.ParseExpr.{nameOf, sortIn, Binders, binders}
+use Rattle.grammar.specs.ParseExpr.{Binders, binders}
 use Rattle.grammar.specs.ParseSolution.{allNames, allSorts, parseSolution}
 use Rattle.sorts.specs.Rows.{isGot}
 use Rattle.atoms.specs.Spot.{Spot}
-use Rattle.atoms.specs.Scopes.{Bound, pushed, inner}
 use Rattle.atoms.specs.Laid.{laid, Put}
-use Rattle.exprs.specs.Plans.{Parsed, wrote, refused, Here}
-use Rattle.grammar.specs.Written.{told}
 use Rattle.parse.specs.Answers.{raisedWords, paramItems}
 use Rattle.exprs.specs.BinderWords.{BinderRow, bindersWords}
 use Rattle.parse.specs.PredWords.{Whole}
 use Rattle.parse.specs.DraftWords.{BodyHere, bodyOf, BodyDone, bodyWrote, bodyRefused, PartsDone, partsWrote, partsRefused}
-use Rattle.atoms.specs.declared.scopes.Entries.{Entries}
-use Rattle.exprs.specs.declared.expr.Progress.{Progress}
-use Rattle.exprs.specs.declared.expr.Progress.the-variants as progress
 use Rattle.parse.specs.declared.draft.Parts.{Parts}
 use Rattle.parse.specs.declared.draft.Parts.the-variants.{Done, Refused}
 use Rattle.atoms.proofs.Puts.{put-append}
-use Rattle.exprs.proofs.Laid.{never, same-words, same-next}
-use Rattle.exprs.proofs.Steps.{More, some, Inside, pushed-inside}
-use Rattle.exprs.proofs.Steps as Steps
 use Rattle.atoms.proofs.SortPlace.{GotAt, BadAt, every-got}
-use Rattle.exprs.proofs.BinderPairs.{pair-bad, ReadFrom, read-from}
+use Rattle.exprs.proofs.BinderPairs.{ReadFrom, read-from}
 use Rattle.exprs.proofs.ExistsForm.{numbered-length}
 use Rattle.grammar.proofs.TreeHead.{alone, no-list}
 use Rattle.atoms.proofs.Places.Spots.{word0, spot-within, as-list, IsList}
 use Rattle.atoms.proofs.Places.Inside.{ListNode, items-there, first-there, others-there, list-length}
-
--- ---- names
-
--- The rest of the names counts if the first tree is a pair.
-names-more : (t : Tree) (ts : Trees) → isGot (nameOf t) ≡ true → isGot (allNames (tcons t ts)) ≡ isGot (allNames ts)
-unfolding allNames
-names-more t ts e = go (nameOf t) (allNames ts) e
-  where
-    go : (a : Ans Span) (b : Ans (List Span)) → isGot a ≡ true → isGot (andThen a λ s. andThen b λ ss. got (s ∷ ss)) ≡ isGot b
-    go (got s) (got ss) h = refl
-    go (got s) (bad r) h = refl
-    go (bad r) b h = absurd (true≢false (sym h))
-
-names-none : (t : Tree) (ts : Trees) → isGot (nameOf t) ≡ false → allNames (tcons t ts) ≡ bad malformed
-unfolding allNames
-names-none t ts e = rw (pair-bad t e) refl
-
--- There is no refusal but 8.
-names-bad : (ts : Trees) → isGot (allNames ts) ≡ false → allNames ts ≡ bad malformed
-unfolding allNames
-names-bad tnil h = absurd (true≢false h)
-names-bad (tcons t ts) h = go (isGot (nameOf t)) refl (names-bad ts)
-  where
-    go : (b : Bool) → isGot (nameOf t) ≡ b → (isGot (allNames ts) ≡ false → allNames ts ≡ bad malformed) → allNames (tcons t ts) ≡ bad malformed
-    go false e k = names-none t ts e
-    go true e k = also (nameOf t) e (k (sym (names-more t ts e) ∙ h))
-      where
-        also : (a : Ans Span) → isGot a ≡ true → allNames ts ≡ bad malformed → andThen a (λ s. andThen (allNames ts) λ ss. got (s ∷ ss)) ≡ bad malformed
-        also (got s) g x = rw x refl
-        also (bad r) g x = absurd (true≢false (sym g))
-
-record Some (ts : Trees) : Type 0 where
-  names : List Span
-  is : allNames ts ≡ got names
-
-names-got : (ts : Trees) → isGot (allNames ts) ≡ true → Some ts
-names-got ts h = go (allNames ts) refl h
-  where
-    go : (a : Ans (List Span)) → allNames ts ≡ a → isGot a ≡ true → Some ts
-    go (got ss) e g = record { names = ss; is = e }
-    go (bad r) e g = absurd (true≢false (sym g))
-
--- How far a loop over pairs has come.
-pub record Pairing (ws : List ℕ) (at n : ℕ) (h : BinderRow ws at n 0) (i p : ℕ) : Type 0 where
-  pub items : Trees
-  pub words : drop p ws ≡ treesWords items ++ h .rest
-  pub many : n ≡ i + trees items
-  pub same : isGot (allNames (h .items)) ≡ isGot (allNames items)
-
-module _ {ws : List ℕ} {at n : ℕ} {h : BinderRow ws at n 0} where
-  pub pairing-start : Pairing ws at n h 0 at
-  pairing-start = record { items = h .items; words = h .words; many = omega (arith, h .many); same = refl }
-
-  module _ {i p : ℕ} (g : Pairing ws at n h i p) where
-    -- All are pairs.
-    pub pairing-end : n ≤ i → true ≡ isGot (allNames (h .items))
-    unfolding allNames
-    pairing-end e = rw (g .same, Steps.none (g .items) (omega (arith, g .many))) refl
-
-    module _ (l : i < n) where
-      pub next-pair : More (g .items)
-      next-pair = some (g .items) (omega (arith, g .many))
-
-      next-words : drop p ws ≡ treesWords (tcons (next-pair .first) (next-pair .others)) ++ h .rest
-      next-words = g .words ∙ ap (λ (t : Trees). treesWords t ++ h .rest) (next-pair .is)
-
-      pub pair-words : drop p ws ≡ treeWords (next-pair .first) ++ (treesWords (next-pair .others) ++ h .rest)
-      pair-words = first-there ws p (next-pair .first) (next-pair .others) (h .rest) next-words
-
-      abbrev pub pair-spot : Spot ws p
-      pair-spot = record { tree = next-pair .first; rest = treesWords (next-pair .others) ++ h .rest; words = pair-words }
-
-      pair-count : trees (g .items) ≡ suc (trees (next-pair .others))
-      unfolding trees
-      pair-count = ap trees (next-pair .is)
-
-      -- One is none.
-      pub pairing-bad : {r : Bool} → r ≡ isGot (nameOf (next-pair .first)) → r ≡ false → false ≡ isGot (allNames (h .items))
-      pairing-bad x e = sym (g .same ∙ ap (λ (t : Trees). isGot (allNames t)) (next-pair .is) ∙ ap isGot (names-none (next-pair .first) (next-pair .others) (sym x ∙ e)))
-
-      pub pairing-more : {r : Bool} {j : ℕ} → r ≡ isGot (nameOf (next-pair .first)) → r ≡ true → j ≡ length (treeWords (next-pair .first)) → Pairing ws at n h (i + 1) (p + j)
-      pairing-more {j = j} x e is = record {
-        items = next-pair .others;
-        words = others-there ws p (next-pair .first) (next-pair .others) (h .rest) next-words j is;
-        many = omega (arith, g .many, pair-count);
-        same = g .same ∙ ap (λ (t : Trees). isGot (allNames t)) (next-pair .is) ∙ names-more (next-pair .first) (next-pair .others) (sym x ∙ e);
-      }
-
--- ---- names and sorts are those of binders
-
-abbrev withNames : List Span → Ans (List Sort) → Ans Binders
-withNames names a = andThen a λ os. got (record { names = names; sorts = os })
-
-names-binders : (text : List ℕ) (ts : Trees) (names : List Span) → allNames ts ≡ got names → binders text ts ≡ withNames names (allSorts text ts)
-unfolding allNames allSorts binders
-names-binders text tnil names e = let z : [] ≡ names = cc in rw (sym z) refl
-names-binders text (tcons t ts) names e = go (nameOf t) (allNames ts) (names-binders text ts) e
-  where
-    rest : (s : Span) (ss : List Span) (a : Ans Sort) (b : Ans (List Sort))
-        → andThen a (λ o. andThen (withNames ss b) λ bs. got (record { names = s ∷ bs .names; sorts = o ∷ bs .sorts })) ≡ withNames (s ∷ ss) (andThen a λ o. andThen b λ os. got (o ∷ os))
-    rest s ss (got o) (got os) = refl
-    rest s ss (got o) (bad r) = refl
-    rest s ss (bad r) b = refl
-
-    go : (a : Ans Span) (b : Ans (List Span)) → ((ns : List Span) → b ≡ got ns → binders text ts ≡ withNames ns (allSorts text ts)) → andThen a (λ s. andThen b λ ss. got (s ∷ ss)) ≡ got names
-        → andThen a (λ s. andThen (sortIn text t) λ o. andThen (binders text ts) λ bs. got (record { names = s ∷ bs .names; sorts = o ∷ bs .sorts }))
-        ≡ withNames names (andThen (sortIn text t) λ o. andThen (allSorts text ts) λ os. got (o ∷ os))
-    go (got s) (got ss) ih x = let z : s ∷ ss ≡ names = cc in rw (sym z, ih ss refl) (rest s ss (sortIn text t) (allSorts text ts))
-    go (got s) (bad r) ih x = let z : _≡_ {A = ℕ} 0 1 = cc in absurd (omega arith)
-    go (bad r) b ih x = let z : _≡_ {A = ℕ} 0 1 = cc in absurd (omega arith)
-
--- What was read.
-record Split (names : List Span) (a : Ans (List Sort)) (bs : Binders) : Type 0 where
-  sorts : a ≡ got (bs .sorts)
-  same : names ≡ bs .names
-
-split-got : (names : List Span) (a : Ans (List Sort)) (bs : Binders) → withNames names a ≡ got bs → Split names a bs
-split-got names (got os) bs e =
-    let z : record { names = names; sorts = os } ≡ bs = cc in
-    record { sorts = ap (λ (b : Binders). got (b .sorts)) z; same = ap (λ (b : Binders). b .names) z }
-split-got names (bad r) bs e = let z : _≡_ {A = ℕ} 0 1 = cc in absurd (omega arith)
-
-split-bad : (names : List Span) (a : Ans (List Sort)) (r : Refusal) → withNames names a ≡ bad r → a ≡ bad r
-split-bad names (got os) r e = let z : _≡_ {A = ℕ} 0 1 = cc in absurd (omega arith)
-split-bad names (bad q) r e = cc
+use Rattle.parse.proofs.ParamNames.{Some, names-bad, names-got, names-binders, split-got, split-bad}
 
 -- ---- what a solution is
 
@@ -222,77 +87,6 @@ module _ (text : List ℕ) where
                 ≡ chain (chain r (λ x m. chain (lifted (distinct text (bs .names)) m) (λ _ k. ok x k))) (λ y k. ok (made bs y) k)
             go (ok x m) = behind x m (distinct text (bs .names))
             go (no q) = refl
-
--- ---- the body
-
-module _ (text : List ℕ) (names : List Span) where
-  -- 10 comes behind it.
-  abbrev distinctly : Res Expr → Res Expr
-  distinctly x = chain x (λ e n. chain (lifted (distinct text names) n) (λ _ m. ok e m))
-
-  module _ (count u : ℕ) {d d′ : List ℕ} {b : ℕ} {p : Progress} where
-    done-refused : (x : Res Expr) {k : ℕ} → Parsed (told count x) 0 d d′ b p → p ≡ progress.Refused k → BodyDone count u d d′ (distinctly x) (Refused k)
-    done-refused (ok e m) (wrote y) q = never (y .is) q
-    done-refused (no r) {k} (refused y) q = let z : k ≡ number r = cc in bodyRefused (ap Refused z)
-
-    done-twice : (x : Res Expr) {w n : ℕ} → Parsed (told count x) 0 d d′ b p → p ≡ progress.Done w n → repeated text names ≡ true → BodyDone count u d d′ (distinctly x) (Refused 10)
-    unfolding distinct
-    done-twice (ok e m) (wrote y) q t = rw t (bodyRefused refl)
-    done-twice (no r) (refused y) q t = never q y
-
-    done-wrote : (x : Res Expr) {w n : ℕ} → Parsed (told count x) 0 d d′ b p → p ≡ progress.Done w n → repeated text names ≡ false → BodyDone count u d d′ (distinctly x) (Done u w n)
-    unfolding distinct
-    done-wrote (ok e m) {w} {n} (wrote y) q t =
-        let a : w ≡ length (raisedWords exprItems count e) = same-words q (y .is) ∙ zero-add _ in
-        let z : n ≡ m = same-next q (y .is) in
-        rw (t, a, z) (bodyWrote refl (y .words))
-    done-wrote (no r) (refused y) q t = never q y
-
-module _ {text ws : List ℕ} {params body next : ℕ} (h : BodyHere text ws params body next) where
-  abbrev pub names-bound : Bound ws params
-  names-bound = record { names = h .names; without = λ z. absurd (h .there z); place = λ _. h .place }
-
-  abbrev pub body-scopes : List Scope
-  body-scopes = record { names = h .names; first = 0 } ∷ []
-
-  abbrev pub body-read : Res Expr
-  body-read = ParseExpr.child text (h .spot .tree) .plainly body-scopes next
-
-  module _ (s : Entries) {s′ : Entries} (d : s .depth ≡ 0) (l : length (s .entries) ≡ maxLists) (is : s′ ≡ pushed s params 0) where
-    pub body-inside : Inside ws s′ body-scopes (s .depth)
-    unfolding inner pick
-    body-inside =
-        let i : Inside ws (pushed s params 0) (inner params (h .names) 0 []) (s .depth) = pushed-inside ws s params 0 names-bound [] (rw d tt) l (omega (arith, d)) in
-        let e : inner params (h .names) 0 [] ≡ body-scopes = rw (ne-eqb params 0 (h .there)) refl in
-        rw is (rw e at i)
-
-    -- The parameters are its one scope.
-    abbrev pub body-here : Here text ws body s′ 0 next
-    body-here = record {
-      spot = h .spot;
-      scopes = body-scopes;
-      holds = body-inside .holds;
-      long = body-inside .long;
-      shallow = omega (arith, h .nests, body-inside .shallow, d);
-      room = omega (arith, h .room);
-      bytes = h .bytes;
-    }
-
-  module _ {count u b : ℕ} {d d′ : List ℕ} {p : Progress} (y : Parsed (told count body-read) 0 d d′ b p) where
-    -- It is refused.
-    pub body-refused : {k : ℕ} → p ≡ progress.Refused k → BodyDone count u d d′ (bodyOf text (h .spot .tree) (h .names) next) (Refused k)
-    unfolding bodyOf
-    body-refused q = done-refused text (h .names) count u body-read y q
-
-    module _ {w n : ℕ} (q : p ≡ progress.Done w n) {t : Bool} (e : t ≡ repeated text (h .names)) where
-      -- A name stands there twice.
-      pub body-twice : t ≡ true → BodyDone count u d d′ (bodyOf text (h .spot .tree) (h .names) next) (Refused 10)
-      unfolding bodyOf
-      body-twice z = done-twice text (h .names) count u body-read y q (sym e ∙ z)
-
-      pub body-wrote : t ≡ false → BodyDone count u d d′ (bodyOf text (h .spot .tree) (h .names) next) (Done u w n)
-      unfolding bodyOf
-      body-wrote z = done-wrote text (h .names) count u body-read y q (sym e ∙ z)
 
 -- ---- the whole
 

@@ -3,7 +3,7 @@ use native.Mathlib.Omega.{arith}
 use borrow.Author.Tests.{not-true, not-false}
 use Rattle.exprs.specs.BinderWords.{BinderRow}
 use Rattle.atoms.proofs.Places.Spots.{spot-within}
-use Rattle.parse.proofs.SolutionParts.{Pairing, pairing-start, pairing-end, pairing-bad, pairing-more, pair-spot}
+use Rattle.parse.proofs.ParamNames.{Pairing, pairing-start, pairing-end, pairing-bad, pairing-more, pair-spot}
 use Rattle.parse.proofs.draft.all_pairs.Statement.{statement}
 use Rattle.parse.proofs.draft.all_pairs.Tie as tie
 

@@ -1,4 +1,4 @@
-use Rattle.parse.proofs.SolutionParts.{names-bound, body-here, body-refused, body-twice, body-wrote}
+use Rattle.parse.proofs.SolutionBody.{names-bound, body-here, body-refused, body-twice, body-wrote}
 use borrow.Author.Needs.{needs}
 use Rattle.parse.proofs.draft.body_at.Statement.{statement}
 use Rattle.parse.proofs.draft.body_at.Tie as tie
