@@ -1,4 +1,4 @@
-/* A proved reader of solver solutions: the functions of the static library, target/staticlib/libffi.a.
+/* A proved reader of solver solutions: the functions of the static library, libpinhkray.a.
  *
  * Each function returns a refusal's number, 0 (PINHKRAY_ACCEPTED) if it accepts. An accepted call writes its words from
  * the start of `out` and changes no later word. After a refusal all words of tree, draft and out are zero, the reported

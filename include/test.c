@@ -1,5 +1,5 @@
 /* The library called from C. It prints nothing and exits with 0 if every answer is the right one. */
-#include "pinhkray.h"
+#include <pinhkray.h>
 
 #include <stdio.h>
 #include <string.h>

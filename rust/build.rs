@@ -1,4 +1,4 @@
-//! Links the proved archive, `libffi.a`. PINHKRAY_LIB names another folder that holds it, by a whole path.
+//! Links the proved archive, `libpinhkray.a`. PINHKRAY_LIB names another folder that holds it, by a whole path.
 
 use std::path::PathBuf;
 
@@ -6,15 +6,25 @@ fn main() {
     println!("cargo:rerun-if-env-changed=PINHKRAY_LIB");
     let folder = match std::env::var_os("PINHKRAY_LIB") {
         Some(folder) => PathBuf::from(folder),
-        None => PathBuf::from(env!("CARGO_MANIFEST_DIR")).join("../target/staticlib"),
+        None => PathBuf::from(env!("CARGO_MANIFEST_DIR")).join("../target/pinhkray"),
     };
-    let archive = folder.join("libffi.a");
+    if !folder.is_absolute() {
+        fail(format!(
+            "PINHKRAY_LIB is {:?}, and no whole path",
+            folder.display().to_string()
+        ));
+    }
+    let archive = folder.join("libpinhkray.a");
     println!("cargo:rerun-if-changed={}", archive.display());
     if !archive.is_file() {
-        eprintln!("pinhkray: there is no {}", archive.display());
-        eprintln!("pinhkray: run `rt staticlib ffi` first, or let PINHKRAY_LIB name its folder");
-        std::process::exit(1);
+        fail(format!("there is no {}", archive.display()));
     }
     println!("cargo:rustc-link-search=native={}", folder.display());
-    println!("cargo:rustc-link-lib=static=ffi");
+    println!("cargo:rustc-link-lib=static=pinhkray");
+}
+
+fn fail(why: String) -> ! {
+    eprintln!("pinhkray: {why}");
+    eprintln!("pinhkray: run ./bindings first, which makes target/pinhkray, or let PINHKRAY_LIB name the folder of libpinhkray.a by a whole path");
+    std::process::exit(1);
 }
