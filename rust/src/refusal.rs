@@ -43,7 +43,7 @@ use Refusal::*;
 
 impl Refusal {
     /// All refusals, from 1 on.
-    pub const ALL: [Refusal; 14] = [
+    pub const ALL: &'static [Refusal] = &[
         TooLong,
         NotUtf8,
         EndsEarly,
@@ -74,7 +74,7 @@ impl Refusal {
 
 impl fmt::Display for Refusal {
     fn fmt(&self, f: &mut fmt::Formatter<'_>) -> fmt::Result {
-        f.write_str(match self {
+        f.pad(match self {
             TooLong => "the text has more bytes than a text may have",
             NotUtf8 => "the text is not UTF-8",
             EndsEarly => "the text ends before an expression or a list does",

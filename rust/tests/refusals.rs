@@ -127,9 +127,9 @@ fn limits_of_texts() {
 #[test]
 fn every_number_has_its_refusal() {
     assert_eq!(Refusal::ALL.len(), 14);
-    for (refusal, number) in Refusal::ALL.into_iter().zip(1..) {
+    for (refusal, number) in Refusal::ALL.iter().zip(1..) {
         assert_eq!(refusal.number(), number);
-        assert_eq!(Refusal::from_number(number), Some(refusal));
+        assert_eq!(Refusal::from_number(number), Some(*refusal));
     }
     for none in [0, 15, u32::MAX] {
         assert_eq!(Refusal::from_number(none), None);
@@ -138,8 +138,8 @@ fn every_number_has_its_refusal() {
 
 #[test]
 fn every_refusal_is_an_error_with_a_sentence_of_its_own() {
-    let errors = Refusal::ALL.map(|refusal| Box::new(refusal) as Box<dyn std::error::Error>);
-    let mut sentences: Vec<String> = errors.iter().map(|error| error.to_string()).collect();
+    let sentence = |refusal: &Refusal| (refusal as &dyn std::error::Error).to_string();
+    let mut sentences: Vec<String> = Refusal::ALL.iter().map(sentence).collect();
     assert_eq!(
         sentences[3],
         "a `)` stands where an expression should start"
@@ -147,4 +147,10 @@ fn every_refusal_is_an_error_with_a_sentence_of_its_own() {
     sentences.sort();
     sentences.dedup();
     assert_eq!(sentences.len(), 14);
+}
+
+#[test]
+fn a_sentence_takes_its_width() {
+    assert_eq!(format!("{NotUtf8:>23}."), "  the text is not UTF-8.");
+    assert_eq!(format!("{NotUtf8:.8}."), "the text.");
 }
