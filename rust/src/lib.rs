@@ -2,15 +2,16 @@
 //!
 //! [`Reader`] has the six operations over slices that the caller lends: they write words, and allocate nothing.
 //! Every operation also has an owned form, such as [`Reader::solution_owned`], that answers terms: [`Tree`], [`Sort`],
-//! [`Expr`], [`Bind`], [`Solution`]. [`flatten`] joins applications of applications in words.
+//! [`Expr`], [`Bind`], [`Solution`]. [`flatten`] joins applications of applications in words. A term's `encode` gives
+//! its words, and `decode` the term of words.
 //!
 //! Terms print in a notation for people, near the solver's and not to be read again: a bound variable is `%` and its
 //! number, and a name is shown as its place in the text, or as it is with `with_text`.
 //!
 //! What each operation answers, which words it writes and when it refuses is proved of the library that this crate
-//! links, for every text and for slices of any length. The decoding of words into terms, and their printing, is plain
-//! Rust with tests. A call needs at most 1 MiB of stack, which is tested and not proved. The library keeps nothing from
-//! call to call.
+//! links, for every text and for slices of any length. The decoding of words into terms, their encoding and their
+//! printing is plain Rust with tests. A call needs at most 1 MiB of stack, which is tested and not proved. The library
+//! keeps nothing from call to call.
 //!
 //! ```
 //! use pinhkray::Reader;
@@ -28,6 +29,7 @@
 
 mod bind;
 mod codes;
+mod encode;
 mod expr;
 mod limits;
 mod owned;
@@ -44,7 +46,7 @@ mod words;
 pub use bind::{Bind, Predicate};
 pub use codes::{BinOp, Relation, ThyFunc};
 pub use expr::Expr;
-pub use limits::{MAX_BYTES, MAX_EXPRESSIONS, MAX_LISTS};
+pub use limits::{ANSWER_WORDS, MAX_BYTES, MAX_EXPRESSIONS, MAX_LISTS, TREE_WORDS};
 pub use owned::flatten_owned;
 pub use reader::{flatten, ReadAll, ReadOne, Reader, Written};
 pub use refusal::Refusal;

@@ -9,10 +9,23 @@ pub const MAX_LISTS: usize = 64;
 /// So many expressions may stand inside one another in words that are flattened or decoded.
 pub const MAX_EXPRESSIONS: usize = 128;
 
-/// A tree has at most so many words for each byte of its text: each node has a byte of its own, and a node's own words
-/// are at most the five of an integer.
-pub(crate) const TREE_WORDS: usize = 5;
+/// Slices of so many words for each byte of the text are long enough for a tree: the tree slice, and the output of
+/// [`Reader::read_one`](crate::Reader::read_one) and [`Reader::read_all`](crate::Reader::read_all). With slices of this
+/// and the next length no call is refused with [`Refusal::NoRoom`](crate::Refusal::NoRoom), which is proved.
+pub const TREE_WORDS: usize = 5;
 
-/// An expression or a solution has at most so many words for each byte of its text, which is proved. Sorts (at most 12)
-/// and binds have no more.
-pub(crate) const ANSWER_WORDS: usize = 15;
+/// Slices of so many words for each byte of the text are long enough for a draft, and for the output where it is a
+/// sort, an expression, a bind or a solution, which is proved as for [`TREE_WORDS`].
+///
+/// ```
+/// use pinhkray::{Reader, ANSWER_WORDS, TREE_WORDS};
+///
+/// let text = b"(lambda ((x Int)) (< x 5))";
+/// let mut tree = vec![0; TREE_WORDS * text.len()];
+/// let mut draft = vec![0; ANSWER_WORDS * text.len()];
+/// let mut out = vec![0; ANSWER_WORDS * text.len()];
+/// let written = Reader::open(0).solution(text, &mut tree, &mut draft, &mut out)?;
+/// assert_eq!(out[..written.words], [1, 0, 0, 1, 47, 4, 36, 0, 0, 32, 5, 0, 0, 0]);
+/// # Ok::<(), pinhkray::Refusal>(())
+/// ```
+pub const ANSWER_WORDS: usize = 15;

@@ -13,6 +13,10 @@ use crate::words::DecodeError;
 
 impl Reader {
     /// The first expression of a text, and the byte behind it.
+    ///
+    /// # Panics
+    ///
+    /// If the linked archive is of another version, and its answer none that this crate knows.
     pub fn read_one_owned(&self, text: &[u8]) -> Result<(Tree, usize), Refusal> {
         let mut out = slice(text, TREE_WORDS);
         let read = self.read_one(text, &mut out)?;
@@ -20,6 +24,10 @@ impl Reader {
     }
 
     /// All expressions of a text.
+    ///
+    /// # Panics
+    ///
+    /// If the linked archive is of another version, and its answer none that this crate knows.
     pub fn read_all_owned(&self, text: &[u8]) -> Result<Vec<Tree>, Refusal> {
         let mut out = slice(text, TREE_WORDS);
         let read = self.read_all(text, &mut out)?;
@@ -27,6 +35,10 @@ impl Reader {
     }
 
     /// The sort that a text begins with.
+    ///
+    /// # Panics
+    ///
+    /// If the linked archive is of another version, and its answer none that this crate knows.
     pub fn sort_owned(&self, text: &[u8]) -> Result<Sort, Refusal> {
         let (mut tree, mut out) = (slice(text, TREE_WORDS), slice(text, ANSWER_WORDS));
         let sort = self.sort(text, &mut tree, &mut out)?;
@@ -34,6 +46,10 @@ impl Reader {
     }
 
     /// The expression that a text begins with, not flattened.
+    ///
+    /// # Panics
+    ///
+    /// If the linked archive is of another version, and its answer none that this crate knows.
     pub fn expression_owned(&mut self, text: &[u8]) -> Result<Expr, Refusal> {
         let (mut tree, mut out) = (slice(text, TREE_WORDS), slice(text, ANSWER_WORDS));
         let expression = self.expression(text, &mut tree, &mut out)?;
@@ -41,6 +57,10 @@ impl Reader {
     }
 
     /// The bind that a text begins with.
+    ///
+    /// # Panics
+    ///
+    /// If the linked archive is of another version, and its answer none that this crate knows.
     pub fn bind_owned(&mut self, text: &[u8]) -> Result<Bind, Refusal> {
         let (mut tree, mut out) = (slice(text, TREE_WORDS), slice(text, ANSWER_WORDS));
         let bind = self.bind(text, &mut tree, &mut out)?;
@@ -48,6 +68,10 @@ impl Reader {
     }
 
     /// The solution that a text begins with, flattened.
+    ///
+    /// # Panics
+    ///
+    /// If the linked archive is of another version, and its answer none that this crate knows.
     pub fn solution_owned(&mut self, text: &[u8]) -> Result<Solution, Refusal> {
         let mut tree = slice(text, TREE_WORDS);
         let (mut draft, mut out) = (slice(text, ANSWER_WORDS), slice(text, ANSWER_WORDS));
@@ -56,7 +80,12 @@ impl Reader {
     }
 }
 
-/// Flattens the words of one expression, and answers the expression.
+/// Flattens the words of one expression, and answers the expression. [`Expr::encode`] gives the words of one that was
+/// read.
+///
+/// # Panics
+///
+/// If the linked archive is of another version, and its answer none that this crate knows.
 pub fn flatten_owned(words: &[u32]) -> Result<Expr, Refusal> {
     let mut out = vec![0; words.len()];
     let flat = flatten(words, &mut out)?;
@@ -71,7 +100,7 @@ fn slice(text: &[u8], words: usize) -> Vec<u32> {
     }
 }
 
-/// An accepted call's words always are those of its answer.
+/// An accepted call's words always are those of its answer, if the archive is that of this version.
 fn answered<T>(decoded: Result<T, DecodeError>) -> T {
     decoded.expect("the words of an accepted call")
 }

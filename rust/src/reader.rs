@@ -47,6 +47,10 @@ impl Reader {
     }
 
     /// Reads the first expression of a text as the words of a [`Tree`](crate::Tree).
+    ///
+    /// # Panics
+    ///
+    /// If the linked archive is of another version, and its answer none that this crate knows.
     pub fn read_one(&self, text: &[u8], out: &mut [u32]) -> Result<ReadOne, Refusal> {
         let (words, next) = sys::read_one(text, out)?;
         Ok(ReadOne {
@@ -56,6 +60,10 @@ impl Reader {
     }
 
     /// Reads all expressions of a text as the words of [`Tree`](crate::Tree)s, one behind the other.
+    ///
+    /// # Panics
+    ///
+    /// If the linked archive is of another version, and its answer none that this crate knows.
     pub fn read_all(&self, text: &[u8], out: &mut [u32]) -> Result<ReadAll, Refusal> {
         let (expressions, words) = sys::read_all(text, out)?;
         Ok(ReadAll {
@@ -66,11 +74,19 @@ impl Reader {
 
     /// The [`Sort`](crate::Sort) that a text begins with. The tree is a working slice, as in the next three, and zero
     /// after every call.
+    ///
+    /// # Panics
+    ///
+    /// If the linked archive is of another version, and its answer none that this crate knows.
     pub fn sort(&self, text: &[u8], tree: &mut [u32], out: &mut [u32]) -> Result<Written, Refusal> {
         sys::sort(text, tree, out).map(written)
     }
 
     /// The [`Expr`](crate::Expr) that a text begins with, not flattened.
+    ///
+    /// # Panics
+    ///
+    /// If the linked archive is of another version, and its answer none that this crate knows.
     pub fn expression(
         &mut self,
         text: &[u8],
@@ -81,6 +97,10 @@ impl Reader {
     }
 
     /// The [`Bind`](crate::Bind) that a text begins with: a name, its sort and predicates, not flattened.
+    ///
+    /// # Panics
+    ///
+    /// If the linked archive is of another version, and its answer none that this crate knows.
     pub fn bind(
         &mut self,
         text: &[u8],
@@ -92,6 +112,10 @@ impl Reader {
 
     /// The [`Solution`](crate::Solution) that a text begins with, flattened. The draft, a second working slice, takes
     /// the body before flattening.
+    ///
+    /// # Panics
+    ///
+    /// If the linked archive is of another version, and its answer none that this crate knows.
     pub fn solution(
         &mut self,
         text: &[u8],
@@ -105,6 +129,10 @@ impl Reader {
 
 /// Flattens the words of one [`Expr`](crate::Expr): an application whose head is an application becomes one. The output
 /// needs no more words than there are.
+///
+/// # Panics
+///
+/// If the linked archive is of another version, and its answer none that this crate knows.
 pub fn flatten(words: &[u32], out: &mut [u32]) -> Result<Written, Refusal> {
     sys::flatten(words, out).map(written)
 }

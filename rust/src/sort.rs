@@ -6,6 +6,20 @@ use std::hash::{Hash, Hasher};
 use std::mem;
 
 /// A sort. Dropping, cloning, comparing and printing one takes no stack, however deep it is.
+///
+/// Since it has a `Drop` of its own, no pattern moves a field out of it. Match on a reference, and clone what is to be
+/// kept or put another sort in its place:
+///
+/// ```
+/// use pinhkray::{Reader, Sort};
+///
+/// let mut sort = Reader::open(0).sort_owned(b"(func 0 (Int) Bool)")?;
+/// let Sort::Func(input, output) = &mut sort else { panic!() };
+/// let cloned: Sort = (**input).clone();
+/// let moved: Sort = std::mem::replace(&mut **output, Sort::Int);
+/// assert_eq!((cloned, moved), (Sort::Int, Sort::Bool));
+/// # Ok::<(), pinhkray::Refusal>(())
+/// ```
 pub enum Sort {
     /// Integers.
     Int,

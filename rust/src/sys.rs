@@ -86,7 +86,8 @@ mod raw {
     }
 }
 
-/// The number that a function returned: 0 if it accepted. No other number than these is ever returned.
+/// The number that a function returned: 0 if it accepted. The archive of this version returns no other number than
+/// these.
 fn accepted(number: u32) -> Result<(), Refusal> {
     match number {
         0 => Ok(()),

@@ -1,12 +1,9 @@
 //! Owned terms: what they are, that no text within the limits lacks room, and sorts of any depth.
 
-#[path = "support/encode.rs"]
-mod encode;
-
-use encode::Encode;
 use pinhkray::{
     flatten_owned, BinOp, Bind, DecodeError, Expr, Fresh, Predicate, Reader, Relation, Solution,
-    Sort, SortCtor, Span, ThyFunc, Tree, MAX_BYTES, MAX_EXPRESSIONS, MAX_LISTS,
+    Sort, SortCtor, Span, ThyFunc, Tree, ANSWER_WORDS, MAX_BYTES, MAX_EXPRESSIONS, MAX_LISTS,
+    TREE_WORDS,
 };
 use std::collections::HashSet;
 
@@ -75,15 +72,15 @@ fn every_kind() {
     ];
     let mut seen = String::new();
     for text in texts {
-        let mut out = vec![0; 15 * text.len()];
-        let mut tree = out.clone();
+        let mut out = vec![0; ANSWER_WORDS * text.len()];
+        let mut tree = vec![0; TREE_WORDS * text.len()];
         let mut reader = Reader::open(u64::MAX - 9);
         let words = reader
             .expression(text.as_bytes(), &mut tree, &mut out)
             .unwrap()
             .words;
         let term = Expr::decode(&out[..words]).unwrap();
-        assert_eq!(term.words(), out[..words]);
+        assert_eq!(term.encode(), out[..words]);
         seen += &format!("{term:?}");
         assert_eq!(
             Reader::open(u64::MAX - 9).expression_owned(text.as_bytes()),
@@ -130,7 +127,7 @@ fn applications_are_joined() {
         head,
     };
     assert_ne!(curried, joined);
-    assert_eq!(flatten_owned(&curried.words()), Ok(joined));
+    assert_eq!(flatten_owned(&curried.encode()), Ok(joined));
 }
 
 /// Repeats a part between a start and an end, up to the longest text.
@@ -188,7 +185,7 @@ fn deep_sorts() {
     let mut words = vec![5; 300_000];
     words.extend([10, 2, 3, 4, 1, 7, 1, 2]);
     let sort = Sort::decode(&words).unwrap();
-    assert_eq!(sort.words(), words);
+    assert_eq!(sort.encode(), words);
     let copy = sort.clone();
     assert_eq!(copy, sort);
     assert!(sort
@@ -205,7 +202,7 @@ fn deep_sorts() {
     ]
     .concat();
     let applied = flatten_owned(&inner).unwrap();
-    assert_eq!(applied.words(), inner);
+    assert_eq!(applied.encode(), inner);
     assert_eq!(applied.clone(), applied);
 }
 

@@ -1,15 +1,13 @@
 //! The recorded answers again, over lent slices and as owned terms.
 
-#[path = "support/encode.rs"]
-mod encode;
 #[path = "support/recorded.rs"]
 mod recorded;
 
-use encode::Encode;
 use pinhkray::{
     flatten, flatten_owned, Bind, DecodeError, Expr, Reader, Refusal, Solution, Sort, Tree,
 };
 use recorded::{lines, Line};
+use std::collections::BTreeSet;
 
 /// A word that no answer leaves where it does not write.
 const OLD: u32 = 0xdead_beef;
@@ -80,17 +78,17 @@ fn owned(line: &Line, reader: &mut Reader) -> Result<(Vec<u32>, usize), Refusal>
     let words = match line.op {
         'R' => {
             let (tree, next) = reader.read_one_owned(text)?;
-            return Ok((tree.words(), next));
+            return Ok((tree.encode(), next));
         }
         'A' => {
             let trees = reader.read_all_owned(text)?;
-            return Ok((trees.words(), trees.len()));
+            return Ok((Tree::encode_all(&trees), trees.len()));
         }
-        'S' => reader.sort_owned(text)?.words(),
-        'E' => reader.expression_owned(text)?.words(),
-        'B' => reader.bind_owned(text)?.words(),
-        'L' => reader.solution_owned(text)?.words(),
-        _ => flatten_owned(&line.words_in)?.words(),
+        'S' => reader.sort_owned(text)?.encode(),
+        'E' => reader.expression_owned(text)?.encode(),
+        'B' => reader.bind_owned(text)?.encode(),
+        'L' => reader.solution_owned(text)?.encode(),
+        _ => flatten_owned(&line.words_in)?.encode(),
     };
     Ok((words, 0))
 }
@@ -112,15 +110,58 @@ fn answers_as_terms() {
     }
 }
 
+/// Takes words apart and puts them together again, which gives the same term when it is taken apart.
+fn again<T: PartialEq + std::fmt::Debug>(
+    words: &[u32],
+    decode: fn(&[u32]) -> Result<T, DecodeError>,
+    encode: fn(&T) -> Vec<u32>,
+) -> Result<Vec<u32>, DecodeError> {
+    let term = decode(words)?;
+    let back = encode(&term);
+    assert_eq!(decode(&back), Ok(term));
+    Ok(back)
+}
+
 fn decoded(op: char, words: &[u32]) -> Result<Vec<u32>, DecodeError> {
     match op {
-        'R' => Tree::decode(words).map(|tree| tree.words()),
-        'A' => Tree::decode_all(words).map(|trees| trees.words()),
-        'S' => Sort::decode(words).map(|sort| sort.words()),
-        'B' => Bind::decode(words).map(|bind| bind.words()),
-        'L' => Solution::decode(words).map(|solution| solution.words()),
-        _ => Expr::decode(words).map(|e| e.words()),
+        'R' => again(words, Tree::decode, Tree::encode),
+        'A' => again(words, Tree::decode_all, |trees| Tree::encode_all(trees)),
+        'S' => again(words, Sort::decode, Sort::encode),
+        'B' => again(words, Bind::decode, Bind::encode),
+        'L' => again(words, Solution::decode, Solution::encode),
+        _ => again(words, Expr::decode, Expr::encode),
     }
+}
+
+/// The words of every answer, there and back.
+#[test]
+fn answers_there_and_back() {
+    let mut operations = BTreeSet::new();
+    for (n, line) in lines().iter().enumerate() {
+        if line.refusal == 0 {
+            let back = decoded(line.op, &line.words);
+            assert_eq!(back.as_ref(), Ok(&line.words), "line {}", n + 1);
+            operations.insert(line.op);
+        }
+    }
+    assert_eq!(
+        operations,
+        BTreeSet::from(['R', 'A', 'S', 'E', 'B', 'L', 'F'])
+    );
+}
+
+/// Every expression that is read is flattened by its words, and flattened again stays as it is.
+#[test]
+fn expressions_that_were_read() {
+    let mut joined = 0;
+    for line in lines().iter().filter(|line| line.op == 'E') {
+        if let Ok(read) = Reader::open(line.start).expression_owned(&line.text) {
+            let flat = flatten_owned(&read.encode()).unwrap();
+            assert_eq!(flatten_owned(&flat.encode()).as_ref(), Ok(&flat));
+            joined += usize::from(flat != read);
+        }
+    }
+    assert!(joined > 0);
 }
 
 /// Words with one word changed, or some missing, are refused or are those of the term that they are decoded as.
@@ -164,8 +205,8 @@ fn agrees_with_flatten(words: &[u32]) {
 fn words_to_flatten() {
     for line in lines().iter().filter(|line| line.op == 'F') {
         agrees_with_flatten(&line.words_in);
-        if let Ok(term) = Expr::decode(&line.words_in) {
-            assert_eq!(term.words(), line.words_in);
+        if let Ok(back) = decoded('F', &line.words_in) {
+            assert_eq!(back, line.words_in);
         }
     }
 }
