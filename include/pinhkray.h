@@ -27,7 +27,8 @@ extern "C" {
 #define PINHKRAY_MAX_EXPRESSIONS 128
 
 /* Slices of so many words for each byte of the text are long enough: 5 for a tree, also where it is the output of a
- * read, and 15 for a draft and for any other output. The 15 is proved for expressions and solutions, the others tested. */
+ * read, and 15 for a draft and for any other output. With these lengths no text is refused with PINHKRAY_NO_ROOM, which
+ * is proved. */
 #define PINHKRAY_TREE_WORDS 5
 #define PINHKRAY_ANSWER_WORDS 15
 
@@ -47,6 +48,133 @@ enum pinhkray_refusal {
     PINHKRAY_FUNC_NUMBER = 12,   /* the number of a func is outside 0 to 64 */
     PINHKRAY_NUMBERS_SPENT = 13, /* the count would exceed 2^64 - 1 */
     PINHKRAY_BAD_WORDS = 14      /* the words to be flattened are not those of one expression */
+};
+
+/* The words of an answer. A node is its kind, its fields, and the nodes inside it, in the order that is given below. A
+ * span is two words: the first byte of a name or string in the text, and how many bytes it has. A fresh number is two
+ * words, low then high. A boolean is 0 or 1, and n is a count.
+ *
+ * A tree, a sort and an expression are nodes. A bind is a span, a sort, n, and n predicates. A solution is n, n times a
+ * fresh number and a sort, and an expression. */
+
+enum pinhkray_tree_kind {
+    PINHKRAY_TREE_SYMBOL = 16,  /* span */
+    PINHKRAY_TREE_QUOTED = 17,  /* span, without the quotes */
+    PINHKRAY_TREE_INTEGER = 18, /* four words, lowest first, in two's complement */
+    PINHKRAY_TREE_DECIMAL = 19, /* span */
+    PINHKRAY_TREE_BOOLEAN = 20, /* boolean */
+    PINHKRAY_TREE_LIST = 21     /* n, how many words the items have, n trees */
+};
+
+enum pinhkray_sort_kind {
+    PINHKRAY_SORT_INT = 1,
+    PINHKRAY_SORT_BOOL = 2,
+    PINHKRAY_SORT_REAL = 3,
+    PINHKRAY_SORT_STR = 4,
+    PINHKRAY_SORT_BITVEC = 5,  /* the width, a sort */
+    PINHKRAY_SORT_BV_SIZE = 6, /* the width, a word */
+    PINHKRAY_SORT_VAR = 7,     /* index: two words, low then high */
+    PINHKRAY_SORT_FUNC = 8,    /* input, output */
+    PINHKRAY_SORT_ABS = 9,     /* index: a word; sort */
+    PINHKRAY_SORT_APP = 10     /* constructor, behind PINHKRAY_CTOR_DATA a span; n, n sorts */
+};
+
+enum pinhkray_sort_constructor {
+    PINHKRAY_CTOR_SET = 0,
+    PINHKRAY_CTOR_MAP = 1,
+    PINHKRAY_CTOR_DATA = 2 /* span, the name */
+};
+
+enum pinhkray_expression_kind {
+    PINHKRAY_EXPR_NUMERAL = 32,      /* four words, lowest first */
+    PINHKRAY_EXPR_BOOLEAN = 33,      /* boolean */
+    PINHKRAY_EXPR_STRING = 34,       /* span, without the quotes */
+    PINHKRAY_EXPR_BITVEC = 35,       /* the value, four words, lowest first; the width, a word */
+    PINHKRAY_EXPR_FRESH = 36,        /* fresh number, of a variable that an exists or a solution binds */
+    PINHKRAY_EXPR_VAR = 37,          /* span, of a variable that nothing binds */
+    PINHKRAY_EXPR_APP = 38,          /* 1 if it gives an output sort, else 0; n, n arguments, that sort, the head */
+    PINHKRAY_EXPR_NEG = 39,          /* expression */
+    PINHKRAY_EXPR_BINARY_OP = 40,    /* operator, two expressions */
+    PINHKRAY_EXPR_IF_THEN_ELSE = 41, /* three expressions */
+    PINHKRAY_EXPR_AND = 42,          /* n, n expressions */
+    PINHKRAY_EXPR_OR = 43,           /* n, n expressions */
+    PINHKRAY_EXPR_NOT = 44,          /* expression */
+    PINHKRAY_EXPR_IMP = 45,          /* two expressions */
+    PINHKRAY_EXPR_IFF = 46,          /* two expressions */
+    PINHKRAY_EXPR_ATOM = 47,         /* relation, two expressions */
+    PINHKRAY_EXPR_LET = 48,          /* span, what it stands for, the expression where it does */
+    PINHKRAY_EXPR_THY_FUNC = 49,     /* theory function */
+    PINHKRAY_EXPR_IS_CTOR = 50,      /* span, of the constructor; expression */
+    PINHKRAY_EXPR_EXISTS = 51        /* n, n times a fresh number and a sort; expression */
+};
+
+enum pinhkray_operator {
+    PINHKRAY_OP_ADD = 0,
+    PINHKRAY_OP_SUB = 1,
+    PINHKRAY_OP_MUL = 2,
+    PINHKRAY_OP_DIV = 3,
+    PINHKRAY_OP_MOD = 4
+};
+
+enum pinhkray_relation {
+    PINHKRAY_REL_EQ = 0,
+    PINHKRAY_REL_NE = 1,
+    PINHKRAY_REL_GT = 2,
+    PINHKRAY_REL_GE = 3,
+    PINHKRAY_REL_LT = 4,
+    PINHKRAY_REL_LE = 5
+};
+
+/* By their spelling in a text, such as strLen, bvule or Set_cup. Two are spelled arr_select_m and arr_store_m, too:
+ * Map_select and Map_store. */
+enum pinhkray_theory_function {
+    PINHKRAY_THY_STR_LEN = 0,
+    PINHKRAY_THY_INT_TO_BV8 = 1,
+    PINHKRAY_THY_BV8_TO_INT = 2,
+    PINHKRAY_THY_INT_TO_BV32 = 3,
+    PINHKRAY_THY_BV32_TO_INT = 4,
+    PINHKRAY_THY_INT_TO_BV64 = 5,
+    PINHKRAY_THY_BV64_TO_INT = 6,
+    PINHKRAY_THY_INT_TO_BV128 = 7,
+    PINHKRAY_THY_BV128_TO_INT = 8,
+    PINHKRAY_THY_BVULE = 9,
+    PINHKRAY_THY_BVSLE = 10,
+    PINHKRAY_THY_BVUGE = 11,
+    PINHKRAY_THY_BVSGE = 12,
+    PINHKRAY_THY_BVUGT = 13,
+    PINHKRAY_THY_BVSGT = 14,
+    PINHKRAY_THY_BVULT = 15,
+    PINHKRAY_THY_BVSLT = 16,
+    PINHKRAY_THY_BVUDIV = 17,
+    PINHKRAY_THY_BVSDIV = 18,
+    PINHKRAY_THY_BVUREM = 19,
+    PINHKRAY_THY_BVSREM = 20,
+    PINHKRAY_THY_BVLSHR = 21,
+    PINHKRAY_THY_BVASHR = 22,
+    PINHKRAY_THY_BVAND = 23,
+    PINHKRAY_THY_BVOR = 24,
+    PINHKRAY_THY_BVXOR = 25,
+    PINHKRAY_THY_BVNOT = 26,
+    PINHKRAY_THY_BVADD = 27,
+    PINHKRAY_THY_BVNEG = 28,
+    PINHKRAY_THY_BVSUB = 29,
+    PINHKRAY_THY_BVMUL = 30,
+    PINHKRAY_THY_BVSHL = 31,
+    PINHKRAY_THY_SET_EMPTY = 32,
+    PINHKRAY_THY_SET_SNG = 33,
+    PINHKRAY_THY_SET_CUP = 34,
+    PINHKRAY_THY_SET_CAP = 35,
+    PINHKRAY_THY_SET_DIF = 36,
+    PINHKRAY_THY_SET_MEM = 37,
+    PINHKRAY_THY_SET_SUB = 38,
+    PINHKRAY_THY_MAP_DEFAULT = 39,
+    PINHKRAY_THY_MAP_SELECT = 40,
+    PINHKRAY_THY_MAP_STORE = 41
+};
+
+enum pinhkray_predicate_kind {
+    PINHKRAY_PREDICATE_KVAR = 64, /* span, of the name with its $; n, n times PINHKRAY_EXPR_VAR and its span */
+    PINHKRAY_PREDICATE_EXPR = 65  /* expression */
 };
 
 /* Reads the first expression of a text as a tree: how many words it has, and the byte behind it. */

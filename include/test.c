@@ -117,10 +117,195 @@ static void flattening(void) {
     CHECK(all(out, LENGTH(out), 0));
 }
 
+/* A text, and the first words of its answer: a kind, and what is behind it. */
+struct answer {
+    const char *text;
+    uint32_t kind, field;
+};
+
+static const struct answer trees[] = {
+    {" a", PINHKRAY_TREE_SYMBOL, 1},
+    {"\"a\"", PINHKRAY_TREE_QUOTED, 1},
+    {"7", PINHKRAY_TREE_INTEGER, 7},
+    {" 1.5", PINHKRAY_TREE_DECIMAL, 1},
+    {"true", PINHKRAY_TREE_BOOLEAN, 1},
+    {"(a b)", PINHKRAY_TREE_LIST, 2},
+};
+
+static const struct answer sorts[] = {
+    {"(BitVec Size3)", PINHKRAY_SORT_BITVEC, PINHKRAY_SORT_BV_SIZE},
+    {"Size9", PINHKRAY_SORT_BV_SIZE, 9},
+    {"@(7)", PINHKRAY_SORT_VAR, 7},
+    {"(func 0 (Int) a)", PINHKRAY_SORT_FUNC, PINHKRAY_SORT_INT},
+    {"(func 0 (Bool) a)", PINHKRAY_SORT_FUNC, PINHKRAY_SORT_BOOL},
+    {"(func 0 (Real) a)", PINHKRAY_SORT_FUNC, PINHKRAY_SORT_REAL},
+    {"(func 0 (Str) a)", PINHKRAY_SORT_FUNC, PINHKRAY_SORT_STR},
+    {"(func 1 () Bool)", PINHKRAY_SORT_ABS, 0},
+    {"(Set_Set Int)", PINHKRAY_SORT_APP, PINHKRAY_CTOR_SET},
+    {"(Map_t Int Int)", PINHKRAY_SORT_APP, PINHKRAY_CTOR_MAP},
+    {"(List Int)", PINHKRAY_SORT_APP, PINHKRAY_CTOR_DATA},
+};
+
+static const struct answer expressions[] = {
+    {"7", PINHKRAY_EXPR_NUMERAL, 7},
+    {"true", PINHKRAY_EXPR_BOOLEAN, 1},
+    {"\"a\"", PINHKRAY_EXPR_STRING, 1},
+    {"(lit \"#b101\" (BitVec Size3))", PINHKRAY_EXPR_BITVEC, 1},
+    {" a", PINHKRAY_EXPR_VAR, 1},
+    {"((as apply Int) a)", PINHKRAY_EXPR_APP, 1},
+    {"(((as apply Int) a) b)", PINHKRAY_EXPR_APP, 0},
+    {"(- a)", PINHKRAY_EXPR_NEG, PINHKRAY_EXPR_VAR},
+    {"(+ a b)", PINHKRAY_EXPR_BINARY_OP, PINHKRAY_OP_ADD},
+    {"(- a b)", PINHKRAY_EXPR_BINARY_OP, PINHKRAY_OP_SUB},
+    {"(* a b)", PINHKRAY_EXPR_BINARY_OP, PINHKRAY_OP_MUL},
+    {"(/ a b)", PINHKRAY_EXPR_BINARY_OP, PINHKRAY_OP_DIV},
+    {"(mod a b)", PINHKRAY_EXPR_BINARY_OP, PINHKRAY_OP_MOD},
+    {"(if a b c)", PINHKRAY_EXPR_IF_THEN_ELSE, PINHKRAY_EXPR_VAR},
+    {"(and a b)", PINHKRAY_EXPR_AND, 2},
+    {"(or a b)", PINHKRAY_EXPR_OR, 2},
+    {"(not a)", PINHKRAY_EXPR_NOT, PINHKRAY_EXPR_VAR},
+    {"(=> a b)", PINHKRAY_EXPR_IMP, PINHKRAY_EXPR_VAR},
+    {"(<=> a b)", PINHKRAY_EXPR_IFF, PINHKRAY_EXPR_VAR},
+    {"(= a b)", PINHKRAY_EXPR_ATOM, PINHKRAY_REL_EQ},
+    {"(!= a b)", PINHKRAY_EXPR_ATOM, PINHKRAY_REL_NE},
+    {"(> a b)", PINHKRAY_EXPR_ATOM, PINHKRAY_REL_GT},
+    {"(>= a b)", PINHKRAY_EXPR_ATOM, PINHKRAY_REL_GE},
+    {"(< a b)", PINHKRAY_EXPR_ATOM, PINHKRAY_REL_LT},
+    {"(<= a b)", PINHKRAY_EXPR_ATOM, PINHKRAY_REL_LE},
+    {"(let (a b) c)", PINHKRAY_EXPR_LET, 6},
+    {"(is$a b)", PINHKRAY_EXPR_IS_CTOR, 4},
+    {"(exists ((a Int)) a)", PINHKRAY_EXPR_EXISTS, 1},
+    {"strLen", PINHKRAY_EXPR_THY_FUNC, PINHKRAY_THY_STR_LEN},
+    {"int_to_bv8", PINHKRAY_EXPR_THY_FUNC, PINHKRAY_THY_INT_TO_BV8},
+    {"bv8_to_int", PINHKRAY_EXPR_THY_FUNC, PINHKRAY_THY_BV8_TO_INT},
+    {"int_to_bv32", PINHKRAY_EXPR_THY_FUNC, PINHKRAY_THY_INT_TO_BV32},
+    {"bv32_to_int", PINHKRAY_EXPR_THY_FUNC, PINHKRAY_THY_BV32_TO_INT},
+    {"int_to_bv64", PINHKRAY_EXPR_THY_FUNC, PINHKRAY_THY_INT_TO_BV64},
+    {"bv64_to_int", PINHKRAY_EXPR_THY_FUNC, PINHKRAY_THY_BV64_TO_INT},
+    {"int_to_bv128", PINHKRAY_EXPR_THY_FUNC, PINHKRAY_THY_INT_TO_BV128},
+    {"bv128_to_int", PINHKRAY_EXPR_THY_FUNC, PINHKRAY_THY_BV128_TO_INT},
+    {"bvule", PINHKRAY_EXPR_THY_FUNC, PINHKRAY_THY_BVULE},
+    {"bvsle", PINHKRAY_EXPR_THY_FUNC, PINHKRAY_THY_BVSLE},
+    {"bvuge", PINHKRAY_EXPR_THY_FUNC, PINHKRAY_THY_BVUGE},
+    {"bvsge", PINHKRAY_EXPR_THY_FUNC, PINHKRAY_THY_BVSGE},
+    {"bvugt", PINHKRAY_EXPR_THY_FUNC, PINHKRAY_THY_BVUGT},
+    {"bvsgt", PINHKRAY_EXPR_THY_FUNC, PINHKRAY_THY_BVSGT},
+    {"bvult", PINHKRAY_EXPR_THY_FUNC, PINHKRAY_THY_BVULT},
+    {"bvslt", PINHKRAY_EXPR_THY_FUNC, PINHKRAY_THY_BVSLT},
+    {"bvudiv", PINHKRAY_EXPR_THY_FUNC, PINHKRAY_THY_BVUDIV},
+    {"bvsdiv", PINHKRAY_EXPR_THY_FUNC, PINHKRAY_THY_BVSDIV},
+    {"bvurem", PINHKRAY_EXPR_THY_FUNC, PINHKRAY_THY_BVUREM},
+    {"bvsrem", PINHKRAY_EXPR_THY_FUNC, PINHKRAY_THY_BVSREM},
+    {"bvlshr", PINHKRAY_EXPR_THY_FUNC, PINHKRAY_THY_BVLSHR},
+    {"bvashr", PINHKRAY_EXPR_THY_FUNC, PINHKRAY_THY_BVASHR},
+    {"bvand", PINHKRAY_EXPR_THY_FUNC, PINHKRAY_THY_BVAND},
+    {"bvor", PINHKRAY_EXPR_THY_FUNC, PINHKRAY_THY_BVOR},
+    {"bvxor", PINHKRAY_EXPR_THY_FUNC, PINHKRAY_THY_BVXOR},
+    {"bvnot", PINHKRAY_EXPR_THY_FUNC, PINHKRAY_THY_BVNOT},
+    {"bvadd", PINHKRAY_EXPR_THY_FUNC, PINHKRAY_THY_BVADD},
+    {"bvneg", PINHKRAY_EXPR_THY_FUNC, PINHKRAY_THY_BVNEG},
+    {"bvsub", PINHKRAY_EXPR_THY_FUNC, PINHKRAY_THY_BVSUB},
+    {"bvmul", PINHKRAY_EXPR_THY_FUNC, PINHKRAY_THY_BVMUL},
+    {"bvshl", PINHKRAY_EXPR_THY_FUNC, PINHKRAY_THY_BVSHL},
+    {"Set_empty", PINHKRAY_EXPR_THY_FUNC, PINHKRAY_THY_SET_EMPTY},
+    {"Set_sng", PINHKRAY_EXPR_THY_FUNC, PINHKRAY_THY_SET_SNG},
+    {"Set_cup", PINHKRAY_EXPR_THY_FUNC, PINHKRAY_THY_SET_CUP},
+    {"Set_cap", PINHKRAY_EXPR_THY_FUNC, PINHKRAY_THY_SET_CAP},
+    {"Set_dif", PINHKRAY_EXPR_THY_FUNC, PINHKRAY_THY_SET_DIF},
+    {"Set_mem", PINHKRAY_EXPR_THY_FUNC, PINHKRAY_THY_SET_MEM},
+    {"Set_sub", PINHKRAY_EXPR_THY_FUNC, PINHKRAY_THY_SET_SUB},
+    {"Map_default", PINHKRAY_EXPR_THY_FUNC, PINHKRAY_THY_MAP_DEFAULT},
+    {"Map_select", PINHKRAY_EXPR_THY_FUNC, PINHKRAY_THY_MAP_SELECT},
+    {"Map_store", PINHKRAY_EXPR_THY_FUNC, PINHKRAY_THY_MAP_STORE},
+    {"arr_select_m", PINHKRAY_EXPR_THY_FUNC, PINHKRAY_THY_MAP_SELECT},
+    {"arr_store_m", PINHKRAY_EXPR_THY_FUNC, PINHKRAY_THY_MAP_STORE},
+};
+
+static const struct answer predicates[] = {
+    {"((x Int) ($k x))", PINHKRAY_PREDICATE_KVAR, 10},
+    {"((x Int) (x))", PINHKRAY_PREDICATE_EXPR, PINHKRAY_EXPR_VAR},
+};
+
+/* Whether a call was accepted, and the words of its answer begin so. */
+static void begins(const struct answer *a, uint32_t refusal, const uint32_t *answer) {
+    int right = refusal == PINHKRAY_ACCEPTED && answer[0] == a->kind && answer[1] == a->field;
+    if (!right)
+        fprintf(stderr, "%s\n", a->text);
+    CHECK(right);
+}
+
+/* The header's codes are those that the library writes. */
+static void codes(void) {
+    uint64_t next;
+    for (const struct answer *a = trees; a < trees + LENGTH(trees); a++)
+        begins(a, pinhkray_read_one(bytes(a->text), strlen(a->text), out, LENGTH(out), &words, &next), out);
+    for (const struct answer *a = sorts; a < sorts + LENGTH(sorts); a++)
+        begins(a, pinhkray_sort(bytes(a->text), strlen(a->text), tree, LENGTH(tree), out, LENGTH(out), &words), out);
+    for (const struct answer *a = expressions; a < expressions + LENGTH(expressions); a++)
+        begins(a, pinhkray_expression(bytes(a->text), strlen(a->text), tree, LENGTH(tree), out, LENGTH(out), 0, &words,
+                                      &after), out);
+    /* The name, its sort and how many predicates there are take four words. */
+    for (const struct answer *a = predicates; a < predicates + LENGTH(predicates); a++)
+        begins(a, pinhkray_bind(bytes(a->text), strlen(a->text), tree, LENGTH(tree), out, LENGTH(out), 0, &words,
+                                &after), out + 4);
+}
+
+/* The next words of an answer. */
+static const uint32_t *next_word;
+
+static uint64_t fresh_number(void) {
+    uint64_t low = next_word[0], high = next_word[1];
+    next_word += 2;
+    return high << 32 | low;
+}
+
+/* The value of the next expression, of the kinds that are met here, where the variable of this number has a value. */
+static uint64_t value(uint64_t variable, uint64_t its_value) {
+    switch (*next_word++) {
+    case PINHKRAY_EXPR_NUMERAL: {
+        uint64_t low = next_word[0];
+        CHECK(next_word[1] == 0 && next_word[2] == 0 && next_word[3] == 0);
+        next_word += 4;
+        return low;
+    }
+    case PINHKRAY_EXPR_FRESH:
+        CHECK(fresh_number() == variable);
+        return its_value;
+    case PINHKRAY_EXPR_ATOM: {
+        uint32_t relation = *next_word++;
+        uint64_t left = value(variable, its_value), right = value(variable, its_value);
+        CHECK(relation == PINHKRAY_REL_LT);
+        return left < right;
+    }
+    default: /* no other kind stands in these answers */
+        CHECK(0);
+        return 0;
+    }
+}
+
+/* Whether the solution of one parameter, an integer, holds of a number. */
+static int holds_of(const char *text, uint64_t of) {
+    CHECK(solution(text, 7) == PINHKRAY_ACCEPTED);
+    next_word = out;
+    CHECK(*next_word++ == 1);
+    uint64_t parameter = fresh_number();
+    CHECK(*next_word++ == PINHKRAY_SORT_INT);
+    uint64_t answer = value(parameter, of);
+    CHECK(next_word == out + words);
+    return answer == 1;
+}
+
+static void decoding(void) {
+    CHECK(holds_of("(lambda ((x Int)) (< x 5))", 4));
+    CHECK(!holds_of("(lambda ((x Int)) (< x 5))", 5));
+}
+
 int main(void) {
     solutions();
     reads();
     parts();
     flattening();
+    codes();
+    decoding();
     return failures != 0;
 }
