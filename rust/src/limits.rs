@@ -10,8 +10,8 @@ pub const MAX_LISTS: usize = 64;
 pub const MAX_EXPRESSIONS: usize = 128;
 
 /// Slices of so many words for each byte of the text are long enough for a tree: the tree slice, and the output of
-/// [`Reader::read_one`](crate::Reader::read_one) and [`Reader::read_all`](crate::Reader::read_all). With slices of this
-/// and the next length no call is refused with [`Refusal::NoRoom`](crate::Refusal::NoRoom), which is proved.
+/// [`Reader::read_one`](crate::Reader::read_one) and [`Reader::read_all`](crate::Reader::read_all). With this length and
+/// [`ANSWER_WORDS`] no text is refused with [`Refusal::NoRoom`](crate::Refusal::NoRoom), which is proved.
 pub const TREE_WORDS: usize = 5;
 
 /// Slices of so many words for each byte of the text are long enough for a draft, and for the output where it is a
