@@ -9,7 +9,7 @@ fn main() {
     println!("cargo:rustc-link-lib=static=ffi");
     println!("cargo:rerun-if-changed={}", archive.join("libffi.a").display());
 
-    // FLUX_SOURCE names the folder that holds the source's files; `upstream` compiles them.
+    // FLUX_SOURCE names the folder of the source's files, by a whole path; `upstream` compiles them.
     println!("cargo:rustc-check-cfg=cfg(flux_source)");
     println!("cargo:rerun-if-env-changed=FLUX_SOURCE");
     if std::env::var("FLUX_SOURCE").is_ok() {

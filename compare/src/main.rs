@@ -133,6 +133,8 @@ fn run(words: &[&str]) -> Result<(), String> {
             reading::bench::run(paths);
             Ok(())
         }
+        #[cfg(not(flux_source))]
+        ["reading" | "source" | "bench" | "bench-solution", ..] => Err("built without the source; FLUX_SOURCE names its folder".to_string()),
         _ => Err("compare gate [ANSWERS] | long SEED MILLIONS | reading SEED MILLIONS | source SEED MILLIONS | bench TEXT .. | bench-solution".to_string()),
     }
 }
