@@ -2,6 +2,7 @@
 #ifndef ROBUST_H
 #define ROBUST_H
 
+#include "../include/pinhkray.h"
 #include <stddef.h>
 #include <stdint.h>
 
@@ -9,22 +10,11 @@ typedef uint8_t u8;
 typedef uint32_t u32;
 typedef uint64_t u64;
 
-u32 pinhkray_read_one(const u8 *text, size_t text_len, u32 *out, size_t out_len, u64 *words, u64 *next);
-u32 pinhkray_read_all(const u8 *text, size_t text_len, u32 *out, size_t out_len, u64 *expressions, u64 *words);
-u32 pinhkray_sort(const u8 *text, size_t text_len, u32 *tree, size_t tree_len, u32 *out, size_t out_len, u64 *words);
-u32 pinhkray_expression(const u8 *text, size_t text_len, u32 *tree, size_t tree_len, u32 *out, size_t out_len,
-                        u64 count, u64 *words, u64 *count_after);
-u32 pinhkray_bind(const u8 *text, size_t text_len, u32 *tree, size_t tree_len, u32 *out, size_t out_len,
-                  u64 count, u64 *words, u64 *count_after);
-u32 pinhkray_solution(const u8 *text, size_t text_len, u32 *tree, size_t tree_len, u32 *draft, size_t draft_len,
-                      u32 *out, size_t out_len, u64 count, u64 *words, u64 *count_after);
-u32 pinhkray_flatten(const u32 *words_in, size_t words_in_len, u32 *out, size_t out_len, u64 *words);
-
 enum op { READ_ONE, READ_ALL, SORT, EXPRESSION, BIND, SOLUTION, FLATTEN, OPS };
 extern const char *const op_names[OPS];
 extern const char op_letters[OPS + 1];
 
-#define MAX_TEXT 32768
+#define MAX_TEXT PINHKRAY_MAX_BYTES
 #define TEXT_ROOM (4 * WORDS_ROOM) // bytes of the longest input: a text, or the words of an answer to flatten
 #define WORDS_ROOM 786432 // words of the longest slice
 

@@ -10,7 +10,6 @@
 #include <unistd.h>
 
 #define INPUTS 6000
-#define BY_RULES 1
 #define BY_RECORD 3
 
 // Inverts the jump's condition, or moves its bound by one: jb and jbe, jae and ja.
