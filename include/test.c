@@ -73,6 +73,21 @@ static void solutions(void) {
     CHECK(solution(text, UINT64_MAX) == PINHKRAY_NUMBERS_SPENT);
 }
 
+/* The refusals that the other calls here do not meet. */
+static void refusals(void) {
+    static char blanks[PINHKRAY_MAX_BYTES + 2], lists[PINHKRAY_MAX_LISTS + 2];
+    memset(blanks, ' ', PINHKRAY_MAX_BYTES + 1);
+    memset(lists, '(', PINHKRAY_MAX_LISTS + 1);
+    CHECK(solution(blanks, 0) == PINHKRAY_TOO_LONG);
+    CHECK(solution("\xff", 0) == PINHKRAY_NOT_UTF8);
+    CHECK(solution(")", 0) == PINHKRAY_STRAY_CLOSE);
+    CHECK(solution("\"", 0) == PINHKRAY_UNCLOSED);
+    CHECK(solution(lists, 0) == PINHKRAY_TOO_DEEP);
+    CHECK(solution("(lambda () nan)", 0) == PINHKRAY_DECIMAL);
+    CHECK(solution("(lambda () (lit \"#b\" (BitVec Size3)))", 0) == PINHKRAY_BAD_BITS);
+    CHECK(solution("(lambda ((x (func 65 () Int))) x)", 0) == PINHKRAY_FUNC_NUMBER);
+}
+
 static void reads(void) {
     const uint32_t one[] = {21, 1, 3, 16, 1, 1};
     const uint32_t both[] = {21, 1, 3, 16, 1, 1, 20, 1};
@@ -302,6 +317,7 @@ static void decoding(void) {
 
 int main(void) {
     solutions();
+    refusals();
     reads();
     parts();
     flattening();
