@@ -1,10 +1,9 @@
 #!/usr/bin/env python3
-"""Computes the definitions on recorded answers: compare/definitions.py [ANSWERS [CASES]]
+"""Computes the definitions on recorded answers: compare/definitions.py [ANSWERS]
 
-ANSWERS is crates/replay/stdin unless another file is named; CASES is how many go into one module. The prover evaluates `outcome`
-(crates/session/specs/Session.antt) and `flattenFinal` (crates/flatten/specs/Operations.antt) on each case and has to find the recorded
-refusal or numbers, the count and the words; no code of the library runs. The cases go into a crate of their own, beside links to the
-crates here, in target/definitions.
+ANSWERS is crates/replay/stdin unless another file is named. The prover evaluates `outcome` (crates/session/specs/Session.antt) and
+`flattenFinal` (crates/flatten/specs/Operations.antt) on each case and has to find the recorded refusal or numbers, the count and the
+words; no code of the library runs. The cases go into a crate of their own, beside links to the crates here, in target/definitions.
 """
 
 import os
@@ -14,8 +13,11 @@ from pathlib import Path
 
 TOP = Path(__file__).resolve().parent.parent
 OPERATIONS = {"R": "readOne", "A": "readAll", "S": "sort", "E": "expression", "B": "bind", "L": "solution"}
-# More words than these take too long to compute.
+# More words than these take the prover too many steps.
 MOST_WORDS = 8000
+# Bytes and words of the cases that are one claim, and claims of one module.
+CLAIM = 1500
+CLAIMS = 16
 
 HEAD = """-- Recorded answers, computed.
 use Prim.Native.Nat.{ℕ}
@@ -126,28 +128,55 @@ def bytes_of(text):
     return parts_of(text, ".", lambda one: list(bytes.fromhex(one)))
 
 
+def length(parts):
+    return sum(len(part) * times for part, times in parts)
+
+
 def row(line):
+    """A case: which kind of call, how long it is, and its text; None if it is too long."""
     asked, answer = line.split(" = ")
     op, start, tree, draft, out, given = asked.split()
     number, a, b, count, words = answer.split()
-    if sum(len(part) * times for part, times in words_of(words)) > MOST_WORDS or (op == "F" and sum(t for _, t in words_of(given)) > MOST_WORDS):
+    given = words_of(given) if op == "F" else bytes_of(given)
+    words = words_of(words)
+    if length(words) > MOST_WORDS or (op == "F" and length(given) > MOST_WORDS):
         return None
-    shown = f"(refusal {number})" if number != "0" else f"(words {spread(words_of(words))})"
+    shown = f"(refusal {number})" if number != "0" else f"(words {spread(words)})"
     if op == "F":
-        return "F", f"flat {spread(words_of(given))} {out} {shown}"
+        return "F", length(given), f"flat {spread(given)} {out} {shown}"
     said = f"(refused {number})" if number != "0" else f"(accepted {a} {b})"
-    return "T", f"case (lending {tree} {draft} {out} {OPERATIONS[op]} {spread(bytes_of(given))}) {start} {said} {count} {shown}"
+    return "T", length(given), f"case (lending {tree} {draft} {out} {OPERATIONS[op]} {spread(given)}) {start} {said} {count} {shown}"
 
 
-def module(kind, rows):
+def claims(rows):
+    """Cases in groups, each short enough for one claim."""
+    groups, room = [], 0
+    for size, text in sorted(rows):
+        if size > room:
+            groups.append([])
+            room = CLAIM
+        groups[-1].append(text)
+        room -= size + 20
+    return groups
+
+
+def claim(kind, number, rows):
     of, made, kept = ("Case", "answers", "recorded") if kind == "T" else ("Flat", "flattens", "flattened")
     table = "\n    ∷ ".join(rows)
-    return f"{HEAD}\nabbrev cases : List {of}\ncases =\n    {table}\n    ∷ []\n\npub cases-hold : {made} cases ≡ {kept} cases\nunfolding {made} {kept}\ncases-hold = refl\n"
+    return f"""
+abbrev cases{number} : List {of}
+cases{number} =
+    {table}
+    ∷ []
+
+pub hold{number} : {made} cases{number} ≡ {kept} cases{number}
+unfolding {made} {kept}
+hold{number} = refl
+"""
 
 
 def main():
     answers = Path(sys.argv[1]) if len(sys.argv) > 1 else TOP / "crates/replay/stdin"
-    size = int(sys.argv[2]) if len(sys.argv) > 2 else 50
     folder = TOP / "target/definitions"
     specs = folder / "crates/computed/specs"
     subprocess.run(["rm", "-rf", str(folder)], check=True)
@@ -159,25 +188,20 @@ def main():
     os.symlink(TOP / "target", folder / "target")
     (folder / "crates.txt").write_text((TOP / "crates.txt").read_text() + "computed: session flatten reading\n")
     (specs / "Case.antt").write_text(CASE)
-    rows, left = {"T": [], "F": []}, 0
-    for line in answers.read_text().splitlines():
-        made = row(line)
-        if made is None:
-            left += 1
-        else:
-            rows[made[0]].append(made[1])
+    lines = answers.read_text().splitlines()
+    rows = [made for made in map(row, lines) if made]
     names = ["Case"]
-    for kind in rows:
-        for at in range(0, len(rows[kind]), size):
-            names.append(f"{kind}{at // size}")
-            (specs / f"{names[-1]}.antt").write_text(module(kind, rows[kind][at:at + size]))
+    for kind in "TF":
+        groups = claims([(size, text) for of, size, text in rows if of == kind])
+        for at in range(0, len(groups), CLAIMS):
+            names.append(f"{kind}{at // CLAIMS}")
+            (specs / f"{names[-1]}.antt").write_text(HEAD + "".join(claim(kind, n, group) for n, group in enumerate(groups[at:at + CLAIMS])))
     (specs / "Lib.antt").write_text("".join(f"pub mod {name}\n" for name in names))
-    total = len(rows["T"]) + len(rows["F"])
     done = subprocess.run(["rt", "check", "computed"], cwd=folder, capture_output=True, text=True)
     if done.returncode != 0:
-        sys.stdout.write(done.stdout[-4000:] + done.stderr[-4000:])
-        sys.exit("definitions: a recorded answer is not what the definitions compute")
-    print(f"definitions: {total} recorded answers computed, all as recorded; {left} too long to compute")
+        sys.stdout.write(done.stdout[-8000:] + done.stderr[-2000:])
+        sys.exit("definitions: not every recorded answer is what the definitions compute")
+    print(f"definitions: {len(rows)} recorded answers computed, all as recorded; {len(lines) - len(rows)} too long to compute")
 
 
 main()
