@@ -1,9 +1,9 @@
 #!/usr/bin/env python3
 """Computes the definitions on recorded answers: compare/definitions.py [ANSWERS]
 
-ANSWERS is crates/replay/stdin unless another file is named. The prover evaluates `outcome` (crates/session/specs/Session.antt) and
-`flattenFinal` (crates/flatten/specs/Operations.antt) on each case and has to find the recorded refusal or numbers, the count and the
-words; no code of the library runs. The cases go into a crate of their own, beside links to the crates here, in target/definitions.
+ANSWERS is crates/replay/stdin unless another file is named. The prover evaluates `final`, of which `outcome` is made
+(crates/session/specs/Session.antt), and `flattenFinal` (crates/flatten/specs/Operations.antt) on each case, and has to find the recorded
+refusal or numbers, the count and the words; no code of the library runs. The cases go into a crate of their own, beside links to the crates here, in target/definitions.
 """
 
 import os
@@ -34,8 +34,8 @@ CASE = """-- A call on a reader at a count, and what was recorded of it.
 use Prim.Native.Nat.{ℕ}
 use mathlib.Core.List.{List, [], _∷_, _++_, map}
 use lib.ListN.{replicate}
-use Rattle.reading.specs.Answer.{Said}
-use Rattle.session.specs.Session.{Call, termWords, final, outcome}
+use Rattle.reading.specs.Answer.{Final, accepts, refuses, Said, saidOf, countOf}
+use Rattle.session.specs.Session.{Call, Term, termWords, report, final}
 use Rattle.session.specs.Shown.{Shown, shown}
 use Rattle.session.specs.Compute.{readerComputes}
 use Rattle.flatten.specs.Operations.{exprWords, flattenFinal}
@@ -71,9 +71,18 @@ pub record Answer : Type 0 where
   pub count : ℕ
   pub answer : Shown
 
+-- What `outcome` says and counts, and the words, by what is decided; by cases, so that this is evaluated once.
+abbrev by : ℕ → Final Term → Answer
+by c f = record { said = saidOf report f; count = countOf c f; answer = shown (termWords c) f }
+
+unfoldable pub answerBy : ℕ → Final Term → Answer
+unfolding readerComputes
+answerBy c (accepts m n) = by c (accepts m n)
+answerBy c (refuses r) = by c (refuses r)
+
 unfoldable pub answers : List Case → List Answer
-unfolding readerComputes spread
-answers cases = map (λ c. record { said = outcome (c .call) (c .start) .said; count = outcome (c .call) (c .start) .count; answer = shown (termWords (c .start)) (final (c .call) (c .start)) }) cases
+unfolding readerComputes spread answerBy
+answers cases = map (λ c. answerBy (c .start) (final (c .call) (c .start))) cases
 
 unfoldable pub recorded : List Case → List Answer
 unfolding spread
@@ -150,7 +159,7 @@ def row(line):
 
 def claims(rows):
     """Cases in groups, each short enough for one claim."""
-    groups, room = [], 0
+    groups, room = [], -1
     for size, text in sorted(rows):
         if size > room:
             groups.append([])

@@ -1,7 +1,7 @@
 //! The time of solution against the source's way from the text to the flattened term: `sexp.rs`, `parser.rs` and `uncurry`.
 //!
-//! Both on one computer in one run. The slices are just long enough; tree and draft are as the call before left them, cleared, and the output
-//! is cleared beforehand. The source's result is kept until the time is taken. A figure is the median of five turns; in a turn each text's time
+//! Both on one computer in one run. The slices are just long enough, but for one row, which is read in slices that are long enough for every
+//! text; tree and draft are as the call before left them, cleared, and the output is cleared beforehand. The source's result is kept until the time is taken. A figure is the median of five turns; in a turn each text's time
 //! is the median of its readings, and a row is their mean, or the sum for a build. The table is as docs/PERFORMANCE.md has its own.
 
 use super::answer::Source;
@@ -20,6 +20,8 @@ const SEED: u64 = 2026;
 const TURNS: usize = 5;
 /// Bytes of a text, how many such texts are read in turn, so that the computer does not know one by heart, and how often each.
 const SIZES: [(usize, usize, usize); 4] = [(200, 400, 40), (2048, 40, 40), (8192, 10, 40), (32_768, 4, 40)];
+/// Words of tree, draft and output that are enough for every text.
+const LONG: [usize; 3] = [5 * 32_768, 15 * 32_768, 15 * 32_768];
 /// Texts of a build: bytes, and how many.
 const BUILD: [(usize, usize); 4] = [(200, 240), (2048, 120), (8192, 36), (32_768, 4)];
 const BUILD_ROUNDS: usize = 20;
@@ -51,11 +53,7 @@ impl Case {
     }
 
     fn ours(&mut self) -> Duration {
-        self.out.fill(0);
-        let call = Call::roomy(Operation::Solution, black_box(self.text.as_bytes()));
-        let began = Instant::now();
-        black_box(ffi::reply(&call, &mut self.tree, &mut self.draft, &mut self.out));
-        began.elapsed()
+        ours(&self.text, [&mut self.tree, &mut self.draft, &mut self.out])
     }
 
     fn source(&mut self) -> Duration {
@@ -68,6 +66,14 @@ impl Case {
     }
 }
 
+fn ours(text: &str, [tree, draft, out]: [&mut [u32]; 3]) -> Duration {
+    out.fill(0);
+    let call = Call::roomy(Operation::Solution, black_box(text.as_bytes()));
+    let began = Instant::now();
+    black_box(ffi::reply(&call, tree, draft, out));
+    began.elapsed()
+}
+
 /// The medians of the turns; the two go turn by turn, so that both see the same computer, and the first turn warms up.
 fn turns(mut turn: impl FnMut() -> (Duration, Duration)) -> (Duration, Duration) {
     let turns: Vec<_> = (0..=TURNS).map(|_| turn()).skip(1).collect();
@@ -75,7 +81,7 @@ fn turns(mut turn: impl FnMut() -> (Duration, Duration)) -> (Duration, Duration)
 }
 
 /// The texts' times together, each the median of the rounds; a round goes through all of them.
-fn round_by_round(cases: &mut [Case], rounds: usize, once: fn(&mut Case) -> Duration) -> Duration {
+fn round_by_round(cases: &mut [Case], rounds: usize, mut once: impl FnMut(&mut Case) -> Duration) -> Duration {
     let mut of_each = vec![Vec::with_capacity(rounds); cases.len()];
     for _ in 0..rounds {
         cases.iter_mut().zip(&mut of_each).for_each(|(case, of_this)| of_this.push(once(case)));
@@ -85,6 +91,13 @@ fn round_by_round(cases: &mut [Case], rounds: usize, once: fn(&mut Case) -> Dura
 
 fn times(cases: &mut [Case], rounds: usize) -> (Duration, Duration) {
     turns(|| (round_by_round(cases, rounds, Case::ours), round_by_round(cases, rounds, Case::source)))
+}
+
+/// The same where each text is read in slices for the longest one: tree and draft are cleared to their ends.
+fn times_in_long_slices(cases: &mut [Case], rounds: usize) -> (Duration, Duration) {
+    let mut slices = LONG.map(|words| vec![0; words]);
+    let mut long = |case: &mut Case| ours(&case.text, slices.each_mut().map(|slice| &mut slice[..]));
+    turns(|| (round_by_round(cases, rounds, &mut long), round_by_round(cases, rounds, Case::source)))
 }
 
 fn row(name: &str, bytes: usize, (ours, source): (Duration, Duration), texts: usize) {
@@ -107,6 +120,9 @@ pub fn run() {
     for (bytes, n, rounds) in SIZES {
         let mut cases = cases(bytes, n, &mut r);
         row("a solution", bytes_of(&cases) / n, times(&mut cases, rounds), n);
+        if bytes == SIZES[0].0 {
+            row("in slices for 32,768 bytes", bytes_of(&cases) / n, times_in_long_slices(&mut cases, rounds), n);
+        }
     }
     let mut build: Vec<Case> = BUILD.iter().flat_map(|&(bytes, n)| cases(bytes, n, &mut r)).collect();
     (1..build.len()).for_each(|i| build.swap(i, r.below(i + 1)));
