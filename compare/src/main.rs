@@ -2,6 +2,7 @@
 //!
 //!     compare gate [ANSWERS]        the recorded answers, the small stack, and some hundred thousand calls
 //!     compare long SEED MILLIONS    so many million random calls for parsing, flattening and sessions together, behind all small texts
+//!     compare bench-flatten         the time of flattening
 //!     compare reading SEED MILLIONS so many million for read one and read all against sexp.rs, behind all short texts
 //!     compare source SEED MILLIONS  so many million for all operations against parser.rs and constraint.rs, behind all small texts
 //!     compare bench TEXT ..         the time of read one against sexp.rs
@@ -116,6 +117,10 @@ fn run(words: &[&str]) -> Result<(), String> {
             let size = Size { small: LONG, words: 6, random: number(millions)? * 1_000_000 };
             against_paper(&size, &mut Random::new(number(seed)?))
         }
+        ["bench-flatten"] => {
+            flattening::bench::run();
+            Ok(())
+        }
         #[cfg(flux_source)]
         ["reading", seed, millions] => reading_long(seed, millions),
         #[cfg(flux_source)]
@@ -135,7 +140,7 @@ fn run(words: &[&str]) -> Result<(), String> {
         }
         #[cfg(not(flux_source))]
         ["reading" | "source" | "bench" | "bench-solution", ..] => Err("built without the source; FLUX_SOURCE names its folder".to_string()),
-        _ => Err("compare gate [ANSWERS] | long SEED MILLIONS | reading SEED MILLIONS | source SEED MILLIONS | bench TEXT .. | bench-solution".to_string()),
+        _ => Err("compare gate [ANSWERS] | long SEED MILLIONS | reading SEED MILLIONS | source SEED MILLIONS | bench TEXT .. | bench-solution | bench-flatten".to_string()),
     }
 }
 

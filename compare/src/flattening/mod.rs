@@ -1,5 +1,6 @@
 //! Flattening of words held against the paper or the source.
 
+pub mod bench;
 mod damage;
 mod extreme;
 mod grower;

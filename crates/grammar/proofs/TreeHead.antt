@@ -21,6 +21,32 @@ unfolding treeWords
 tree-two (atom a) = atom-size a .0
 tree-two (list ts) = omega arith
 
+-- Three trees, and their words.
+pub record Three (ws : List ℕ) (ts : Trees) : Type 0 where
+  pub first : Tree
+  pub second : Tree
+  pub third : Tree
+  pub is : ts ≡ tcons first (tcons second (tcons third tnil))
+  pub words : ws ≡ treeWords first ++ treesWords (tcons second (tcons third tnil))
+  pub long : 5 < length ws
+
+-- Trees that are three have their words.
+pub three-trees : (ts : Trees) {ws : List ℕ} → ws ≡ treesWords ts → trees ts ≡ 3 → Three ws ts
+unfolding treeWords trees
+three-trees tnil e h = let k : _≡_ {A = ℕ} 0 3 = h in absurd (omega arith)
+three-trees (tcons a tnil) e h = let k : _≡_ {A = ℕ} 1 3 = h in absurd (omega arith)
+three-trees (tcons a (tcons b tnil)) e h = let k : _≡_ {A = ℕ} 2 3 = h in absurd (omega arith)
+three-trees (tcons a (tcons b (tcons c tnil))) e h =
+    record {
+      first = a;
+      second = b;
+      third = c;
+      is = refl;
+      words = e;
+      long = rw e (omega (arith, tree-two a, tree-two b, tree-two c, length-append (treeWords a) (treeWords b ++ (treeWords c ++ [])), length-append (treeWords b) (treeWords c ++ []), length-append (treeWords c) []));
+    }
+three-trees (tcons a (tcons b (tcons c (tcons d ts)))) e h = let k : suc (suc (suc (suc (trees ts)))) ≡ 3 = h in absurd (omega arith)
+
 -- A word is not two different kinds.
 pub apart : {B : Type 0} {k : ℕ} (m n : ℕ) → k ≡ m → k ≡ n → (m ≡ n → ⊥) → B
 apart m n p q h = absurd (h (sym p ∙ q))

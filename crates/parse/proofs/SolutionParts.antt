@@ -31,7 +31,7 @@ use Rattle.atoms.proofs.Puts.{put-append}
 use Rattle.atoms.proofs.SortPlace.{GotAt, BadAt, every-got}
 use Rattle.exprs.proofs.BinderPairs.{ReadFrom, read-from}
 use Rattle.exprs.proofs.ExistsForm.{numbered-length}
-use Rattle.grammar.proofs.TreeHead.{alone, no-list}
+use Rattle.grammar.proofs.TreeHead.{Three, three-trees, alone, no-list}
 use Rattle.atoms.proofs.Places.Spots.{word0, spot-within, as-list, IsList}
 use Rattle.atoms.proofs.Places.Inside.{ListNode, items-there, first-there, others-there, list-length}
 use Rattle.parse.proofs.ParamNames.{Some, names-bad, names-got, names-binders, split-got, split-bad}
@@ -90,21 +90,6 @@ module _ (text : List ℕ) where
 
 -- ---- the whole
 
--- Three trees.
-pub record Three (ts : Trees) : Type 0 where
-  pub first : Tree
-  pub second : Tree
-  pub third : Tree
-  pub is : ts ≡ tcons first (tcons second (tcons third tnil))
-
-three-of : (ts : Trees) → trees ts ≡ 3 → Three ts
-unfolding trees
-three-of tnil h = absurd (omega arith)
-three-of (tcons t tnil) h = absurd (omega arith)
-three-of (tcons t (tcons u tnil)) h = absurd (omega arith)
-three-of (tcons t (tcons u (tcons v tnil))) h = record { first = t; second = u; third = v; is = refl }
-three-of (tcons t (tcons u (tcons v (tcons x ts)))) h = absurd (omega arith)
-
 -- The words of the parameters, behind how many they are.
 params-words : (count : ℕ) (bs : Binders) (e : Expr) → raisedWords paramItems count (made bs e) ≡ (length (bs .sorts) ∷ []) ++ bindersWords count 0 bs
 unfolding raise wordsOf
@@ -139,8 +124,8 @@ module _ {text ws : List ℕ} (h : Whole text ws) where
     whole-count count k = rw (ap (λ (t : Tree). parseSolution text t 0) (whole-list .is) ∙ solution-count text (whole-list .items) (λ e. k (whole-many ∙ e))) (partsRefused refl)
 
     module _ (three : n ≡ 3) where
-      pub items : Three (whole-list .items)
-      items = three-of (whole-list .items) (sym whole-many ∙ three)
+      pub items : Three (treesWords (whole-list .items)) (whole-list .items)
+      items = three-trees (whole-list .items) refl (sym whole-many ∙ three)
 
       whole-is : h .tree ≡ list (tcons (items .first) (tcons (items .second) (tcons (items .third) tnil)))
       whole-is = whole-list .is ∙ ap list (items .is)

@@ -1,5 +1,5 @@
 -- The three trees behind `func`: a number, a list of inputs, an output.
-use Prim.Native.Nat.{ℕ, suc, _+_, _-_, _*_, _^_, _≤_, _<_}
+use Prim.Native.Nat.{ℕ, _+_, _-_, _*_, _^_, _≤_, _<_}
 use mathlib.Core.Path.{_≡_, refl, sym, ap, _∙_}
 use mathlib.Core.List.{List, [], _++_, append-assoc}
 use native.Mathlib.Omega.{arith}
@@ -23,33 +23,7 @@ use Rattle.sorts.specs.declared.Answer.the-variants.{Done}
 use Rattle.grammar.proofs.Post.{Every}
 use Rattle.sorts.proofs.RowWords.{snoc, funcs-words, abs-words}
 use Rattle.sorts.proofs.ListForms.{view-tree, each-many}
-use Rattle.grammar.proofs.TreeHead.{tree-two, is-integer, is-list, no-integer, no-list, size-integer, other-words}
-
--- Three trees, and their words.
-pub record Three (ws : List ℕ) (ts : Trees) : Type 0 where
-  pub a : Tree
-  pub b : Tree
-  pub c : Tree
-  pub is : ts ≡ tcons a (tcons b (tcons c tnil))
-  pub words : ws ≡ treeWords a ++ treesWords (tcons b (tcons c tnil))
-  pub long : 5 < length ws
-
--- Trees that are three have their words.
-pub three-trees : (ts : Trees) {ws : List ℕ} → ws ≡ treesWords ts → trees ts ≡ 3 → Three ws ts
-unfolding treeWords trees
-three-trees tnil e h = let k : _≡_ {A = ℕ} 0 3 = h in absurd (omega arith)
-three-trees (tcons a tnil) e h = let k : _≡_ {A = ℕ} 1 3 = h in absurd (omega arith)
-three-trees (tcons a (tcons b tnil)) e h = let k : _≡_ {A = ℕ} 2 3 = h in absurd (omega arith)
-three-trees (tcons a (tcons b (tcons c tnil))) e h =
-    record {
-      a = a;
-      b = b;
-      c = c;
-      is = refl;
-      words = e;
-      long = rw e (omega (arith, tree-two a, tree-two b, tree-two c, length-append (treeWords a) (treeWords b ++ (treeWords c ++ [])), length-append (treeWords b) (treeWords c ++ []), length-append (treeWords c) []));
-    }
-three-trees (tcons a (tcons b (tcons c (tcons d ts)))) e h = let k : suc (suc (suc (suc (trees ts)))) ≡ 3 = h in absurd (omega arith)
+use Rattle.grammar.proofs.TreeHead.{Three, tree-two, is-integer, is-list, no-integer, no-list, size-integer, other-words}
 
 -- One tree more at the end.
 abbrev pub snocTree : Trees → Tree → Trees
@@ -99,39 +73,39 @@ module _ (text : List ℕ) (ts : Trees) {ws : List ℕ} (T : Three ws ts) where
   -- The first is no integer.
   pub no-number : (getD ws 0 0 ≡ 18 → ⊥) → funcSort (ParseSort.views text ts) ≡ bad malformed
   unfolding funcSort viewAt ParseSort.view
-  no-number h = rw (T .is, view-tree text (T .a), no-integer (treesWords (tcons (T .b) (tcons (T .c) tnil))) (T .a) (T .words) h) refl
+  no-number h = rw (T .is, view-tree text (T .first), no-integer (treesWords (tcons (T .second) (tcons (T .third) tnil))) (T .first) (T .words) h) refl
 
   module _ (h : getD ws 0 0 ≡ 18) where
-    number-is : inInteger (T .a) ≡ got (wideAt ws)
+    number-is : inInteger (T .first) ≡ got (wideAt ws)
     unfolding inInteger inAtom integerIn
-    number-is = rw (is-integer (treesWords (tcons (T .b) (tcons (T .c) tnil))) (T .a) (T .words) h) refl
+    number-is = rw (is-integer (treesWords (tcons (T .second) (tcons (T .third) tnil))) (T .first) (T .words) h) refl
 
-    behind : drop 5 ws ≡ treeWords (T .b) ++ (treeWords (T .c) ++ [])
+    behind : drop 5 ws ≡ treeWords (T .second) ++ (treeWords (T .third) ++ [])
     unfolding treeWords
-    behind = other-words (T .a) (tcons (T .b) (tcons (T .c) tnil)) (T .words) 5 (size-integer (treesWords (tcons (T .b) (tcons (T .c) tnil))) (T .a) (T .words) h)
+    behind = other-words (T .first) (tcons (T .second) (tcons (T .third) tnil)) (T .words) 5 (size-integer (treesWords (tcons (T .second) (tcons (T .third) tnil))) (T .first) (T .words) h)
 
     -- The second is no list.
     pub no-inputs : (getD ws 5 0 ≡ 21 → ⊥) → funcSort (ParseSort.views text ts) ≡ bad malformed
     unfolding funcSort viewAt ParseSort.view
-    no-inputs k = rw (T .is, view-tree text (T .a), number-is, view-tree text (T .b), no-list (treeWords (T .c) ++ []) (T .b) behind (λ z. k (sym (getD-drop 5 ws 0 0) ∙ z))) refl
+    no-inputs k = rw (T .is, view-tree text (T .first), number-is, view-tree text (T .second), no-list (treeWords (T .third) ++ []) (T .second) behind (λ z. k (sym (getD-drop 5 ws 0 0) ∙ z))) refl
 
-    shape-of : (ins : Trees) → T .b ≡ list ins → Shape text ws ts
+    shape-of : (ins : Trees) → T .second ≡ list ins → Shape text ws ts
     unfolding funcSort viewAt ParseSort.view ParseSort.parseSort inList treeWords
     shape-of ins is =
-        let e : drop 5 ws ≡ treeWords (list ins) ++ (treeWords (T .c) ++ []) = behind ∙ ap (λ t. treeWords t ++ (treeWords (T .c) ++ [])) is in
-        let b : drop 8 ws ≡ treesWords (snocTree ins (T .c)) = sym (drop-drop 3 5 ws) ∙ rw e (sym (snoc-tree-words ins (T .c))) in
+        let e : drop 5 ws ≡ treeWords (list ins) ++ (treeWords (T .third) ++ []) = behind ∙ ap (λ t. treeWords t ++ (treeWords (T .third) ++ [])) is in
+        let b : drop 8 ws ≡ treesWords (snocTree ins (T .third)) = sym (drop-drop 3 5 ws) ∙ rw e (sym (snoc-tree-words ins (T .third))) in
         record {
           inputs = ins;
-          output = T .c;
-          parsed = rw (T .is, view-tree text (T .a), number-is, is) refl;
+          output = T .third;
+          parsed = rw (T .is, view-tree text (T .first), number-is, is) refl;
           many = sym (getD-drop 5 ws 1 0) ∙ rw e refl;
           part = tail ws 8 ∙ b;
-          size = omega (arith, ap length b, ap length (snoc-tree-words ins (T .c)), length-append (treesWords ins) (treeWords (T .c) ++ []), length-append (treeWords (T .c)) [], tree-two (T .c), length-drop 8 ws, T .long);
+          size = omega (arith, ap length b, ap length (snoc-tree-words ins (T .third)), length-append (treesWords ins) (treeWords (T .third) ++ []), length-append (treeWords (T .third)) [], tree-two (T .third), length-drop 8 ws, T .long);
         }
 
     -- They have the shape.
     pub func-shape : getD ws 5 0 ≡ 21 → Shape text ws ts
-    func-shape k = let l = is-list (treeWords (T .c) ++ []) (T .b) behind (getD-drop 5 ws 0 0 ∙ k) in shape-of (l .items) (l .is)
+    func-shape k = let l = is-list (treeWords (T .third) ++ []) (T .second) behind (getD-drop 5 ws 0 0 ∙ k) in shape-of (l .items) (l .is)
 
 module _ (text : List ℕ) (ts : Trees) {ws : List ℕ} (S : Shape text ws ts) where
   -- The number is outside its range.
