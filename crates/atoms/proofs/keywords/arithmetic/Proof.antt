@@ -28,80 +28,48 @@ past5 : (c : tie.Else5) {m : Maybe Form} → m ≡ lookup (drop 13 keywords) (c 
 unfolding keywords
 past5 c e = past4 (c .before .before .before) (lookup-later _ _ _ _ (c .if5 .left) (c .before .same5 .ensures) e)
 
-slice-aggregate-same : tie.Need-slice-aggregate-same
-slice-aggregate-same c = refl
-
-same-requires : tie.Need-same-requires
-same-requires c κs = tt
-
 returns : tie.Need-returns
 unfolding keywords kindItems
 returns c = record { kind = kBin opAdd; is = keyword-is _ (lookup-here _ _ _ _ (c .if1 .taken) (c .before .same .ensures)); words = refl }
-
-slice-aggregate-same-2 : tie.Need-slice-aggregate-same-2
-slice-aggregate-same-2 c = refl
-
-same-requires-2 : tie.Need-same-requires-2
-same-requires-2 c κs = tt
 
 returns-2 : tie.Need-returns-2
 unfolding keywords
 returns-2 c = keyword-is _ (past1 (c .before .before .before) (lookup-here _ _ _ _ (c .if2 .taken) (c .before .same2 .ensures)))
 
-slice-aggregate-same-3 : tie.Need-slice-aggregate-same-3
-slice-aggregate-same-3 c = refl
-
-same-requires-3 : tie.Need-same-requires-3
-same-requires-3 c κs = tt
-
 returns-3 : tie.Need-returns-3
 unfolding keywords kindItems
 returns-3 c = record { kind = kBin opMul; is = keyword-is _ (past2 (c .before .before .before) (lookup-here _ _ _ _ (c .if3 .taken) (c .before .same3 .ensures))); words = refl }
-
-slice-aggregate-same-4 : tie.Need-slice-aggregate-same-4
-slice-aggregate-same-4 c = refl
-
-same-requires-4 : tie.Need-same-requires-4
-same-requires-4 c κs = tt
 
 returns-4 : tie.Need-returns-4
 unfolding keywords kindItems
 returns-4 c = record { kind = kBin opDiv; is = keyword-is _ (past3 (c .before .before .before) (lookup-here _ _ _ _ (c .if4 .taken) (c .before .same4 .ensures))); words = refl }
 
-slice-aggregate-same-5 : tie.Need-slice-aggregate-same-5
-slice-aggregate-same-5 c = refl
-
-same-requires-5 : tie.Need-same-requires-5
-same-requires-5 c κs = tt
-
 returns-5 : tie.Need-returns-5
 unfolding keywords kindItems
 returns-5 c = record { kind = kBin opMod; is = keyword-is _ (past4 (c .before .before .before) (lookup-here _ _ _ _ (c .if5 .taken) (c .before .same5 .ensures))); words = refl }
 
-relation-requires : tie.Need-relation-requires
-relation-requires c κs = tt
-
 returns-6 : tie.Need-returns-6
 returns-6 c = rest-says _ (c .relation .result) (past5 (c .before) refl) (c .relation .ensures)
 
+-- All needs in their order. Those that hold by computing, or that ask nothing, have no lemma of their own.
 pub arithmetic-spec : {M : Type 1} → statement M
 arithmetic-spec =
     tie.close
     (tie.spec
-    slice-aggregate-same
-    same-requires
+    (λ c. refl)  -- slice-aggregate-same
+    (λ c κs. tt)  -- same-requires
     returns
-    slice-aggregate-same-2
-    same-requires-2
+    (λ c. refl)  -- slice-aggregate-same-2
+    (λ c κs. tt)  -- same-requires-2
     returns-2
-    slice-aggregate-same-3
-    same-requires-3
+    (λ c. refl)  -- slice-aggregate-same-3
+    (λ c κs. tt)  -- same-requires-3
     returns-3
-    slice-aggregate-same-4
-    same-requires-4
+    (λ c. refl)  -- slice-aggregate-same-4
+    (λ c κs. tt)  -- same-requires-4
     returns-4
-    slice-aggregate-same-5
-    same-requires-5
+    (λ c. refl)  -- slice-aggregate-same-5
+    (λ c κs. tt)  -- same-requires-5
     returns-5
-    relation-requires
+    (λ c κs. tt)  -- relation-requires
     returns-6)

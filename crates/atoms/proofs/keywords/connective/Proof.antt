@@ -21,41 +21,17 @@ past3 : (c : tie.Else3) {m : Maybe Form} → m ≡ lookup (drop 22 keywords) (c 
 unfolding keywords
 past3 c e = past2 (c .before .before .before) (lookup-later _ _ _ _ (c .if3 .left) (c .before .same3 .ensures) e)
 
-slice-aggregate-same : tie.Need-slice-aggregate-same
-slice-aggregate-same c = refl
-
-same-requires : tie.Need-same-requires
-same-requires c κs = tt
-
 returns : tie.Need-returns
 unfolding keywords kindItems
 returns c = record { kind = kIff; is = keyword-is _ (lookup-here _ _ _ _ (c .if1 .taken) (c .before .same .ensures)); words = refl }
-
-slice-aggregate-same-2 : tie.Need-slice-aggregate-same-2
-slice-aggregate-same-2 c = refl
-
-same-requires-2 : tie.Need-same-requires-2
-same-requires-2 c κs = tt
 
 returns-2 : tie.Need-returns-2
 unfolding keywords kindItems
 returns-2 c = record { kind = kImp; is = keyword-is _ (past1 (c .before .before .before) (lookup-here _ _ _ _ (c .if2 .taken) (c .before .same2 .ensures))); words = refl }
 
-slice-aggregate-same-3 : tie.Need-slice-aggregate-same-3
-slice-aggregate-same-3 c = refl
-
-same-requires-3 : tie.Need-same-requires-3
-same-requires-3 c κs = tt
-
 returns-3 : tie.Need-returns-3
 unfolding keywords
 returns-3 c = keyword-is _ (past2 (c .before .before .before) (lookup-here _ _ _ _ (c .if3 .taken) (c .before .same3 .ensures)))
-
-slice-aggregate-begins-with : tie.Need-slice-aggregate-begins-with
-slice-aggregate-begins-with c = refl
-
-begins-with-requires : tie.Need-begins-with-requires
-begins-with-requires c κs = tt
 
 returns-4 : tie.Need-returns-4
 unfolding keywords
@@ -65,20 +41,21 @@ returns-5 : tie.Need-returns-5
 unfolding keywords
 returns-5 c = keyword-not false (c .before .begins-with .ensures) (c .if4 .left) (past3 (c .before .before .before) (lookup-none _))
 
+-- All needs in their order. Those that hold by computing, or that ask nothing, have no lemma of their own.
 pub connective-spec : {M : Type 1} → statement M
 connective-spec =
     tie.close
     (tie.spec
-    slice-aggregate-same
-    same-requires
+    (λ c. refl)  -- slice-aggregate-same
+    (λ c κs. tt)  -- same-requires
     returns
-    slice-aggregate-same-2
-    same-requires-2
+    (λ c. refl)  -- slice-aggregate-same-2
+    (λ c κs. tt)  -- same-requires-2
     returns-2
-    slice-aggregate-same-3
-    same-requires-3
+    (λ c. refl)  -- slice-aggregate-same-3
+    (λ c κs. tt)  -- same-requires-3
     returns-3
-    slice-aggregate-begins-with
-    begins-with-requires
+    (λ c. refl)  -- slice-aggregate-begins-with
+    (λ c κs. tt)  -- begins-with-requires
     returns-4
     returns-5)

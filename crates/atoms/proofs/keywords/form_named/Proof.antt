@@ -40,119 +40,69 @@ past8 : (c : tie.Else8) {m : Maybe Form} → m ≡ lookup (drop 8 keywords) (c .
 unfolding keywords
 past8 c e = past7 (c .before .before .before) (lookup-later _ _ _ _ (c .if8 .left) (c .before .same8 .ensures) e)
 
-slice-aggregate-same : tie.Need-slice-aggregate-same
-slice-aggregate-same c = refl
-
-same-requires : tie.Need-same-requires
-same-requires c κs = tt
-
 returns : tie.Need-returns
 unfolding keywords
 returns c = keyword-is _ (lookup-here _ _ _ _ (c .if1 .taken) (c .before .same .ensures))
-
-slice-aggregate-same-2 : tie.Need-slice-aggregate-same-2
-slice-aggregate-same-2 c = refl
-
-same-requires-2 : tie.Need-same-requires-2
-same-requires-2 c κs = tt
 
 returns-2 : tie.Need-returns-2
 unfolding keywords
 returns-2 c = keyword-is _ (past1 (c .before .before .before) (lookup-here _ _ _ _ (c .if2 .taken) (c .before .same2 .ensures)))
 
-slice-aggregate-same-3 : tie.Need-slice-aggregate-same-3
-slice-aggregate-same-3 c = refl
-
-same-requires-3 : tie.Need-same-requires-3
-same-requires-3 c κs = tt
-
 returns-3 : tie.Need-returns-3
 unfolding keywords
 returns-3 c = keyword-is _ (past2 (c .before .before .before) (lookup-here _ _ _ _ (c .if3 .taken) (c .before .same3 .ensures)))
-
-slice-aggregate-same-4 : tie.Need-slice-aggregate-same-4
-slice-aggregate-same-4 c = refl
-
-same-requires-4 : tie.Need-same-requires-4
-same-requires-4 c κs = tt
 
 returns-4 : tie.Need-returns-4
 unfolding keywords kindItems
 returns-4 c = record { kind = kNot; is = keyword-is _ (past3 (c .before .before .before) (lookup-here _ _ _ _ (c .if4 .taken) (c .before .same4 .ensures))); words = refl }
 
-slice-aggregate-same-5 : tie.Need-slice-aggregate-same-5
-slice-aggregate-same-5 c = refl
-
-same-requires-5 : tie.Need-same-requires-5
-same-requires-5 c κs = tt
-
 returns-5 : tie.Need-returns-5
 unfolding keywords kindItems
 returns-5 c = record { kind = kOr; is = keyword-is _ (past4 (c .before .before .before) (lookup-here _ _ _ _ (c .if5 .taken) (c .before .same5 .ensures))); words = λ n. refl }
-
-slice-aggregate-same-6 : tie.Need-slice-aggregate-same-6
-slice-aggregate-same-6 c = refl
-
-same-requires-6 : tie.Need-same-requires-6
-same-requires-6 c κs = tt
 
 returns-6 : tie.Need-returns-6
 unfolding keywords kindItems
 returns-6 c = record { kind = kAnd; is = keyword-is _ (past5 (c .before .before .before) (lookup-here _ _ _ _ (c .if6 .taken) (c .before .same6 .ensures))); words = λ n. refl }
 
-slice-aggregate-same-7 : tie.Need-slice-aggregate-same-7
-slice-aggregate-same-7 c = refl
-
-same-requires-7 : tie.Need-same-requires-7
-same-requires-7 c κs = tt
-
 returns-7 : tie.Need-returns-7
 unfolding keywords
 returns-7 c = keyword-is _ (past6 (c .before .before .before) (lookup-here _ _ _ _ (c .if7 .taken) (c .before .same7 .ensures)))
-
-slice-aggregate-same-8 : tie.Need-slice-aggregate-same-8
-slice-aggregate-same-8 c = refl
-
-same-requires-8 : tie.Need-same-requires-8
-same-requires-8 c κs = tt
 
 returns-8 : tie.Need-returns-8
 unfolding keywords kindItems
 returns-8 c = record { kind = kIf; is = keyword-is _ (past7 (c .before .before .before) (lookup-here _ _ _ _ (c .if8 .taken) (c .before .same8 .ensures))); words = refl }
 
-arithmetic-requires : tie.Need-arithmetic-requires
-arithmetic-requires c κs = tt
-
 returns-9 : tie.Need-returns-9
 returns-9 c = rest-says _ (c .arithmetic .result) (past8 (c .before) refl) (c .arithmetic .ensures)
 
+-- All needs in their order. Those that hold by computing, or that ask nothing, have no lemma of their own.
 pub form-named-spec : {M : Type 1} → statement M
 form-named-spec =
     tie.close
     (tie.spec
-    slice-aggregate-same
-    same-requires
+    (λ c. refl)  -- slice-aggregate-same
+    (λ c κs. tt)  -- same-requires
     returns
-    slice-aggregate-same-2
-    same-requires-2
+    (λ c. refl)  -- slice-aggregate-same-2
+    (λ c κs. tt)  -- same-requires-2
     returns-2
-    slice-aggregate-same-3
-    same-requires-3
+    (λ c. refl)  -- slice-aggregate-same-3
+    (λ c κs. tt)  -- same-requires-3
     returns-3
-    slice-aggregate-same-4
-    same-requires-4
+    (λ c. refl)  -- slice-aggregate-same-4
+    (λ c κs. tt)  -- same-requires-4
     returns-4
-    slice-aggregate-same-5
-    same-requires-5
+    (λ c. refl)  -- slice-aggregate-same-5
+    (λ c κs. tt)  -- same-requires-5
     returns-5
-    slice-aggregate-same-6
-    same-requires-6
+    (λ c. refl)  -- slice-aggregate-same-6
+    (λ c κs. tt)  -- same-requires-6
     returns-6
-    slice-aggregate-same-7
-    same-requires-7
+    (λ c. refl)  -- slice-aggregate-same-7
+    (λ c κs. tt)  -- same-requires-7
     returns-7
-    slice-aggregate-same-8
-    same-requires-8
+    (λ c. refl)  -- slice-aggregate-same-8
+    (λ c κs. tt)  -- same-requires-8
     returns-8
-    arithmetic-requires
+    (λ c κs. tt)  -- arithmetic-requires
     returns-9)

@@ -35,106 +35,62 @@ past7 : (c : tie.Else7) {m : Maybe ℕ} → m ≡ lookup (drop 39 theory) (c .be
 unfolding theory
 past7 c e = past6 (c .before .before .before) (lookup-later _ _ _ _ (c .if7 .left) (c .before .same7 .ensures) e)
 
-slice-aggregate-same : tie.Need-slice-aggregate-same
-slice-aggregate-same c = refl
-
-same-requires : tie.Need-same-requires
-same-requires c κs = tt
-
 returns : tie.Need-returns
 unfolding theory
 returns c = lookup-here _ _ _ _ (c .if1 .taken) (c .before .same .ensures)
-
-slice-aggregate-same-2 : tie.Need-slice-aggregate-same-2
-slice-aggregate-same-2 c = refl
-
-same-requires-2 : tie.Need-same-requires-2
-same-requires-2 c κs = tt
 
 returns-2 : tie.Need-returns-2
 unfolding theory
 returns-2 c = past1 (c .before .before .before) (lookup-here _ _ _ _ (c .if2 .taken) (c .before .same2 .ensures))
 
-slice-aggregate-same-3 : tie.Need-slice-aggregate-same-3
-slice-aggregate-same-3 c = refl
-
-same-requires-3 : tie.Need-same-requires-3
-same-requires-3 c κs = tt
-
 returns-3 : tie.Need-returns-3
 unfolding theory
 returns-3 c = past2 (c .before .before .before) (lookup-here _ _ _ _ (c .if3 .taken) (c .before .same3 .ensures))
-
-slice-aggregate-same-4 : tie.Need-slice-aggregate-same-4
-slice-aggregate-same-4 c = refl
-
-same-requires-4 : tie.Need-same-requires-4
-same-requires-4 c κs = tt
 
 returns-4 : tie.Need-returns-4
 unfolding theory
 returns-4 c = past3 (c .before .before .before) (lookup-here _ _ _ _ (c .if4 .taken) (c .before .same4 .ensures))
 
-slice-aggregate-same-5 : tie.Need-slice-aggregate-same-5
-slice-aggregate-same-5 c = refl
-
-same-requires-5 : tie.Need-same-requires-5
-same-requires-5 c κs = tt
-
 returns-5 : tie.Need-returns-5
 unfolding theory
 returns-5 c = past4 (c .before .before .before) (lookup-here _ _ _ _ (c .if5 .taken) (c .before .same5 .ensures))
-
-slice-aggregate-same-6 : tie.Need-slice-aggregate-same-6
-slice-aggregate-same-6 c = refl
-
-same-requires-6 : tie.Need-same-requires-6
-same-requires-6 c κs = tt
 
 returns-6 : tie.Need-returns-6
 unfolding theory
 returns-6 c = past5 (c .before .before .before) (lookup-here _ _ _ _ (c .if6 .taken) (c .before .same6 .ensures))
 
-slice-aggregate-same-7 : tie.Need-slice-aggregate-same-7
-slice-aggregate-same-7 c = refl
-
-same-requires-7 : tie.Need-same-requires-7
-same-requires-7 c κs = tt
-
 returns-7 : tie.Need-returns-7
 unfolding theory
 returns-7 c = past6 (c .before .before .before) (lookup-here _ _ _ _ (c .if7 .taken) (c .before .same7 .ensures))
 
-map-function-requires : tie.Need-map-function-requires
-map-function-requires c κs = tt
-
 returns-8 : tie.Need-returns-8
 returns-8 c = past7 (c .before) (c .map-function .ensures)
 
+-- All needs in their order. Those that hold by computing, or that ask nothing, have no lemma of their own.
 pub set-function-spec : {M : Type 1} → statement M
 set-function-spec =
     tie.close
     (tie.spec
-    slice-aggregate-same
-    same-requires
+    (λ c. refl)  -- slice-aggregate-same
+    (λ c κs. tt)  -- same-requires
     returns
-    slice-aggregate-same-2
-    same-requires-2
+    (λ c. refl)  -- slice-aggregate-same-2
+    (λ c κs. tt)  -- same-requires-2
     returns-2
-    slice-aggregate-same-3
-    same-requires-3
+    (λ c. refl)  -- slice-aggregate-same-3
+    (λ c κs. tt)  -- same-requires-3
     returns-3
-    slice-aggregate-same-4
-    same-requires-4
+    (λ c. refl)  -- slice-aggregate-same-4
+    (λ c κs. tt)  -- same-requires-4
     returns-4
-    slice-aggregate-same-5
-    same-requires-5
+    (λ c. refl)  -- slice-aggregate-same-5
+    (λ c κs. tt)  -- same-requires-5
     returns-5
-    slice-aggregate-same-6
-    same-requires-6
+    (λ c. refl)  -- slice-aggregate-same-6
+    (λ c κs. tt)  -- same-requires-6
     returns-6
-    slice-aggregate-same-7
-    same-requires-7
+    (λ c. refl)  -- slice-aggregate-same-7
+    (λ c κs. tt)  -- same-requires-7
     returns-7
-    map-function-requires
+    (λ c κs. tt)  -- map-function-requires
     returns-8)

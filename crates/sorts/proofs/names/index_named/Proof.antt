@@ -6,12 +6,6 @@ use borrow.Author.Needs.{needs}
 use Rattle.sorts.proofs.names.index_named.Statement.{statement}
 use Rattle.sorts.proofs.names.index_named.Tie as tie
 
-slice-aggregate-begins-with : tie.Need-slice-aggregate-begins-with
-slice-aggregate-begins-with c = refl
-
-begins-with-requires : tie.Need-begins-with-requires
-begins-with-requires c κs = tt
-
 returns : tie.Need-returns
 returns c = index-not _ (sym (c .before .begins-with .ensures) ∙ not-true _ (c .if1 .taken))
 
@@ -30,27 +24,22 @@ sub-u64-of c = omega (arith, index-three (c .before .before .before .before .bef
 part-u64-of-start : tie.Need-part-u64-of-start
 part-u64-of-start c = omega (arith, index-three (c .before .before .before .before .before .before .args .name .now) (sym (c .before .before .before .begins-with .ensures) ∙ not-false _ (c .before .before .if1 .left)) (c .if2 .left))
 
-part-u64-of-end : tie.Need-part-u64-of-end
-part-u64-of-end c = search needs
-
-u64-of-requires : tie.Need-u64-of-requires
-u64-of-requires c κs = tt
-
 returns-3 : tie.Need-returns-3
 returns-3 c = index-is _ (sym (c .before .before .before .before .before .begins-with .ensures) ∙ not-false _ (c .before .before .before .before .if1 .left)) (c .before .before .if2 .left) (c .u64-of .ensures)
 
+-- All needs in their order. Those that hold by computing, or that ask nothing, have no lemma of their own.
 pub index-named-spec : {M : Type 1} → statement M
 index-named-spec =
     tie.close
     (tie.spec
-    slice-aggregate-begins-with
-    begins-with-requires
+    (λ c. refl)  -- slice-aggregate-begins-with
+    (λ c κs. tt)  -- begins-with-requires
     returns
     sub-end
     shared-slice-read-if2
     returns-2
     sub-u64-of
     part-u64-of-start
-    part-u64-of-end
-    u64-of-requires
+    (λ c. search needs)  -- part-u64-of-end
+    (λ c κs. tt)  -- u64-of-requires
     returns-3)

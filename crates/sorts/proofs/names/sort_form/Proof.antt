@@ -8,23 +8,11 @@ use Rattle.sorts.proofs.NamedSorts.{form-by, table-one, table-two, tabl
 use Rattle.sorts.proofs.names.sort_form.Statement.{statement}
 use Rattle.sorts.proofs.names.sort_form.Tie as tie
 
-bytes-at-requires : tie.Need-bytes-at-requires
-bytes-at-requires c κs = tt
-
-one-sort-requires : tie.Need-one-sort-requires
-one-sort-requires c κs = tt
-
 returns : tie.Need-returns
 returns c = c .one-sort .ensures ∙ form-by _ _ _ oneSort (c .before .before .bytes-at .ensures) (table-one _ (c .before .if1 .taken))
 
-two-sorts-requires : tie.Need-two-sorts-requires
-two-sorts-requires c κs = tt
-
 returns-2 : tie.Need-returns-2
 returns-2 c = c .two-sorts .ensures ∙ form-by _ _ _ twoSorts (c .before .before .before .bytes-at .ensures) (table-two _ (c .before .if2 .taken))
-
-three-items-requires : tie.Need-three-items-requires
-three-items-requires c κs = tt
 
 returns-3 : tie.Need-returns-3
 returns-3 c = c .three-items .ensures ∙ form-by _ _ _ threeItems (c .before .before .before .before .bytes-at .ensures) (table-three _ (c .before .if3 .taken))
@@ -32,15 +20,16 @@ returns-3 c = c .three-items .ensures ∙ form-by _ _ _ threeItems (c .before .b
 returns-4 : tie.Need-returns-4
 returns-4 c = ap (λ m. got (orApplied (record { start = c .before .before .before .before .before .args .start; len = c .before .before .before .before .before .args .len }) m)) (lookup-none _) ∙ form-by _ _ _ [] (c .before .before .before .bytes-at .ensures) (table-none _ (c .before .before .if1 .left) (c .before .if2 .left) (c .if3 .left))
 
+-- All needs in their order. Those that hold by computing, or that ask nothing, have no lemma of their own.
 pub sort-form-spec : {M : Type 1} → statement M
 sort-form-spec =
     tie.close
     (tie.spec
-    bytes-at-requires
-    one-sort-requires
+    (λ c κs. tt)  -- bytes-at-requires
+    (λ c κs. tt)  -- one-sort-requires
     returns
-    two-sorts-requires
+    (λ c κs. tt)  -- two-sorts-requires
     returns-2
-    three-items-requires
+    (λ c κs. tt)  -- three-items-requires
     returns-3
     returns-4)

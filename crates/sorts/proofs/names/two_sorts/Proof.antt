@@ -6,31 +6,13 @@ use Rattle.grammar.specs.ParseSort.{orApplied}
 use Rattle.sorts.proofs.names.two_sorts.Statement.{statement}
 use Rattle.sorts.proofs.names.two_sorts.Tie as tie
 
-slice-aggregate-same : tie.Need-slice-aggregate-same
-slice-aggregate-same c = refl
-
-same-requires : tie.Need-same-requires
-same-requires c κs = tt
-
 returns : tie.Need-returns
 unfolding twoSorts
 returns c = ap (λ m. got (orApplied (record { start = c .before .before .before .before .args .start; len = c .before .before .before .before .args .len }) m)) (lookup-here _ _ _ _ (c .if1 .taken) (c .before .same .ensures))
 
-slice-aggregate-same-2 : tie.Need-slice-aggregate-same-2
-slice-aggregate-same-2 c = refl
-
-same-requires-2 : tie.Need-same-requires-2
-same-requires-2 c κs = tt
-
 returns-2 : tie.Need-returns-2
 unfolding twoSorts
 returns-2 c = ap (λ m. got (orApplied (record { start = c .before .before .before .before .before .before .before .args .start; len = c .before .before .before .before .before .before .before .args .len }) m)) (lookup-later _ _ _ _ (c .before .before .before .if1 .left) (c .before .before .before .before .same .ensures) (lookup-here _ _ _ _ (c .if2 .taken) (c .before .same2 .ensures)))
-
-slice-aggregate-same-3 : tie.Need-slice-aggregate-same-3
-slice-aggregate-same-3 c = refl
-
-same-requires-3 : tie.Need-same-requires-3
-same-requires-3 c κs = tt
 
 returns-3 : tie.Need-returns-3
 unfolding twoSorts
@@ -40,17 +22,18 @@ returns-4 : tie.Need-returns-4
 unfolding twoSorts
 returns-4 c = ap (λ m. got (orApplied (record { start = c .before .before .before .before .before .before .before .before .before .before .args .start; len = c .before .before .before .before .before .before .before .before .before .before .args .len }) m)) (lookup-later _ _ _ _ (c .before .before .before .before .before .before .if1 .left) (c .before .before .before .before .before .before .before .same .ensures) (lookup-later _ _ _ _ (c .before .before .before .if2 .left) (c .before .before .before .before .same2 .ensures) (lookup-later _ _ _ _ (c .if3 .left) (c .before .same3 .ensures) (lookup-none _))))
 
+-- All needs in their order. Those that hold by computing, or that ask nothing, have no lemma of their own.
 pub two-sorts-spec : {M : Type 1} → statement M
 two-sorts-spec =
     tie.close
     (tie.spec
-    slice-aggregate-same
-    same-requires
+    (λ c. refl)  -- slice-aggregate-same
+    (λ c κs. tt)  -- same-requires
     returns
-    slice-aggregate-same-2
-    same-requires-2
+    (λ c. refl)  -- slice-aggregate-same-2
+    (λ c κs. tt)  -- same-requires-2
     returns-2
-    slice-aggregate-same-3
-    same-requires-3
+    (λ c. refl)  -- slice-aggregate-same-3
+    (λ c κs. tt)  -- same-requires-3
     returns-3
     returns-4)
