@@ -9,11 +9,12 @@ use Rattle.reading.specs.Pick.{pick}
 use Rattle.reading.specs.Answer.{number, noRoom, refused}
 use Rattle.session.specs.Session.{Op, readOne, readAll, sort, expression, bind, solution, Call, outcome}
 
+-- A number stands in a list.
 unfoldable pub isAmong : ℕ → List ℕ → Bool
 isAmong r [] = false
 isAmong r (x ∷ xs) = pick (eqb r x) true (isAmong r xs)
 
--- "Refusals by operation" of document 01.
+-- "Refusals by operation" of document 01: those of reading, and what a sort and an expression add.
 abbrev pub ofReading : List ℕ
 ofReading = 1 ∷ 2 ∷ 3 ∷ 4 ∷ 5 ∷ 6 ∷ 7 ∷ []
 
