@@ -8,6 +8,7 @@ pub mod Forms
 pub mod BindersOf
 pub mod Walk
 pub mod Exact
+pub mod RuledOut
 pub mod Good
 pub mod WalkPreds
 pub mod SolutionOf

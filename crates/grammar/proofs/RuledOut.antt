@@ -1,0 +1,69 @@
+-- What the notions of fresh numbers rule out, a case each.
+use Prim.Native.Nat.{ℕ}
+use mathlib.Core.Path.{_≡_, refl}
+use mathlib.Core.Logic.{⊎-elim}
+use mathlib.Core.Bool.{Bool, true, false}
+use mathlib.Core.List.{List, [], _∷_}
+use native.Mathlib.Omega.{arith}
+use lib.Dec.{ltb}
+use borrow.Author.Tests.{eq-eqb, ltb-true, ltb-false}
+use Rattle.reading.specs.Pick.{pick}
+use Rattle.grammar.specs.Sort.{sInt, sortWords}
+use Rattle.grammar.specs.Item.{raise, used, bound}
+use Rattle.grammar.specs.Expr.{Expr, leaf, node, oneOf, econs, enil, exprs, Binder, binderItems, kindItems, kFresh, kBool, kAnd, kExists, Solution}
+use Rattle.grammar.specs.Numbers.{hit, times, Exactly}
+use Rattle.grammar.specs.Scoped.{Scoped, ScopedSolution}
+
+-- The variable with a fresh number, and an exists that binds one number.
+abbrev variable : ℕ → Expr
+variable k = leaf (kFresh k)
+
+abbrev binder : ℕ → Binder
+binder k = record { var = k; sort = sInt }
+
+abbrev exists1 : ℕ → Expr → Expr
+exists1 k e = node (kExists (binder k ∷ [])) (oneOf e)
+
+-- A fresh variable that nothing binds is not scoped.
+pub unbound-variable : (k c : ℕ) → Scoped (variable k) c [] → ⊥
+unfolding kindItems raise used
+unbound-variable k c h = h .0 .0
+
+-- Nor is one under an exists that binds another number, or beside the exists that binds it.
+pub bound-by-another : (c : ℕ) → Scoped (exists1 1 (variable 0)) c [] → ⊥
+unfolding kindItems binderItems sortWords exprs raise used bound
+bound-by-another c h = ⊎-elim (λ (e : _). omega arith) (λ e. e) (h .1 .0 .0 .0)
+
+pub bound-beside : (c : ℕ) → Scoped (node kAnd (econs (exists1 0 (leaf (kBool true))) (oneOf (variable 0)))) c [] → ⊥
+unfolding kindItems exprs raise used bound
+bound-beside c h = h .1 .1 .0 .0 .0
+
+-- Nor a solution whose expression uses a number that no parameter binds.
+pub no-parameter : (c : ℕ) → ScopedSolution c (record { params = []; body = variable 0 }) → ⊥
+unfolding kindItems binderItems raise used bound
+no-parameter c h = h .0 .0
+
+-- A list with a number twice is not exact, from where to where it may be.
+pub bound-twice : (a b k : ℕ) (l : List ℕ) → Exactly a (k ∷ k ∷ l) b → ⊥
+unfolding times pick
+bound-twice a b k l e = go (ltb k a) refl (ltb k b) refl
+  where
+    one : hit k k ≡ 1
+    one = rw (eq-eqb k k refl) refl
+
+    go : (s : Bool) → ltb k a ≡ s → (t : Bool) → ltb k b ≡ t → ⊥
+    go true p t q = omega (arith, one, e .below k (ltb-true k a p))
+    go false p true q = omega (arith, one, e .once k (ltb-false k a p) (ltb-true k b q))
+    go false p false q = omega (arith, one, e .above k (ltb-false k b q))
+
+-- Nor is one with a gap, with a number too small, or with too few.
+pub left-out : (b : ℕ) → Exactly 0 (0 ∷ 2 ∷ []) b → ⊥
+unfolding times pick
+left-out b e = omega (arith, e .size, e .once 1 (omega arith) (omega (arith, e .size)))
+
+pub too-small : Exactly 1 (0 ∷ []) 2 → ⊥
+unfolding times pick
+too-small e = omega (arith, e .below 0 (omega arith))
+
+pub too-few : Exactly 0 (0 ∷ []) 2 → ⊥
+too-few e = omega (arith, e .size)
