@@ -1,3 +1,7 @@
 pub mod Outcomes
 pub mod Told
+pub mod Saying
+pub mod Replying
 pub mod Whole
+pub mod Meetable
+pub mod RuledOut

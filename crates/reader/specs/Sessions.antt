@@ -1,10 +1,11 @@
--- A session: calls on one reader, each on the reader that the last one returned, and what the methods' contracts promise of them.
+-- What a method promises of its reply; and a session: calls on one reader, each on the reader that the last one returned.
 use Prim.Native.Nat.{ℕ}
 use mathlib.Core.Path.{_≡_}
 use mathlib.Core.List.{List, [], _∷_}
 use Rattle.session.specs.Session.{Call, outcome}
 use Rattle.reader.specs.Calls.{asSaid}
 use Rattle.reader.specs.declared.Said.{Said}
+use Rattle.reader.specs.declared.Answer.{Answer}
 
 -- What a caller sees of a call: what is said, the count of the reader that comes back, and the words of the slices.
 pub record Reply : Type 0 where
@@ -14,7 +15,11 @@ pub record Reply : Type 0 where
   pub draft : List ℕ
   pub out : List ℕ
 
--- The equations of a method's contract, for a call on a reader at the count c.
+-- A method's answer and the words of tree, draft and output afterwards; a slice that it does not take is empty.
+abbrev pub replied : Answer → List ℕ → List ℕ → List ℕ → Reply
+replied a tree draft out = record { said = a .said; next = a .reader .next; tree = tree; draft = draft; out = out }
+
+-- The contract of every method, for a call on a reader at the count c: the reply is the outcome of the call.
 pub record Promised (call : Call) (c : ℕ) (r : Reply) : Type 0 where
   pub said : r .said ≡ asSaid (outcome call c .said)
   pub count : r .next ≡ outcome call c .count
@@ -22,14 +27,17 @@ pub record Promised (call : Call) (c : ℕ) (r : Reply) : Type 0 where
   pub body : r .draft ≡ outcome call c .draft
   pub output : r .out ≡ outcome call c .out
 
--- Each call of a list has its reply, promised at the count that the reply before it returned.
-abbrev pub Session : ℕ → List Call → List Reply → Type 0
-Session c [] [] = Unit {0}
-Session c [] (r ∷ rs) = ⊥
-Session c (x ∷ xs) [] = ⊥
-Session c (x ∷ xs) (r ∷ rs) = Promised x c r × Session (r .next) xs rs
+-- A call and its reply.
+pub record Turn : Type 0 where
+  pub call : Call
+  pub reply : Reply
+
+-- A session on a reader at the count c: each reply is promised at the count that the reply before it returned.
+abbrev pub Session : ℕ → List Turn → Type 0
+Session c [] = Unit {0}
+Session c (t ∷ ts) = Promised (t .call) c (t .reply) × Session (t .reply .next) ts
 
 -- The count of the reader in the end.
-abbrev pub lastCount : ℕ → List Reply → ℕ
+abbrev pub lastCount : ℕ → List Turn → ℕ
 lastCount c [] = c
-lastCount c (r ∷ rs) = lastCount (r .next) rs
+lastCount c (t ∷ ts) = lastCount (t .reply .next) ts

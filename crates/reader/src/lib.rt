@@ -1,14 +1,16 @@
 // The reader: one count, and the operations of document 01 as its methods. The count is the next fresh number, and one reader may serve for
 // years: each call takes it by value and gives it back inside the answer, with the count raised by the numbers that the answer binds, so
-// that no number is bound twice. What a call says and leaves is `outcome` in crates/session/specs/Session.antt, at the reader's count; demand 3
-// is proved of those very outcomes, for every list of calls (crates/session/specs/Demand3.antt). specs/Calls.antt says which call each method is.
+// that no number is bound twice. Each contract is `Promised` (specs/Sessions.antt): the reply is the `outcome` of the call, at the reader's
+// count (crates/session/specs/Session.antt). specs/Calls.antt says which call each method is. Demand 3 is proved of those very replies, for
+// every list of calls (specs/Demand3.antt).
 //
 // No method asks anything of its caller. An accepted call writes its words from the start of the output, and nothing behind them. A refused
 // one gives the reader back as it came, and zeroes every slice that it was lent. Tree and draft are working slices, and zero after
 // every call.
 ghost use mathlib.Core.Path.{_≡_};
-ghost use Rattle.session.specs.Session.{outcome};
-ghost use Rattle.reader.specs.Calls.{oneCall, allCall, sortCall, exprCall, bindCall, solutionCall, asSaid};
+ghost use mathlib.Core.List.{[]};
+ghost use Rattle.reader.specs.Calls.{oneCall, allCall, sortCall, exprCall, bindCall, solutionCall};
+ghost use Rattle.reader.specs.Sessions.{Promised, replied};
 use parse::Counted;
 
 // The next fresh number.
@@ -40,9 +42,7 @@ impl Reader {
     // long, 2 if it is not UTF-8, 3 if it ends early, 4 for a `)` too many, 5 for a string or an `@` that does not end, 6 for too many lists
     // inside one another, 7 if the output lacks room.
     pub fn read_one(self, text: &[u8], out: &mut [u32]) -> Answer
-        ensures said { λ r. ⌜ r .said ≡ asSaid (outcome (oneCall (now (text .entry)) (now (out .entry))) (self .next) .said) ⌝ }
-        ensures count { λ r. ⌜ r .reader .next ≡ outcome (oneCall (now (text .entry)) (now (out .entry))) (self .next) .count ⌝ }
-        ensures output { λ _. ⌜ now (out .exit) ≡ outcome (oneCall (now (text .entry)) (now (out .entry))) (self .next) .out ⌝ }
+        ensures { λ r. ⌜ Promised (oneCall (now (text .entry)) (now (out .entry))) (self .next) (replied r [] [] (now (out .exit))) ⌝ }
     {
         match text::read_one(text, out) {
             text::Answer::Accepted(words, end) => Answer {
@@ -58,9 +58,7 @@ impl Reader {
 
     // Reads all expressions of a text, and reports how many there are and how many words they have. The refusals are those of `read_one`.
     pub fn read_all(self, text: &[u8], out: &mut [u32]) -> Answer
-        ensures said { λ r. ⌜ r .said ≡ asSaid (outcome (allCall (now (text .entry)) (now (out .entry))) (self .next) .said) ⌝ }
-        ensures count { λ r. ⌜ r .reader .next ≡ outcome (allCall (now (text .entry)) (now (out .entry))) (self .next) .count ⌝ }
-        ensures output { λ _. ⌜ now (out .exit) ≡ outcome (allCall (now (text .entry)) (now (out .entry))) (self .next) .out ⌝ }
+        ensures { λ r. ⌜ Promised (allCall (now (text .entry)) (now (out .entry))) (self .next) (replied r [] [] (now (out .exit))) ⌝ }
     {
         match text::read_all(text, out) {
             text::Answer::Accepted(expressions, words) => Answer {
@@ -77,10 +75,7 @@ impl Reader {
     // The sort that a text begins with; reports how many words it has, and 0. Refusals: those of `read_one`, 7 also if the tree slice lacks
     // room for the tree, 8 for a tree that is no sort, 12 for the number of a `func` that is out of range.
     pub fn sort(self, text: &[u8], tree: &mut [u32], out: &mut [u32]) -> Answer
-        ensures said { λ r. ⌜ r .said ≡ asSaid (outcome (sortCall (now (text .entry)) (now (tree .entry)) (now (out .entry))) (self .next) .said) ⌝ }
-        ensures count { λ r. ⌜ r .reader .next ≡ outcome (sortCall (now (text .entry)) (now (tree .entry)) (now (out .entry))) (self .next) .count ⌝ }
-        ensures working { λ _. ⌜ now (tree .exit) ≡ outcome (sortCall (now (text .entry)) (now (tree .entry)) (now (out .entry))) (self .next) .tree ⌝ }
-        ensures output { λ _. ⌜ now (out .exit) ≡ outcome (sortCall (now (text .entry)) (now (tree .entry)) (now (out .entry))) (self .next) .out ⌝ }
+        ensures { λ r. ⌜ Promised (sortCall (now (text .entry)) (now (tree .entry)) (now (out .entry))) (self .next) (replied r (now (tree .exit)) [] (now (out .exit))) ⌝ }
     {
         match parse::sort(text, tree, out) {
             sorts::Answer::Done(size) => Answer {
@@ -97,10 +92,7 @@ impl Reader {
     // The expression that a text begins with, not flattened; reports how many words it has, and 0. Refusals: those of `sort`, 9 for a decimal
     // as an expression, 10 for a repeated name in an exists, 11 for the bits of a `lit`, 13 if the fresh numbers run out.
     pub fn expression(self, text: &[u8], tree: &mut [u32], out: &mut [u32]) -> Answer
-        ensures said { λ r. ⌜ r .said ≡ asSaid (outcome (exprCall (now (text .entry)) (now (tree .entry)) (now (out .entry))) (self .next) .said) ⌝ }
-        ensures count { λ r. ⌜ r .reader .next ≡ outcome (exprCall (now (text .entry)) (now (tree .entry)) (now (out .entry))) (self .next) .count ⌝ }
-        ensures working { λ _. ⌜ now (tree .exit) ≡ outcome (exprCall (now (text .entry)) (now (tree .entry)) (now (out .entry))) (self .next) .tree ⌝ }
-        ensures output { λ _. ⌜ now (out .exit) ≡ outcome (exprCall (now (text .entry)) (now (tree .entry)) (now (out .entry))) (self .next) .out ⌝ }
+        ensures { λ r. ⌜ Promised (exprCall (now (text .entry)) (now (tree .entry)) (now (out .entry))) (self .next) (replied r (now (tree .exit)) [] (now (out .exit))) ⌝ }
     {
         let start = self.next;
         match parse::expression(text, tree, out, start) {
@@ -118,10 +110,7 @@ impl Reader {
     // The bind that a text begins with, a name, its sort and predicates; reports how many words it has, and 0. The refusals are those of
     // `expression`.
     pub fn bind(self, text: &[u8], tree: &mut [u32], out: &mut [u32]) -> Answer
-        ensures said { λ r. ⌜ r .said ≡ asSaid (outcome (bindCall (now (text .entry)) (now (tree .entry)) (now (out .entry))) (self .next) .said) ⌝ }
-        ensures count { λ r. ⌜ r .reader .next ≡ outcome (bindCall (now (text .entry)) (now (tree .entry)) (now (out .entry))) (self .next) .count ⌝ }
-        ensures working { λ _. ⌜ now (tree .exit) ≡ outcome (bindCall (now (text .entry)) (now (tree .entry)) (now (out .entry))) (self .next) .tree ⌝ }
-        ensures output { λ _. ⌜ now (out .exit) ≡ outcome (bindCall (now (text .entry)) (now (tree .entry)) (now (out .entry))) (self .next) .out ⌝ }
+        ensures { λ r. ⌜ Promised (bindCall (now (text .entry)) (now (tree .entry)) (now (out .entry))) (self .next) (replied r (now (tree .exit)) [] (now (out .exit))) ⌝ }
     {
         let first = self.next;
         match parse::bind(text, tree, out, first) {
@@ -146,11 +135,7 @@ impl Reader {
         draft: &mut [u32],
         out: &mut [u32],
     ) -> Answer
-        ensures said { λ r. ⌜ r .said ≡ asSaid (outcome (solutionCall (now (text .entry)) (now (tree .entry)) (now (draft .entry)) (now (out .entry))) (self .next) .said) ⌝ }
-        ensures count { λ r. ⌜ r .reader .next ≡ outcome (solutionCall (now (text .entry)) (now (tree .entry)) (now (draft .entry)) (now (out .entry))) (self .next) .count ⌝ }
-        ensures working { λ _. ⌜ now (tree .exit) ≡ outcome (solutionCall (now (text .entry)) (now (tree .entry)) (now (draft .entry)) (now (out .entry))) (self .next) .tree ⌝ }
-        ensures body { λ _. ⌜ now (draft .exit) ≡ outcome (solutionCall (now (text .entry)) (now (tree .entry)) (now (draft .entry)) (now (out .entry))) (self .next) .draft ⌝ }
-        ensures output { λ _. ⌜ now (out .exit) ≡ outcome (solutionCall (now (text .entry)) (now (tree .entry)) (now (draft .entry)) (now (out .entry))) (self .next) .out ⌝ }
+        ensures { λ r. ⌜ Promised (solutionCall (now (text .entry)) (now (tree .entry)) (now (draft .entry)) (now (out .entry))) (self .next) (replied r (now (tree .exit)) (now (draft .exit)) (now (out .exit))) ⌝ }
     {
         let before = self.next;
         match flatten::solution(text, tree, draft, out, before) {

@@ -8,14 +8,23 @@ use lib.Dec.{leb}
 use lib.ListN.{length}
 use Rattle.reading.specs.Limits.{maxNumber}
 use Rattle.reading.specs.Pick.{pick}
-use Rattle.reading.specs.Answer.{Refusal, tooLong, notUtf8, endsEarly, strayClose, unclosed, tooDeep, noRoom, malformed, decimalRead, repeatedName, badLiteral, badFunc, number, numbersSpent, andThen, check, Res, ok, no, Final, accepts, refuses, finish, accepted, refused, zeros, saidOf, countOf, outputOf}
+use Rattle.reading.specs.Answer.{Refusal, tooLong, notUtf8, endsEarly, strayClose, unclosed, tooDeep, noRoom, malformed, decimalRead, repeatedName, badLiteral, badFunc, number, numbersSpent, andThen, check, Res, ok, no, Final, accepts, refuses, finish, accepted, refused, zeros, over, saidOf, countOf, outputOf}
 use Rattle.reading.specs.Reading.{readText, readWords}
 use Rattle.reading.proofs.Finish.{finish-spent, finish-short, finish-long}
 use Rattle.grammar.specs.Item.{wordsOf}
 use Rattle.grammar.specs.ParseSort.{treeAt}
 use Rattle.grammar.specs.Operations.{theTree, makeSort, makeExpr, makeBind, makeSolution}
 use Rattle.session.specs.Session.{Op, readOne, readAll, sort, expression, bind, solution, Call, Term, aRead, aSort, anExpr, aBind, aSolution, termItems, draftItems, termWords, report, make, made, roomFor, final, Outcome, outcome}
-use Rattle.session.specs.Demand3.{Agree, refusal, acceptance}
+use Rattle.session.specs.Compared.{Agree}
+
+-- A refused call: the reader as it came in, and zeros throughout every lent slice.
+abbrev pub refusal : Call → ℕ → ℕ → Outcome
+refusal call c r = record { said = refused r; count = c; tree = zeros (call .tree); draft = zeros (call .draft); out = zeros (call .out) }
+
+-- An accepted call at the count c, whose answer m binds n numbers.
+abbrev pub acceptance : Call → ℕ → Term → ℕ → Outcome
+acceptance call c m n =
+    record { said = report m; count = c + n; tree = zeros (call .tree); draft = zeros (call .draft); out = over (termWords c m) (call .out) }
 
 -- The outcome by what is decided.
 outcomeBy : Call → ℕ → Final Term → Outcome
@@ -48,7 +57,7 @@ make-same solution text a b n e = rw (tree-same text a b e) refl
 pub made-same : (x y : Call) → x .op ≡ y .op → x .text ≡ y .text → length (x .tree) ≡ length (y .tree) → made x ≡ made y
 made-same x y o t l = ap₂ (λ op text. make op text (x .tree) 0) o t ∙ make-same (y .op) (y .text) (x .tree) (y .tree) 0 l
 
-room-same : (x y : Call) (m : Term) → length (x .draft) ≡ length (y .draft) → length (x .out) ≡ length (y .out) → roomFor x m ≡ roomFor y m
+pub room-same : (x y : Call) (m : Term) → length (x .draft) ≡ length (y .draft) → length (x .out) ≡ length (y .out) → roomFor x m ≡ roomFor y m
 unfolding roomFor
 room-same x y m d o = ap₂ (λ (j k : ℕ). pick (leb (length (wordsOf (draftItems m))) j) (leb (length (wordsOf (termItems m))) k) false) d o
 
@@ -79,20 +88,20 @@ module _ (call : Call) (c : ℕ) where
   unfolding final
   decides-long m n e h s = ap (finish (roomFor call) c) e ∙ finish-long (roomFor call) c m n h s
 
--- The refusals that are met in a text come before 13.
-pub before-spent : (r : Refusal) → number r < numbersSpent
-before-spent tooLong = omega arith
-before-spent notUtf8 = omega arith
-before-spent endsEarly = omega arith
-before-spent strayClose = omega arith
-before-spent unclosed = omega arith
-before-spent tooDeep = omega arith
-before-spent noRoom = omega arith
-before-spent malformed = omega arith
-before-spent decimalRead = omega arith
-before-spent repeatedName = omega arith
-before-spent badLiteral = omega arith
-before-spent badFunc = omega arith
+-- The refusals that are met in a text are not 13.
+pub not-spent : (r : Refusal) → number r ≡ numbersSpent → ⊥
+not-spent tooLong e = omega arith
+not-spent notUtf8 e = omega arith
+not-spent endsEarly e = omega arith
+not-spent strayClose e = omega arith
+not-spent unclosed e = omega arith
+not-spent tooDeep e = omega arith
+not-spent noRoom e = omega arith
+not-spent malformed e = omega arith
+not-spent decimalRead e = omega arith
+not-spent repeatedName e = omega arith
+not-spent badLiteral e = omega arith
+not-spent badFunc e = omega arith
 
 -- An accepted call does not report a refusal.
 apart : (a b r : ℕ) → accepted a b ≡ refused r → ⊥

@@ -1,5 +1,5 @@
 pub mod Terms
 pub mod Made
 pub mod Calls
-pub mod Whole
+pub mod Meetable
 pub mod Refusals

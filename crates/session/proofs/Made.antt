@@ -27,7 +27,7 @@ use Rattle.grammar.proofs.WalkPreds.{KeptPreds, preds-of}
 use Rattle.grammar.proofs.SolutionOf.{SolutionOf, solution-of}
 use Rattle.grammar.proofs.Size.{Sized, SizedAll, sized}
 use Rattle.session.specs.Session.{Op, readOne, readAll, sort, expression, bind, solution, Term, aRead, aSort, anExpr, aBind, aSolution, termItems, make}
-use Rattle.session.specs.Demand3.{ScopedTerm, readsOrSorts}
+use Rattle.session.specs.Compared.{opOf, ScopedTerm, readsOrSorts}
 use Rattle.session.proofs.Terms.{GoodTerm, bind-good, solution-good, expr-good}
 
 -- An answer that takes no number.
@@ -70,32 +70,33 @@ module _ (text : List ℕ) where
   unfolding parseExpr
   few-expr t n = map-post (parseExpr text t n) (Sized t [] n) _ (λ e m h. h .numbers) (child-of text Sized SizedAll (sized text) t .plainly [] n)
 
--- What every operation makes: good numbers, few of them, and none where it reads or makes a sort.
+-- What every operation makes: a term of its own, good numbers, few of them, and none where it reads or makes a sort.
 pub record Fine (op : Op) (n : ℕ) (t : Term) (m : ℕ) : Type 0 where
+  pub kind : opOf t ≡ op
   pub exact : GoodTerm n t m
   pub few : m ≤ n + maxBytes
   pub none : readsOrSorts op ≡ true → n ≡ m
 
 -- From a tree to a term of its own.
-from-tree : {A : Type 0} (op : Op) (text tree : List ℕ) (n : ℕ) (p : Tree → ℕ → Res A) (term : A → Term) → (readsOrSorts op ≡ false)
+from-tree : {A : Type 0} (op : Op) (text tree : List ℕ) (n : ℕ) (p : Tree → ℕ → Res A) (term : A → Term) → ((a : A) → opOf (term a) ≡ op) → readsOrSorts op ≡ false
     → ((t : Tree) → Post (p t n) (λ a m. GoodTerm n (term a) m)) → ((t : Tree) → Post (p t n) (λ a m. m ≤ n + weight t))
     → Post (chain (chain (lifted (theTree text tree) n) (λ t. p t)) (λ a. λ m. ok (term a) m)) (Fine op n)
-from-tree op text tree n p term notRead g f =
+from-tree op text tree n p term own notRead g f =
     chain-post (chain (lifted (theTree text tree) n) (λ t. p t)) _ (λ a m. GoodTerm n (term a) m × (m ≤ n + maxBytes)) _
     (lifted-post (theTree text tree) n _ (TextTree text) _ (the-tree text tree) λ t i.
     map-post (p t n) (λ a m. GoodTerm n (term a) m × (m ≤ n + weight t)) _ (λ a m h. (h .0, omega (arith, h .1, i .weighs, i .short))) (both-post (p t n) (λ a m. GoodTerm n (term a) m) (λ a m. m ≤ n + weight t) (g t) (f t)))
-    λ a m h. record { exact = h .0; few = h .1; none = λ e. absurd (false≢true (sym notRead ∙ e)) }
+    λ a m h. record { kind = own a; exact = h .0; few = h .1; none = λ e. absurd (false≢true (sym notRead ∙ e)) }
 
-plain-fine : (op : Op) (n : ℕ) (t : Term) → bound (termItems t) ≡ [] → ((c : ℕ) → ScopedTerm c t) → Fine op n t n
-plain-fine op n t b s = record { exact = (rw b (exactly-none n), s); few = omega arith; none = λ _. refl }
+plain-fine : (n : ℕ) (t : Term) → bound (termItems t) ≡ [] → ((c : ℕ) → ScopedTerm c t) → Fine (opOf t) n t n
+plain-fine n t b s = record { kind = refl; exact = (rw b (exactly-none n), s); few = omega arith; none = λ _. refl }
 
 pub make-fine : (op : Op) (text tree : List ℕ) (n : ℕ) → Post (make op text tree n) (Fine op n)
 unfolding make makeSort makeExpr makeBind makeSolution termItems
-make-fine readOne text tree n = any-post (readText false text) n _ _ λ r. plain-fine readOne n (aRead false r) (bound-plains (readWords r)) (λ c. tt)
-make-fine readAll text tree n = any-post (readText true text) n _ _ λ r. plain-fine readAll n (aRead true r) (bound-plains (readWords r)) (λ c. tt)
+make-fine readOne text tree n = any-post (readText false text) n _ _ λ r. plain-fine n (aRead false r) (bound-plains (readWords r)) (λ c. tt)
+make-fine readAll text tree n = any-post (readText true text) n _ _ λ r. plain-fine n (aRead true r) (bound-plains (readWords r)) (λ c. tt)
 make-fine sort text tree n =
     chain-post (chain (lifted (theTree text tree) n) (λ t. lifted (parseSort text t))) _ (λ _ m. n ≡ m) _ (any-post (theTree text tree) n _ _ λ t. lifted-same (parseSort text t) n) λ s m e.
-    rw (← e) (plain-fine sort n (aSort s) (bound-plains (sortWords s)) (λ c. tt))
-make-fine expression text tree n = from-tree expression text tree n (parseExpr text) anExpr refl (λ t. expr-good text t n) (λ t. few-expr text t n)
-make-fine bind text tree n = from-tree bind text tree n (parseBind text) aBind refl (λ t. bind-good text t n) (λ t. few-bind text t n)
-make-fine solution text tree n = from-tree solution text tree n (parseSolution text) aSolution refl (λ t. solution-good text t n) (λ t. few-solution text t n)
+    rw (← e) (plain-fine n (aSort s) (bound-plains (sortWords s)) (λ c. tt))
+make-fine expression text tree n = from-tree expression text tree n (parseExpr text) anExpr (λ _. refl) refl (λ t. expr-good text t n) (λ t. few-expr text t n)
+make-fine bind text tree n = from-tree bind text tree n (parseBind text) aBind (λ _. refl) refl (λ t. bind-good text t n) (λ t. few-bind text t n)
+make-fine solution text tree n = from-tree solution text tree n (parseSolution text) aSolution (λ _. refl) refl (λ t. solution-good text t n) (λ t. few-solution text t n)

@@ -26,7 +26,7 @@ use Rattle.grammar.proofs.Good.{runs, Good, GoodAll, good, bound-numbered}
 use Rattle.flatten.specs.Uncurry.{flattened}
 use Rattle.flatten.proofs.Bound.{flattened-same, flattened-scoped}
 use Rattle.session.specs.Session.{Term, anExpr, aBind, aSolution, termItems}
-use Rattle.session.specs.Demand3.{ScopedTerm}
+use Rattle.session.specs.Compared.{ScopedTerm}
 
 -- Each of the numbers from n up to m is bound once, and each that is used is bound round its use, at any count.
 abbrev pub GoodTerm : ℕ → Term → ℕ → Type 0

@@ -1,7 +1,7 @@
 -- Opens every definition of this crate at once, for claims that are proved by computing.
 use Rattle.flatten.specs.Compute.{flattenComputes}
-use Rattle.session.specs.Session.{termItems, draftItems, report, make, roomFor, final, outcome, countAfter, boundBy, boundByAll}
+use Rattle.session.specs.Session.{termItems, draftItems, report, make, roomFor, final, outcome, boundBy}
 
 unfoldable pub readerComputes : Unit {0}
-unfolding flattenComputes termItems draftItems report make roomFor final outcome countAfter boundBy boundByAll
+unfolding flattenComputes termItems draftItems report make roomFor final outcome boundBy
 readerComputes = tt

@@ -1,5 +1,5 @@
 pub mod Session
-pub mod Demand3
+pub mod Compared
 pub mod Refusals
 pub mod Compute
 pub mod Shown

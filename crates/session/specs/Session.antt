@@ -1,7 +1,7 @@
--- Calls on a reader, what each answers and leaves, and lists of calls.
+-- Calls on a reader, and what each answers and leaves.
 use Prim.Native.Nat.{ℕ, _+_}
 use mathlib.Core.Bool.{Bool, true, false}
-use mathlib.Core.List.{List, [], _∷_, _++_}
+use mathlib.Core.List.{List, []}
 use lib.ListN.{length}
 use Rattle.reading.specs.Pick.{pick}
 use Rattle.reading.specs.Answer.{Res, M, _>>=_, chain, done, lifted, Final, accepts, refuses, finish, fitsIn, Said, accepted, zeros, outputOf, saidOf, countOf}
@@ -110,17 +110,7 @@ outcome call c =
       out = outputOf (termWords c) (final call c) (call .out);
     }
 
--- The count after a list of calls, each on the reader that the last one returned.
-unfoldable pub countAfter : List Call → ℕ → ℕ
-countAfter [] c = c
-countAfter (x ∷ xs) c = countAfter xs (outcome x c .count)
-
--- The numbers that the answer of a call at the count c binds.
+-- The numbers that what is decided at the count c binds.
 unfoldable pub boundBy : ℕ → Final Term → List ℕ
 boundBy c (accepts m n) = bound (raise c (termItems m))
 boundBy c (refuses r) = []
-
--- Those that the answers of a whole list bind.
-unfoldable pub boundByAll : List Call → ℕ → List ℕ
-boundByAll [] c = []
-boundByAll (x ∷ xs) c = boundBy c (final x c) ++ boundByAll xs (outcome x c .count)

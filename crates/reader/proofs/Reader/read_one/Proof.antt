@@ -30,7 +30,7 @@ returns c =
     let small : a .self .next ≤ maxNumber = omega arith in
     let k = one-known (a .text .now) (a .out .now) (a .self .next) small in
     let q = read-accepted false (a .text .now) (a .out .now) _ (a .self .next) small k _ _ _ (c .before .words .given .1) (e .0) in
-    (q .0, (q .1, e .1 ∙ k .out))
+    record { said = q .0; count = q .1; working = k .tree; body = k .draft; output = e .1 ∙ k .out }
 
 same-length-2 : tie.Need-same-length-2
 same-length-2 c = search needs
@@ -43,7 +43,7 @@ returns-2 c =
     let small : a .self .next ≤ maxNumber = omega arith in
     let k = one-known (a .text .now) (a .out .now) (a .self .next) small in
     let q = read-refused false (a .text .now) (a .out .now) _ (a .self .next) small k _ _ (c .before .r .given .1) (e .0) in
-    (q .0, (q .1, e .1 ∙ k .out))
+    record { said = q .0; count = q .1; working = k .tree; body = k .draft; output = e .1 ∙ k .out }
 
 pub read-one-spec : {M : Type 1} → statement M
 read-one-spec =

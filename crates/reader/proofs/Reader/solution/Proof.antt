@@ -30,7 +30,7 @@ returns c =
     let e = c .before .before .before .before .before .before .before .before .before .solution .ensures in
     let k = solution-known (a .text .now) (a .tree .now) (a .out .now) (a .self .next) (a .draft .now) in
     let q = counted-done flatItems _ _ _ k _ _ _ (c .before .words .given .1) (e .0) in
-    (q .0, (q .1, (e .1 .0 ∙ k .tree, (e .1 .1 .0 ∙ k .draft, e .1 .1 .1 ∙ k .out))))
+    record { said = q .0; count = q .1; working = e .1 .0 ∙ k .tree; body = e .1 .1 .0 ∙ k .draft; output = e .1 .1 .1 ∙ k .out }
 
 same-length-4 : tie.Need-same-length-4
 same-length-4 c = search needs
@@ -47,7 +47,7 @@ returns-2 c =
     let e = c .before .before .before .before .before .before .before .before .before .solution .ensures in
     let k = solution-known (a .text .now) (a .tree .now) (a .out .now) (a .self .next) (a .draft .now) in
     let q = counted-refused flatItems _ _ _ k _ _ (c .before .r .given .1) (e .0) in
-    (q .0, (q .1, (e .1 .0 ∙ k .tree, (e .1 .1 .0 ∙ k .draft, e .1 .1 .1 ∙ k .out))))
+    record { said = q .0; count = q .1; working = e .1 .0 ∙ k .tree; body = e .1 .1 .0 ∙ k .draft; output = e .1 .1 .1 ∙ k .out }
 
 pub solution-spec : {M : Type 1} → statement M
 solution-spec =

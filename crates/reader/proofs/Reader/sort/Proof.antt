@@ -30,7 +30,7 @@ returns c =
     let small : a .self .next ≤ maxNumber = omega arith in
     let k = sort-known (a .text .now) (a .out .now) (a .self .next) small (a .tree .now) in
     let q = sort-done (a .text .now) (a .tree .now) (a .out .now) (a .self .next) small _ _ (c .before .size .given .1) (e .0) in
-    (q .0, (q .1, (e .1 .0 ∙ k .tree, e .1 .1 ∙ k .out)))
+    record { said = q .0; count = q .1; working = e .1 .0 ∙ k .tree; body = k .draft; output = e .1 .1 ∙ k .out }
 
 same-length-3 : tie.Need-same-length-3
 same-length-3 c = search needs
@@ -45,7 +45,7 @@ returns-2 c =
     let small : a .self .next ≤ maxNumber = omega arith in
     let k = sort-known (a .text .now) (a .out .now) (a .self .next) small (a .tree .now) in
     let q = sort-refused (a .text .now) (a .tree .now) (a .out .now) (a .self .next) small _ _ (c .before .r .given .1) (e .0) in
-    (q .0, (q .1, (e .1 .0 ∙ k .tree, e .1 .1 ∙ k .out)))
+    record { said = q .0; count = q .1; working = e .1 .0 ∙ k .tree; body = k .draft; output = e .1 .1 ∙ k .out }
 
 pub sort-spec : {M : Type 1} → statement M
 sort-spec =

@@ -1,0 +1,24 @@
+-- What the code says, told apart: a report and a refusal, and two refusals.
+use Prim.Native.Nat.{ℕ}
+use mathlib.Core.Path.{_≡_}
+use mathlib.Core.Bool.{true, false}
+use native.Mathlib.Omega.{arith}
+use Rattle.session.specs.Session.{Term, aRead, aSort, anExpr, aBind, aSolution, report}
+use Rattle.reader.specs.Calls.{asSaid}
+use Rattle.reader.specs.declared.Said.the-variants.{Accepted, Refused}
+
+pub refused-same : {a b : ℕ} → Refused a ≡ Refused b → a ≡ b
+refused-same e = cc
+
+pub apart : {a b r : ℕ} → Accepted a b ≡ Refused r → ⊥
+apart e = let z : _≡_ {A = ℕ} 0 1 = cc in omega arith
+
+-- An accepted call does not say a refusal.
+pub not-refused : (m : Term) {r : ℕ} → asSaid (report m) ≡ Refused r → ⊥
+unfolding report
+not-refused (aRead true x) e = apart e
+not-refused (aRead false x) e = apart e
+not-refused (aSort s) e = apart e
+not-refused (anExpr x) e = apart e
+not-refused (aBind b) e = apart e
+not-refused (aSolution s) e = apart e
