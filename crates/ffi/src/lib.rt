@@ -1,11 +1,10 @@
 // The library's functions for C and Rust, each but the last a call on a reader that is opened at a count. Each returns the refusal's number, 0 if
 // accepted; a slice passes as a pointer and a length in elements. After a refusal the reported numbers are 0, and the count is as it was.
-// The contracts cite the outcomes of crates/session/specs/Session.antt, of which demand 3 is proved.
-ghost use mathlib.Core.Path.{_≡_};
-ghost use Rattle.session.specs.Session.{outcome};
-ghost use Rattle.flatten.specs.Operations.{flattenSaid, flattenOut};
+// The contracts are `Promised` and, of flattening, `Flattened` (specs/Reply.antt): the reply is the outcome of the call. Such replies are a
+// session of which demand 3 is proved (proofs/Sessions.antt).
+ghost use mathlib.Core.List.{[]};
 ghost use Rattle.reader.specs.Calls.{oneCall, allCall, sortCall, exprCall, bindCall, solutionCall};
-ghost use Rattle.ffi.specs.Reply.{refusalOf, firstOf, secondOf};
+ghost use Rattle.ffi.specs.Reply.{uncounted, counted, Promised, flat, Flattened};
 use reader::Reader;
 use reader::Said;
 
@@ -17,10 +16,7 @@ pub extern "C" fn pinhkray_read_one(
     words: &mut u64,
     next: &mut u64,
 ) -> u32
-    ensures refusal { λ r. ⌜ r ≡ refusalOf (outcome (oneCall (now (text .entry)) (now (out .entry))) 0 .said) ⌝ }
-    ensures words { λ _. ⌜ now (words .exit) ≡ firstOf (outcome (oneCall (now (text .entry)) (now (out .entry))) 0 .said) ⌝ }
-    ensures next { λ _. ⌜ now (next .exit) ≡ secondOf (outcome (oneCall (now (text .entry)) (now (out .entry))) 0 .said) ⌝ }
-    ensures output { λ _. ⌜ now (out .exit) ≡ outcome (oneCall (now (text .entry)) (now (out .entry))) 0 .out ⌝ }
+    ensures { λ r. ⌜ Promised (oneCall (now (text .entry)) (now (out .entry))) 0 (uncounted r (now (words .exit)) (now (next .exit)) [] (now (out .exit))) ⌝ }
 {
     let answer = Reader::open(0).read_one(text, out);
     let said = answer.said;
@@ -46,10 +42,7 @@ pub extern "C" fn pinhkray_read_all(
     expressions: &mut u64,
     words: &mut u64,
 ) -> u32
-    ensures refusal { λ r. ⌜ r ≡ refusalOf (outcome (allCall (now (text .entry)) (now (out .entry))) 0 .said) ⌝ }
-    ensures expressions { λ _. ⌜ now (expressions .exit) ≡ firstOf (outcome (allCall (now (text .entry)) (now (out .entry))) 0 .said) ⌝ }
-    ensures words { λ _. ⌜ now (words .exit) ≡ secondOf (outcome (allCall (now (text .entry)) (now (out .entry))) 0 .said) ⌝ }
-    ensures output { λ _. ⌜ now (out .exit) ≡ outcome (allCall (now (text .entry)) (now (out .entry))) 0 .out ⌝ }
+    ensures { λ r. ⌜ Promised (allCall (now (text .entry)) (now (out .entry))) 0 (uncounted r (now (expressions .exit)) (now (words .exit)) [] (now (out .exit))) ⌝ }
 {
     let answer = Reader::open(0).read_all(text, out);
     let said = answer.said;
@@ -75,10 +68,7 @@ pub extern "C" fn pinhkray_sort(
     out: &mut [u32],
     words: &mut u64,
 ) -> u32
-    ensures refusal { λ r. ⌜ r ≡ refusalOf (outcome (sortCall (now (text .entry)) (now (tree .entry)) (now (out .entry))) 0 .said) ⌝ }
-    ensures words { λ _. ⌜ now (words .exit) ≡ firstOf (outcome (sortCall (now (text .entry)) (now (tree .entry)) (now (out .entry))) 0 .said) ⌝ }
-    ensures working { λ _. ⌜ now (tree .exit) ≡ outcome (sortCall (now (text .entry)) (now (tree .entry)) (now (out .entry))) 0 .tree ⌝ }
-    ensures output { λ _. ⌜ now (out .exit) ≡ outcome (sortCall (now (text .entry)) (now (tree .entry)) (now (out .entry))) 0 .out ⌝ }
+    ensures { λ r. ⌜ Promised (sortCall (now (text .entry)) (now (tree .entry)) (now (out .entry))) 0 (uncounted r (now (words .exit)) 0 (now (tree .exit)) (now (out .exit))) ⌝ }
 {
     let answer = Reader::open(0).sort(text, tree, out);
     let said = answer.said;
@@ -104,11 +94,7 @@ pub extern "C" fn pinhkray_expression(
     words: &mut u64,
     count_after: &mut u64,
 ) -> u32
-    ensures refusal { λ r. ⌜ r ≡ refusalOf (outcome (exprCall (now (text .entry)) (now (tree .entry)) (now (out .entry))) count .said) ⌝ }
-    ensures words { λ _. ⌜ now (words .exit) ≡ firstOf (outcome (exprCall (now (text .entry)) (now (tree .entry)) (now (out .entry))) count .said) ⌝ }
-    ensures after { λ _. ⌜ now («count_after» .exit) ≡ outcome (exprCall (now (text .entry)) (now (tree .entry)) (now (out .entry))) count .count ⌝ }
-    ensures working { λ _. ⌜ now (tree .exit) ≡ outcome (exprCall (now (text .entry)) (now (tree .entry)) (now (out .entry))) count .tree ⌝ }
-    ensures output { λ _. ⌜ now (out .exit) ≡ outcome (exprCall (now (text .entry)) (now (tree .entry)) (now (out .entry))) count .out ⌝ }
+    ensures { λ r. ⌜ Promised (exprCall (now (text .entry)) (now (tree .entry)) (now (out .entry))) count (counted r (now (words .exit)) (now («count_after» .exit)) (now (tree .exit)) [] (now (out .exit))) ⌝ }
 {
     let answer = Reader::open(count).expression(text, tree, out);
     *count_after = answer.reader.next;
@@ -135,11 +121,7 @@ pub extern "C" fn pinhkray_bind(
     words: &mut u64,
     count_after: &mut u64,
 ) -> u32
-    ensures refusal { λ r. ⌜ r ≡ refusalOf (outcome (bindCall (now (text .entry)) (now (tree .entry)) (now (out .entry))) count .said) ⌝ }
-    ensures words { λ _. ⌜ now (words .exit) ≡ firstOf (outcome (bindCall (now (text .entry)) (now (tree .entry)) (now (out .entry))) count .said) ⌝ }
-    ensures after { λ _. ⌜ now («count_after» .exit) ≡ outcome (bindCall (now (text .entry)) (now (tree .entry)) (now (out .entry))) count .count ⌝ }
-    ensures working { λ _. ⌜ now (tree .exit) ≡ outcome (bindCall (now (text .entry)) (now (tree .entry)) (now (out .entry))) count .tree ⌝ }
-    ensures output { λ _. ⌜ now (out .exit) ≡ outcome (bindCall (now (text .entry)) (now (tree .entry)) (now (out .entry))) count .out ⌝ }
+    ensures { λ r. ⌜ Promised (bindCall (now (text .entry)) (now (tree .entry)) (now (out .entry))) count (counted r (now (words .exit)) (now («count_after» .exit)) (now (tree .exit)) [] (now (out .exit))) ⌝ }
 {
     let reply = Reader::open(count).bind(text, tree, out);
     *count_after = reply.reader.next;
@@ -168,12 +150,7 @@ pub extern "C" fn pinhkray_solution(
     words: &mut u64,
     count_after: &mut u64,
 ) -> u32
-    ensures refusal { λ r. ⌜ r ≡ refusalOf (outcome (solutionCall (now (text .entry)) (now (tree .entry)) (now (draft .entry)) (now (out .entry))) count .said) ⌝ }
-    ensures words { λ _. ⌜ now (words .exit) ≡ firstOf (outcome (solutionCall (now (text .entry)) (now (tree .entry)) (now (draft .entry)) (now (out .entry))) count .said) ⌝ }
-    ensures after { λ _. ⌜ now («count_after» .exit) ≡ outcome (solutionCall (now (text .entry)) (now (tree .entry)) (now (draft .entry)) (now (out .entry))) count .count ⌝ }
-    ensures working { λ _. ⌜ now (tree .exit) ≡ outcome (solutionCall (now (text .entry)) (now (tree .entry)) (now (draft .entry)) (now (out .entry))) count .tree ⌝ }
-    ensures body { λ _. ⌜ now (draft .exit) ≡ outcome (solutionCall (now (text .entry)) (now (tree .entry)) (now (draft .entry)) (now (out .entry))) count .draft ⌝ }
-    ensures output { λ _. ⌜ now (out .exit) ≡ outcome (solutionCall (now (text .entry)) (now (tree .entry)) (now (draft .entry)) (now (out .entry))) count .out ⌝ }
+    ensures { λ r. ⌜ Promised (solutionCall (now (text .entry)) (now (tree .entry)) (now (draft .entry)) (now (out .entry))) count (counted r (now (words .exit)) (now («count_after» .exit)) (now (tree .exit)) (now (draft .exit)) (now (out .exit))) ⌝ }
 {
     let solved = Reader::open(count).solution(text, tree, draft, out);
     *count_after = solved.reader.next;
@@ -193,9 +170,7 @@ pub extern "C" fn pinhkray_solution(
 // Flattens the words of an expression: how many words there are then. It takes no reader, and changes none of the words read.
 #[no_mangle]
 pub extern "C" fn pinhkray_flatten(words_in: &[u32], out: &mut [u32], words: &mut u64) -> u32
-    ensures refusal { λ r. ⌜ r ≡ refusalOf (flattenSaid (now («words_in» .entry)) (now (out .entry))) ⌝ }
-    ensures words { λ _. ⌜ now (words .exit) ≡ firstOf (flattenSaid (now («words_in» .entry)) (now (out .entry))) ⌝ }
-    ensures output { λ _. ⌜ now (out .exit) ≡ flattenOut (now («words_in» .entry)) (now (out .entry)) ⌝ }
+    ensures { λ r. ⌜ Flattened (now («words_in» .entry)) (now (out .entry)) (flat r (now (words .exit)) (now (out .exit))) ⌝ }
 {
     match flatten::flatten(words_in, out) {
         sorts::Answer::Done(flat) => {

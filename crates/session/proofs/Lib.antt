@@ -2,4 +2,5 @@ pub mod Terms
 pub mod Made
 pub mod Calls
 pub mod Meetable
+pub mod Unreported
 pub mod Refusals

@@ -1,4 +1,4 @@
-use Rattle.ffi.proofs.Replies.{flatten-done, flatten-refused}
+use Rattle.ffi.proofs.Replies.{flat-done, flat-refused}
 use borrow.Author.Needs.{needs}
 use Rattle.ffi.proofs.pinhkray_flatten.Statement.{statement}
 use Rattle.ffi.proofs.pinhkray_flatten.Tie as tie
@@ -19,8 +19,7 @@ returns : tie.Need-returns
 returns c =
     let a = c .before .before .before .before .before .before .before .before .before .args in
     let e = c .before .before .before .before .before .flatten .ensures in
-    let q = flatten-done (a .words-in .now) (a .out .now) _ _ (c .before .flat .given .1) (e .0) in
-    (q .0, (q .1, e .1))
+    flat-done (a .words-in .now) (a .out .now) _ _ _ (c .before .flat .given .1) (e .0) (e .1)
 
 same-length-2 : tie.Need-same-length-2
 same-length-2 c = search needs
@@ -29,8 +28,7 @@ returns-2 : tie.Need-returns-2
 returns-2 c =
     let a = c .before .before .before .before .before .before .before .before .before .args in
     let e = c .before .before .before .before .before .flatten .ensures in
-    let q = flatten-refused (a .words-in .now) (a .out .now) _ _ (c .before .why .given .1) (e .0) in
-    (q .0, (q .1, e .1))
+    flat-refused (a .words-in .now) (a .out .now) _ _ _ (c .before .why .given .1) (e .0) (e .1)
 
 pub pinhkray-flatten-spec : {M : Type 1} → statement M
 pinhkray-flatten-spec =

@@ -1,5 +1,5 @@
-use Rattle.reader.specs.Calls.{allCall}
-use Rattle.ffi.proofs.Replies.{accepted-reply, refused-reply, left}
+use mathlib.Core.Path.{refl}
+use Rattle.ffi.proofs.Replies.{read-accepted, read-refused}
 use borrow.Author.Needs.{needs}
 use Rattle.ffi.proofs.pinhkray_read_all.Statement.{statement}
 use Rattle.ffi.proofs.pinhkray_read_all.Tie as tie
@@ -20,25 +20,13 @@ same-length : tie.Need-same-length
 same-length c = search needs
 
 returns : tie.Need-returns
-returns c =
-    let a = c .before .before .before .before .before .before .before .before .before .before .args in
-    let e = c .before .before .before .before .before .read-all .ensures in
-    let o = c .before .before .before .before .before .before .before .«open» .ensures in
-    let call = allCall (a .text .now) (a .out .now) in
-    let q = accepted-reply call _ _ o _ _ _ (c .before .said .given .1) (e .0) in
-    (q .0, (q .1, (q .2, left call _ _ o (λ x. x .out) _ (e .1 .1))))
+returns c = read-accepted (c .before .before .before .before .before .before .before .«open» .ensures) (c .before .before .before .before .before .read-all .ensures) _ _ (c .before .said .given .1) refl refl
 
 same-length-2 : tie.Need-same-length-2
 same-length-2 c = search needs
 
 returns-2 : tie.Need-returns-2
-returns-2 c =
-    let a = c .before .before .before .before .before .before .before .before .before .before .args in
-    let e = c .before .before .before .before .before .read-all .ensures in
-    let o = c .before .before .before .before .before .before .before .«open» .ensures in
-    let call = allCall (a .text .now) (a .out .now) in
-    let q = refused-reply call _ _ o _ _ (c .before .said2 .given .1) (e .0) in
-    (q .0, (q .1, (q .2, left call _ _ o (λ x. x .out) _ (e .1 .1))))
+returns-2 c = read-refused (c .before .before .before .before .before .before .before .«open» .ensures) (c .before .before .before .before .before .read-all .ensures) _ (c .before .said2 .given .1) refl refl
 
 pub pinhkray-read-all-spec : {M : Type 1} → statement M
 pinhkray-read-all-spec =

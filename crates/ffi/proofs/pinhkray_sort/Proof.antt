@@ -1,5 +1,5 @@
-use Rattle.reader.specs.Calls.{sortCall}
-use Rattle.ffi.proofs.Replies.{accepted-reply, refused-reply, left}
+use mathlib.Core.Path.{refl}
+use Rattle.ffi.proofs.Replies.{sort-accepted, read-refused}
 use borrow.Author.Needs.{needs}
 use Rattle.ffi.proofs.pinhkray_sort.Statement.{statement}
 use Rattle.ffi.proofs.pinhkray_sort.Tie as tie
@@ -23,13 +23,7 @@ same-length-2 : tie.Need-same-length-2
 same-length-2 c = search needs
 
 returns : tie.Need-returns
-returns c =
-    let a = c .before .before .before .before .before .before .before .before .before .before .before .before .before .before .args in
-    let e = c .before .before .before .before .before .before .before .sort .ensures in
-    let o = c .before .before .before .before .before .before .before .before .before .before .«open» .ensures in
-    let call = sortCall (a .text .now) (a .tree .now) (a .out .now) in
-    let q = accepted-reply call _ _ o _ _ _ (c .before .said .given .1) (e .0) in
-    (q .0, (q .1, (left call _ _ o (λ x. x .tree) _ (e .1 .1 .0), left call _ _ o (λ x. x .out) _ (e .1 .1 .1))))
+returns c = sort-accepted (c .before .before .before .before .before .before .before .before .before .before .«open» .ensures) (c .before .before .before .before .before .before .before .sort .ensures) _ _ (c .before .said .given .1) refl refl refl
 
 same-length-3 : tie.Need-same-length-3
 same-length-3 c = search needs
@@ -38,13 +32,7 @@ same-length-4 : tie.Need-same-length-4
 same-length-4 c = search needs
 
 returns-2 : tie.Need-returns-2
-returns-2 c =
-    let a = c .before .before .before .before .before .before .before .before .before .before .before .before .before .before .args in
-    let e = c .before .before .before .before .before .before .before .sort .ensures in
-    let o = c .before .before .before .before .before .before .before .before .before .before .«open» .ensures in
-    let call = sortCall (a .text .now) (a .tree .now) (a .out .now) in
-    let q = refused-reply call _ _ o _ _ (c .before .said2 .given .1) (e .0) in
-    (q .0, (q .1, (left call _ _ o (λ x. x .tree) _ (e .1 .1 .0), left call _ _ o (λ x. x .out) _ (e .1 .1 .1))))
+returns-2 c = read-refused (c .before .before .before .before .before .before .before .before .before .before .«open» .ensures) (c .before .before .before .before .before .before .before .sort .ensures) _ (c .before .said2 .given .1) refl refl
 
 pub pinhkray-sort-spec : {M : Type 1} → statement M
 pinhkray-sort-spec =
