@@ -31,7 +31,7 @@ module _ {old new : Call} {c : ℕ} {ro rn : Reply} (g : Agree old new) (h : c �
   is-early : (r : Refusal) → made new ≡ no r → Early old new c (number r) ro rn
   is-early r e =
       record {
-        not13 = not-spent r;
+        not13 = not-spent r .1;
         always = λ other reply s p. refuses-by p (number r) (decides-early other 0 r (made-same other new (s .op) (s .text) (s .tree) ∙ e));
         both = both-refuse (number r) (decides-early new c r e) (decides-early new 0 r e);
       }
@@ -125,6 +125,10 @@ module _ {c : ℕ} {t : Turn} (h : c ≤ maxNumber) (p : Promised (t .call) c (t
           by false l true r = accepted-step m n e (ltb-false maxNumber (c + n) l) r
           by false l false r = refused-step (number noRoom) (decides-short (t .call) c m n e (ltb-false maxNumber (c + n) l) r)
 
+-- The count that a reply returns is one that a reader holds.
+pub next-fits : {c : ℕ} {t : Turn} → c ≤ maxNumber → Promised (t .call) c (t .reply) → t .reply .next ≤ maxNumber
+next-fits {t = t} h p = step {t = t} h p .fits
+
 -- All turns of a session.
 answered : (ts : List Turn) (c : ℕ) → c ≤ maxNumber → Session c ts → AllAnswered c ts
 answered [] c h s = tt
@@ -139,7 +143,7 @@ numbers (t ∷ ts) c h s =
 
 fits : (ts : List Turn) (c : ℕ) → c ≤ maxNumber → Session c ts → lastCount c ts ≤ maxNumber
 fits [] c h s = h
-fits (t ∷ ts) c h s = fits ts (t .reply .next) (step {t = t} h (s .0) .fits) (s .1)
+fits (t ∷ ts) c h s = fits ts (t .reply .next) (next-fits {t = t} h (s .0)) (s .1)
 
 -- Demand 3 holds of every session, on a reader that is opened at any count that it can hold.
 pub demand3 : (opened : ℕ) → opened ≤ maxNumber → (turns : List Turn) → Session opened turns → Demand3 opened turns

@@ -88,20 +88,20 @@ module _ (call : Call) (c : ℕ) where
   unfolding final
   decides-long m n e h s = ap (finish (roomFor call) c) e ∙ finish-long (roomFor call) c m n h s
 
--- The refusals that are met in a text are not 13.
-pub not-spent : (r : Refusal) → number r ≡ numbersSpent → ⊥
-not-spent tooLong e = omega arith
-not-spent notUtf8 e = omega arith
-not-spent endsEarly e = omega arith
-not-spent strayClose e = omega arith
-not-spent unclosed e = omega arith
-not-spent tooDeep e = omega arith
-not-spent noRoom e = omega arith
-not-spent malformed e = omega arith
-not-spent decimalRead e = omega arith
-not-spent repeatedName e = omega arith
-not-spent badLiteral e = omega arith
-not-spent badFunc e = omega arith
+-- The refusals that are met in a text are neither 0 nor 13.
+pub not-spent : (r : Refusal) → (0 < number r) × (number r ≡ numbersSpent → ⊥)
+not-spent tooLong = (omega arith, λ e. omega arith)
+not-spent notUtf8 = (omega arith, λ e. omega arith)
+not-spent endsEarly = (omega arith, λ e. omega arith)
+not-spent strayClose = (omega arith, λ e. omega arith)
+not-spent unclosed = (omega arith, λ e. omega arith)
+not-spent tooDeep = (omega arith, λ e. omega arith)
+not-spent noRoom = (omega arith, λ e. omega arith)
+not-spent malformed = (omega arith, λ e. omega arith)
+not-spent decimalRead = (omega arith, λ e. omega arith)
+not-spent repeatedName = (omega arith, λ e. omega arith)
+not-spent badLiteral = (omega arith, λ e. omega arith)
+not-spent badFunc = (omega arith, λ e. omega arith)
 
 -- An accepted call does not report a refusal.
 apart : (a b r : ℕ) → accepted a b ≡ refused r → ⊥
