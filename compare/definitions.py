@@ -26,7 +26,7 @@ use mathlib.Core.List.{List, [], _∷_, _++_}
 use lib.ListN.{replicate}
 use Rattle.reading.specs.Answer.{accepted, refused}
 use Rattle.session.specs.Session.{readOne, readAll, sort, expression, bind, solution}
-use Rattle.session.specs.Shown.{lending, refusal, words}
+use Rattle.vectors.specs.Shown.{lending, refusal, words}
 use Rattle.computed.specs.Case.{Case, case, Flat, flat, Words, plain, times, spread, answers, recorded, flattens, flattened}
 """
 
@@ -36,7 +36,7 @@ use mathlib.Core.List.{List, [], _∷_, _++_, map}
 use lib.ListN.{replicate}
 use Rattle.reading.specs.Answer.{Final, accepts, refuses, Said, saidOf, countOf}
 use Rattle.session.specs.Session.{Call, Term, termWords, report, final}
-use Rattle.session.specs.Shown.{Shown, shown}
+use Rattle.vectors.specs.Shown.{Shown, shown}
 use Rattle.session.specs.Compute.{readerComputes}
 use Rattle.flatten.specs.Operations.{exprWords, flattenFinal}
 
@@ -195,7 +195,7 @@ def main():
     for crate in (TOP / "crates").iterdir():
         os.symlink(crate, folder / "crates" / crate.name)
     os.symlink(TOP / "target", folder / "target")
-    (folder / "crates.txt").write_text((TOP / "crates.txt").read_text() + "computed: session flatten reading\n")
+    (folder / "crates.txt").write_text((TOP / "crates.txt").read_text() + "computed: session vectors flatten reading\n")
     (specs / "Case.antt").write_text(CASE)
     lines = answers.read_text().splitlines()
     rows = [made for made in map(row, lines) if made]

@@ -1,0 +1,5 @@
+pub mod Shown
+pub mod Table
+pub mod Readings
+pub mod ReadingsParsed
+pub mod Bounds
