@@ -2,4 +2,3 @@ pub mod Terms
 pub mod Made
 pub mod Calls
 pub mod Whole
-pub mod Refusals

@@ -1,4 +1,3 @@
 pub mod Session
 pub mod Demand3
-pub mod Refusals
 pub mod Compute
