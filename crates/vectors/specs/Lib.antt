@@ -3,3 +3,4 @@ pub mod Table
 pub mod Readings
 pub mod ReadingsParsed
 pub mod Bounds
+pub mod Slices
