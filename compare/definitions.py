@@ -1,7 +1,8 @@
 #!/usr/bin/env python3
-"""Computes the definitions on recorded answers: compare/definitions.py [ANSWERS]
+"""Computes the definitions on recorded answers: compare/definitions.py [short] [ANSWERS]
 
-ANSWERS is crates/replay/stdin unless another file is named. The prover evaluates `final`, of which `outcome` is made
+ANSWERS is crates/replay/stdin unless another file is named. With `short`, as the gate runs it, texts of more than 1,000 bytes are left out
+unless they are too long to be read at all: each takes the prover some seconds. The prover evaluates `final`, of which `outcome` is made
 (crates/session/specs/Session.antt), and `flattenFinal` (crates/flatten/specs/Operations.antt) on each case, and has to find the recorded
 refusal or numbers, the count and the words; no code of the library runs. The cases go into a crate of their own, beside links to the crates here, in target/definitions.
 """
@@ -15,6 +16,8 @@ TOP = Path(__file__).resolve().parent.parent
 OPERATIONS = {"R": "readOne", "A": "readAll", "S": "sort", "E": "expression", "B": "bind", "L": "solution"}
 # More words than these take the prover too many steps.
 MOST_WORDS = 8000
+# A text that is left out by `short` has more bytes than the first number, and at most the second, the limit of document 01.
+SHORT, LIMIT = 1000, 32768
 # Bytes and words of the cases that are one claim, and claims of one module.
 CLAIM = 1500
 CLAIMS = 16
@@ -26,7 +29,7 @@ use mathlib.Core.List.{List, [], _∷_, _++_}
 use lib.ListN.{replicate}
 use Rattle.reading.specs.Answer.{accepted, refused}
 use Rattle.session.specs.Session.{readOne, readAll, sort, expression, bind, solution}
-use Rattle.session.specs.Shown.{lending, refusal, words}
+use Rattle.vectors.specs.Shown.{lending, refusal, words}
 use Rattle.computed.specs.Case.{Case, case, Flat, flat, Words, plain, times, spread, answers, recorded, flattens, flattened}
 """
 
@@ -36,7 +39,7 @@ use mathlib.Core.List.{List, [], _∷_, _++_, map}
 use lib.ListN.{replicate}
 use Rattle.reading.specs.Answer.{Final, accepts, refuses, Said, saidOf, countOf}
 use Rattle.session.specs.Session.{Call, Term, termWords, report, final}
-use Rattle.session.specs.Shown.{Shown, shown}
+use Rattle.vectors.specs.Shown.{Shown, shown}
 use Rattle.session.specs.Compute.{readerComputes}
 use Rattle.flatten.specs.Operations.{exprWords, flattenFinal}
 
@@ -141,14 +144,16 @@ def length(parts):
     return sum(len(part) * times for part, times in parts)
 
 
-def row(line):
-    """A case: which kind of call, how long it is, and its text; None if it is too long."""
+def row(line, short):
+    """A case: which kind of call, how long it is, and its text; None if it is left out."""
     asked, answer = line.split(" = ")
     op, start, tree, draft, out, given = asked.split()
     number, a, b, count, words = answer.split()
     given = words_of(given) if op == "F" else bytes_of(given)
     words = words_of(words)
     if length(words) > MOST_WORDS or (op == "F" and length(given) > MOST_WORDS):
+        return None
+    if short and op != "F" and SHORT < length(given) <= LIMIT:
         return None
     shown = f"(refusal {number})" if number != "0" else f"(words {spread(words)})"
     if op == "F":
@@ -185,7 +190,10 @@ hold{number} = refl
 
 
 def main():
-    answers = Path(sys.argv[1]) if len(sys.argv) > 1 else TOP / "crates/replay/stdin"
+    arguments = sys.argv[1:]
+    short = arguments[:1] == ["short"]
+    named = arguments[1:] if short else arguments
+    answers = Path(named[0]) if named else TOP / "crates/replay/stdin"
     folder = TOP / "target/definitions"
     specs = folder / "crates/computed/specs"
     subprocess.run(["rm", "-rf", str(folder)], check=True)
@@ -195,10 +203,10 @@ def main():
     for crate in (TOP / "crates").iterdir():
         os.symlink(crate, folder / "crates" / crate.name)
     os.symlink(TOP / "target", folder / "target")
-    (folder / "crates.txt").write_text((TOP / "crates.txt").read_text() + "computed: session flatten reading\n")
+    (folder / "crates.txt").write_text((TOP / "crates.txt").read_text() + "computed: session vectors flatten reading\n")
     (specs / "Case.antt").write_text(CASE)
     lines = answers.read_text().splitlines()
-    rows = [made for made in map(row, lines) if made]
+    rows = [made for made in (row(line, short) for line in lines) if made]
     names = ["Case"]
     for kind in "TF":
         groups = claims([(size, text) for of, size, text in rows if of == kind])
@@ -210,7 +218,7 @@ def main():
     if done.returncode != 0:
         sys.stdout.write(done.stdout[-8000:] + done.stderr[-2000:])
         sys.exit("definitions: not every recorded answer is what the definitions compute")
-    print(f"definitions: {len(rows)} recorded answers computed, all as recorded; {len(lines) - len(rows)} too long to compute")
+    print(f"definitions: {len(rows)} recorded answers computed, all as recorded; {len(lines) - len(rows)} too long left out")
 
 
 main()

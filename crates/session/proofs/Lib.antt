@@ -3,4 +3,3 @@ pub mod Made
 pub mod Calls
 pub mod Meetable
 pub mod Unreported
-pub mod Refusals

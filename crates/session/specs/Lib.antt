@@ -1,9 +1,3 @@
 pub mod Session
 pub mod Compared
-pub mod Refusals
 pub mod Compute
-pub mod Shown
-pub mod Table
-pub mod Readings
-pub mod ReadingsParsed
-pub mod Bounds

@@ -1,2 +1,2 @@
-// Definitions only: the calls on a reader, what each answers and leaves (specs/Session.antt), tables of answers, and demand 3, the claim
-// about every list of calls on one reader (specs/Demand3.antt), which proofs/Whole.antt proves. The code is in crates/reader.
+// Definitions only: the calls on a reader, what each answers and leaves (specs/Session.antt), and what demand 3 compares
+// (specs/Compared.antt). The code and demand 3 itself are in crates/reader, tables of answers in crates/vectors.

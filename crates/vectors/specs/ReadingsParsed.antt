@@ -5,8 +5,8 @@ use mathlib.Core.Path.{_≡_, refl}
 use mathlib.Core.List.{List, [], _∷_, _++_}
 use lib.ListN.{replicate}
 use Rattle.reading.specs.Bytes.{ascii}
 use Rattle.session.specs.Session.{sort, expression, bind, solution}
-use Rattle.session.specs.Shown.{refusal, words, Asked, asks, asked, askedBytes, lending, tells, told, Flat, flat, flatInto, flattensTo, flatAnswers}
+use Rattle.vectors.specs.Shown.{refusal, words, Asked, asks, asked, askedBytes, lending, tells, told, Flat, flat, flatInto, flattensTo, flatAnswers}
 
 -- Sorts.
 abbrev pub sortsRead : List Asked

@@ -5,8 +5,8 @@ use mathlib.Core.List.{List, [], _∷_, _++_}
 use lib.ListN.{replicate}
 use Rattle.reading.specs.Bytes.{ascii}
 use Rattle.reading.specs.Answer.{accepted, refused}
 use Rattle.session.specs.Session.{readOne, readAll, sort, expression, bind, solution}
-use Rattle.session.specs.Shown.{refusal, words, callOn, Row, row, expected, Asked, asks, asked, askedBytes, lending, tells, told, Reported, reported, reports, saidIn, inTurn}
+use Rattle.vectors.specs.Shown.{refusal, words, callOn, Row, row, expected, Asked, asks, asked, askedBytes, lending, tells, told, Reported, reported, reports, saidIn, inTurn}
 
 -- Where the paper differs from the source.
 abbrev pub differences : List Asked

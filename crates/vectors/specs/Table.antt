@@ -1,8 +1,8 @@
 -- The bench table of document 01: every row that is marked P, and one claim about all of them.
 use mathlib.Core.Path.{_≡_, refl}
 use mathlib.Core.List.{List, [], _∷_}
 use Rattle.session.specs.Session.{readOne, expression, sort, solution}
-use Rattle.session.specs.Shown.{Row, row, refusal, words, answers, expected}
+use Rattle.vectors.specs.Shown.{Row, row, refusal, words, answers, expected}
 
 abbrev pub table : List Row
 table =

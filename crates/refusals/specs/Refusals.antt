@@ -1,13 +1,14 @@
 -- Which refusals each operation has, and how long slices are that never meet 7.
-use Prim.Native.Nat.{ℕ, _*_, _≤_}
+use Prim.Native.Nat.{ℕ, _*_, _^_, _≤_, _<_}
 use mathlib.Core.Bool.{Bool, true, false}
 use mathlib.Core.Path.{_≡_}
 use mathlib.Core.List.{List, [], _∷_, _++_}
 use lib.Dec.{eqb}
-use lib.ListN.{length}
+use lib.ListN.{length, getD, replicate}
 use Rattle.reading.specs.Pick.{pick}
 use Rattle.reading.specs.Answer.{number, noRoom, refused}
+use Rattle.flatten.specs.Operations.{flattenSaid}
 use Rattle.session.specs.Session.{Op, readOne, readAll, sort, expression, bind, solution, Call, outcome}
 
 -- A number stands in a list.
 unfoldable pub isAmong : ℕ → List ℕ → Bool
@@ -32,6 +33,10 @@ refusalsOf expression = ofReading ++ ofExpr
 refusalsOf bind = ofReading ++ ofExpr
 refusalsOf solution = ofReading ++ ofExpr
 
+-- Those of flattening, which takes words.
+abbrev pub ofFlatten : List ℕ
+ofFlatten = 6 ∷ 7 ∷ 14 ∷ []
+
 -- Words for each byte of the text.
 pub record PerByte : Type 0 where
   pub tree : ℕ
@@ -48,12 +53,29 @@ perByte solution = record { tree = 5; draft = 15; out = 15 }
 
 -- The slices of a call have so many words.
 pub record Roomy (call : Call) : Type 0 where
+  -- Nothing is asked of the words themselves.
   pub tree : perByte (call .op) .tree * length (call .text) ≤ length (call .tree)
   pub draft : perByte (call .op) .draft * length (call .text) ≤ length (call .draft)
   pub out : perByte (call .op) .out * length (call .text) ≤ length (call .out)
+
+-- A call with slices of just so many words.
+abbrev pub roomyCall : Op → List ℕ → Call
+roomyCall op text =
+    record {
+      op = op;
+      text = text;
+      tree = replicate (perByte op .tree * length text) 0;
+      draft = replicate (perByte op .draft * length text) 0;
+      out = replicate (perByte op .out * length text) 0;
+    }
 
 -- What holds of the refusals of a call on a reader at a count that it can have: the operation has them, and 7 is none of them where the
 -- slices are roomy.
 pub record RefusalsOf (call : Call) (c : ℕ) : Type 0 where
   pub among : (r : ℕ) → outcome call c .said ≡ refused r → isAmong r (refusalsOf (call .op)) ≡ true
   pub noSeven : Roomy call → outcome call c .said ≡ refused (number noRoom) → ⊥
+
+-- The same of flattening, where an output as long as the words is long enough for words of 32 bits, if they are fewer than 2^32.
+pub record FlattenRefusals (words out : List ℕ) : Type 0 where
+  pub among : (r : ℕ) → flattenSaid words out ≡ refused r → isAmong r ofFlatten ≡ true
+  pub noSeven : ((i : ℕ) → i < length words → getD words i 0 < 2 ^ 32) → length words < 2 ^ 32 → length words ≤ length out → flattenSaid words out ≡ refused (number noRoom) → ⊥

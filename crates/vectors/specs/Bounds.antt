@@ -4,8 +4,8 @@ use mathlib.Core.Path.{_≡_, refl}
 use mathlib.Core.List.{List, [], _∷_, _++_}
 use lib.ListN.{replicate}
 use Rattle.reading.specs.Bytes.{ascii}
 use Rattle.session.specs.Session.{readOne, readAll, sort, expression, bind, solution}
-use Rattle.session.specs.Shown.{refusal, words, callOn, Asked, asks, askedBytes, lending, tells, told, Flat, flat, flatInto, flattensTo, flatAnswers}
+use Rattle.vectors.specs.Shown.{refusal, words, callOn, Asked, asks, askedBytes, lending, tells, told, Flat, flat, flatInto, flattensTo, flatAnswers}
 
 -- A list, so many times.
 abbrev pub again : ℕ → List ℕ → List ℕ

@@ -34,11 +34,11 @@ use Rattle.grammar.proofs.TheTree.{the-tree}
 use Rattle.reading.proofs.TextTree.{TextTree}
 use Rattle.flatten.proofs.Uncurry.{solution-shorter}
 use Rattle.flatten.proofs.Parsed.{ParsedExpr, ParsedSolution, parsed-expr, parsed-solution}
 use Rattle.session.specs.Session.{Op, readOne, readAll, sort, expression, bind, solution, Call, Term, aRead, aSort, anExpr, aBind, aSolution, termItems, draftItems, make, made, roomFor, Outcome, outcome}
 use Rattle.session.specs.Compared.{readsOrSorts}
-use Rattle.session.specs.Refusals.{isAmong, ofReading, ofSort, ofExpr, refusalsOf, perByte, Roomy, RefusalsOf}
+use Rattle.refusals.specs.Refusals.{isAmong, ofReading, ofSort, ofExpr, refusalsOf, perByte, Roomy, RefusalsOf}
 use Rattle.session.proofs.Made.{Fine, make-fine}
 use Rattle.session.proofs.Calls.{when-refused, when-accepted, decides-early, decides-spent, decides-short, decides-long, no-refusal}
 
 -- An answer that takes no number.
 no-of : {A : Type 0} (Q : Refusal → Type 0) (x : Ans A) (n : ℕ) → Bad Q x → No Q (lifted x n)

@@ -1,0 +1,72 @@
+-- The refusals of flattening, proved.
+use Prim.Native.Nat.{ℕ, _≤_, _<_, _^_}
+use mathlib.Core.Bool.{Bool, true, false}
+use mathlib.Core.Path.{_≡_, refl, ap}
+use mathlib.Core.List.{List}
+use native.Mathlib.Omega.{arith}
+use lib.ListN.{length}
+use borrow.Author.Tests.{lt-ltb, le-leb}
+use Rattle.reading.specs.Pick.{pick}
+use Rattle.reading.specs.Answer.{number, noRoom, accepts, refuses, Said, accepted, refused, saidOf}
+use Rattle.grammar.specs.Expr.{Expr}
+use Rattle.judge.specs.Judge.{Judged, reads, fails, judgeExpr}
+use Rattle.judge.proofs.Spell.{Low}
+use Rattle.judge.proofs.SpellExpr.{judged-spelled}
+use Rattle.flatten.specs.Uncurry.{uncurry, mostOperands}
+use Rattle.flatten.specs.Operations.{exprWords, noText, flatFits, flattenBy, flattenFinal, flattenSaid}
+use Rattle.flatten.proofs.Uncurry.{shorter}
+use Rattle.flatten.proofs.FewOperands.{most-size}
+use Rattle.refusals.specs.Refusals.{isAmong, ofFlatten, FlattenRefusals}
+use Rattle.refusals.proofs.JudgeRefusals.{Fails, judge-fails}
+
+abbrev reported : Expr → Said
+reported e = accepted (length (exprWords e)) 0
+
+-- Among its refusals, and not 7.
+abbrev Among : ℕ → Type 0
+Among r = isAmong r ofFlatten ≡ true
+
+abbrev NotSeven : ℕ → Type 0
+NotSeven r = r ≡ number noRoom → ⊥
+
+module _ (words out : List ℕ) where
+  judge-among : Fails Among (judgeExpr noText words)
+  unfolding isAmong pick
+  judge-among = judge-fails Among refl refl noText words
+
+  judge-not : Fails NotSeven (judgeExpr noText words)
+  judge-not = judge-fails NotSeven (λ e. omega arith) (λ e. omega arith) noText words
+
+  among : (r : ℕ) (x : Judged Expr) → Fails Among x → saidOf reported (flattenBy out x) ≡ refused r → Among r
+  unfolding flattenBy saidOf isAmong pick
+  among r (fails s) h q = let e : s ≡ r = cc in rw e at h
+  among r (reads x n) h q = go (flatFits out (uncurry x)) q
+    where
+      go : (t : Bool) → saidOf reported (pick t (accepts (uncurry x) 0) (refuses (number noRoom))) ≡ refused r → Among r
+      go true q = let z : _≡_ {A = ℕ} 0 1 = cc in absurd (omega arith)
+      go false q = let e : 7 ≡ r = cc in rw (← e) refl
+
+  -- The flattened words are no more than the words, and no count is larger.
+  fits : Low words → length words < 2 ^ 32 → length words ≤ length out → (x : Expr) (n : ℕ) → judgeExpr noText words ≡ reads x n → flatFits out (uncurry x) ≡ true
+  unfolding flatFits pick
+  fits low few room x n j =
+      let same : length words ≡ length (exprWords x) = ap length (judged-spelled noText words low j) in
+      rw (lt-ltb (mostOperands (uncurry x)) (2 ^ 32) (omega (arith, most-size (uncurry x), shorter x, same)), le-leb (length (exprWords (uncurry x))) (length out) (omega (arith, shorter x, same))) refl
+
+  no-seven : Low words → length words < 2 ^ 32 → length words ≤ length out → (x : Judged Expr) → judgeExpr noText words ≡ x → Fails NotSeven x → saidOf reported (flattenBy out x) ≡ refused (number noRoom) → ⊥
+  unfolding flattenBy saidOf pick
+  no-seven low few room (fails s) j h q = h cc
+  no-seven low few room (reads x n) j h q = go (flatFits out (uncurry x)) (fits low few room x n j) q
+    where
+      go : (t : Bool) → t ≡ true → saidOf reported (pick t (accepts (uncurry x) 0) (refuses (number noRoom))) ≡ refused (number noRoom) → ⊥
+      go true e q = let z : _≡_ {A = ℕ} 0 1 = cc in omega arith
+      go false e q = let z : _≡_ {A = ℕ} 0 1 = cc in omega arith
+
+-- All words and every output.
+pub flatten-refusals : (words out : List ℕ) → FlattenRefusals words out
+unfolding flattenSaid flattenFinal
+flatten-refusals words out =
+    record {
+      among = λ r q. among words out r (judgeExpr noText words) (judge-among words out) q;
+      noSeven = λ low few room q. no-seven words out low few room (judgeExpr noText words) refl (judge-not words out) q;
+    }

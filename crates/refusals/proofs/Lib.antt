@@ -1,0 +1,4 @@
+pub mod Refusals
+pub mod JudgeRefusals
+pub mod FlattenRefusals
+pub mod Roomy

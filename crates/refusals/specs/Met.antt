@@ -1,0 +1,111 @@
+-- For each refusal of each operation a call that meets it, with the shortest text that was found.
+use Prim.Native.Nat.{ℕ}
+use Prim.Native.String.{String}
+use mathlib.Core.Path.{_≡_, refl}
+use mathlib.Core.List.{List, [], _∷_, _++_, map}
+use lib.ListN.{replicate}
+use Rattle.reading.specs.Limits.{maxNumber}
+use Rattle.reading.specs.Bytes.{ascii}
+use Rattle.reading.specs.Answer.{Said, accepted, refused}
+use Rattle.flatten.specs.Operations.{flattenSaid}
+use Rattle.session.specs.Session.{Op, readOne, readAll, sort, expression, bind, solution, Call, outcome}
+use Rattle.session.specs.Compute.{readerComputes}
+use Rattle.refusals.specs.Refusals.{refusalsOf, ofFlatten, roomyCall}
+
+-- A call on a reader at a count.
+pub record Asked : Type 0 where
+  pub call : Call
+  pub count : ℕ
+
+-- With slices that are long enough: bytes and a text for a new reader, and a text for one that has no number left.
+abbrev pub bytes : Op → List ℕ → Asked
+bytes op text = record { call = roomyCall op text; count = 0 }
+
+abbrev pub text : Op → String → Asked
+text op t = bytes op (ascii t)
+
+abbrev pub atLast : Op → String → Asked
+atLast op t = record { call = roomyCall op (ascii t); count = maxNumber }
+
+-- A text for a new reader, with slices of no words.
+abbrev pub noWords : Op → String → Asked
+noWords op t = record { call = record { op = op; text = ascii t; tree = []; draft = []; out = [] }; count = 0 }
+
+-- 1 to 7, where a text is given that ends early. 1 is met by 32,769 bytes, 6 by 65 times `(`.
+abbrev pub inReading : Op → String → List Asked
+inReading op early =
+    bytes op (replicate 32769 32) ∷ bytes op (255 ∷ []) ∷ text op early ∷ text op ")" ∷ text op "\"" ∷ bytes op (replicate 65 40) ∷ noWords op "1" ∷ []
+
+-- The calls of an operation. The first item of a solution and of `apply`'s list can be anything.
+abbrev pub calls : Op → List Asked
+calls readOne = inReading readOne ""
+calls readAll = inReading readAll "("
+calls sort = inReading sort "" ++ (text sort "1" ∷ text sort "(func 65()a)" ∷ [])
+calls expression =
+    inReading expression ""
+    ++ (text expression "()"
+    ∷ text expression "1."
+    ∷ text expression "(exists((a a)(a a))1)"
+    ∷ text expression "(lit\"#b\")"
+    ∷ text expression "((1 apply(func 65()a)))"
+    ∷ atLast expression "(exists((a a))1)"
+    ∷ [])
+calls bind =
+    inReading bind ""
+    ++ (text bind "1"
+    ∷ text bind "((a a)(1.))"
+    ∷ text bind "((a a)(exists((a a)(a a))1))"
+    ∷ text bind "((a a)(lit\"#b\"))"
+    ∷ text bind "((a(func 65()a)))"
+    ∷ atLast bind "((a a)(exists((a a))1))"
+    ∷ [])
+calls solution =
+    inReading solution ""
+    ++ (text solution "1"
+    ∷ text solution "(1()1.)"
+    ∷ text solution "(1((a a)(a a))1)"
+    ∷ text solution "(1()(lit\"#b\"))"
+    ∷ text solution "(1((a(func 65()a)))1)"
+    ∷ atLast solution "(1((a a))1)"
+    ∷ [])
+
+-- The number of a refusal; none is 0.
+unfoldable pub refusalIn : Said → ℕ
+refusalIn (accepted a b) = 0
+refusalIn (refused r) = r
+
+-- The refusals that the calls of an operation meet.
+unfoldable pub met : Op → List ℕ
+unfolding readerComputes refusalIn
+met op = map (λ a. refusalIn (outcome (a .call) (a .count) .said)) (calls op)
+
+-- They are all that it has.
+pub met-all : (op : Op) → met op ≡ refusalsOf op
+unfolding met
+met-all readOne = refl
+met-all readAll = refl
+met-all sort = refl
+met-all expression = refl
+met-all bind = refl
+met-all solution = refl
+
+-- Words to flatten, and the length of the output.
+pub record Flat : Type 0 where
+  pub input : List ℕ
+  pub out : ℕ
+
+-- 129 times `not`; `true` without room; no words.
+abbrev pub flats : List Flat
+flats =
+    record { input = replicate 129 44; out = 129 }
+    ∷ record { input = 33 ∷ 1 ∷ []; out = 1 }
+    ∷ record { input = []; out = 0 }
+    ∷ []
+
+unfoldable pub metByFlatten : List ℕ
+unfolding readerComputes refusalIn
+metByFlatten = map (λ f. refusalIn (flattenSaid (f .input) (replicate (f .out) 0))) flats
+
+pub met-flatten : metByFlatten ≡ ofFlatten
+unfolding metByFlatten
+met-flatten = refl

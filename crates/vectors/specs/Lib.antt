@@ -1,0 +1,6 @@
+pub mod Shown
+pub mod Table
+pub mod Readings
+pub mod ReadingsParsed
+pub mod Bounds
+pub mod Slices
