@@ -25,6 +25,11 @@ module _ (out₀ : List ℕ) where
   pub shows : (text : List ℕ) {t : Maybe (List ℕ)} {out : List ℕ} {r : ℕ} → t ≡ just text → length text ≤ length out₀ → r ≡ length text → out ≡ over text out₀ → answering r out ≡ shown t out₀
   shows text e h n o = rw (n, o, e) (sym (fitting text h))
 
+  pub reveals : (text : List ℕ) {t : Maybe (List ℕ)} {out : List ℕ} {r : ℕ} → t ≡ just text → length text ≤ length out₀ → answering r out ≡ shown t out₀ → (r ≡ length text) × (out ≡ over text out₀)
+  reveals text e h a =
+      let q = a ∙ ap (λ (t : Maybe (List ℕ)). shown t out₀) e ∙ fitting text h in
+      (ap (λ (s : Shown). s .count) q, ap (λ (s : Shown). s .out) q)
+
   -- No text, or one for which there is no room.
   pub hides : (t : Maybe (List ℕ)) {out : List ℕ} → hasRoom t (length out₀) ≡ false → out ≡ zeros out₀ → answering 0 out ≡ shown t out₀
   unfolding shown pick
@@ -38,4 +43,4 @@ module _ (out₀ : List ℕ) where
 
   pub refusal-shows : (n : ℕ) {out : List ℕ} {r : ℕ} → 3 ≤ length out₀ → answering r out ≡ shown (just (refusalText n)) out₀ → (r ≡ 3) × (out ≡ over (refusalText n) out₀)
   unfolding refusalText
-  refusal-shows n h e = let q = e ∙ fitting (refusalText n) h in (ap (λ (s : Shown). s .count) q, ap (λ (s : Shown). s .out) q)
+  refusal-shows n h a = reveals (refusalText n) refl h a
