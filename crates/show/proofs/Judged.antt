@@ -1,5 +1,5 @@
 -- Words that are judged to be a solution, taken apart, and what the answers of the code say of them.
-use Prim.Native.Nat.{ℕ, _+_, _-_, _*_, _≤_, _<_}
+use Prim.Native.Nat.{ℕ, _+_, _-_, _*_, _≤_}
 use mathlib.Core.Bool.{Bool, true, false, false≢true}
 use mathlib.Core.Path.{_≡_, refl, sym, ap, _∙_}
 use mathlib.Core.List.{List, [], _∷_}
@@ -49,6 +49,7 @@ none-left {A} a ws m {b} {n} e = go (eqb m (length ws)) refl e
 rest : ℕ → Reader Solution
 rest n = bindersAt noText n >>= λ bs. exprAt noText >>= λ e. atEnd noText (record { params = bs; body = e })
 
+-- Where there is a word, and where there is none.
 judged-rest : (words : List ℕ) → 1 ≤ length words → judgeSolution noText words ≡ rest (getD words 0 0) words 1
 unfolding judgeSolution rest
 judged-rest words h = rw (word-in words 0 h) refl

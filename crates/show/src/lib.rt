@@ -11,7 +11,7 @@ ghost use Rattle.reading.specs.Bytes.{just};
 ghost use Rattle.reading.specs.Answer.{zeros};
 ghost use Rattle.show.specs.Hex.{digit as digitOf, eightDigits};
 ghost use Rattle.show.specs.Lines.{line as lineOf, refusalText};
-ghost use Rattle.show.specs.Shown.{wordsText, hasRoom, Shown, shown};
+ghost use Rattle.show.specs.Shown.{wordsText, hasRoom, shown};
 use judge::expr_words::End;
 use judge::expr_words::MAX_NODES;
 use judge::expr_words::NO_TEXT;

@@ -4,7 +4,7 @@ use mathlib.Core.Path.{_≡_, sym, subst}
 use mathlib.Core.List.{List}
 use native.Mathlib.Omega.{arith}
 use lib.ListN.{length}
-use Rattle.reading.specs.Tree.{Tree, Within}
+use Rattle.reading.specs.Tree.{Tree}
 use Rattle.reading.proofs.Wider.{tree-wider}
 use Rattle.reading.proofs.TextTree.{TextTree}
 use Rattle.grammar.specs.Item.{wordsOf}
