@@ -1,23 +1,22 @@
 -- The words of parameters, where they stand, and the lines that they make.
-use Prim.Native.Nat.{ℕ, _+_, _-_, _*_, _^_, _≤_}
+use Prim.Native.Nat.{ℕ, zero, suc, _+_, _-_, _*_, _≤_, _<_}
 use mathlib.Core.Path.{_≡_, refl, sym, ap, _∙_}
 use mathlib.Core.List.{List, [], _∷_, _++_, append-assoc}
 use native.Mathlib.Omega.{arith}
-use lib.ListN.{length, drop, length-append}
-use lib.Seq.{take-at, drop-at, drop-drop}
-use Rattle.reading.specs.At.{At}
-use Rattle.reading.proofs.Placed.{at-inside, at-right}
-use Rattle.reading.proofs.Placed
+use lib.ListN.{length, length-append}
+use lib.Seq.{take-at}
+use Rattle.reading.proofs.Placed.{at-drop}
 use Rattle.grammar.specs.Sort.{two, sortWords}
 use Rattle.grammar.specs.Item.{Item, wordsOf}
 use Rattle.grammar.specs.Expr.{Binder, Expr, exprItems, Solution, binderItems, sortItems, solutionItems}
-use Rattle.grammar.specs.Shape.{BindersCoded}
 use Rattle.grammar.proofs.Items.{words-front}
-use Rattle.judge.specs.Judge.{sortAt}
-use Rattle.judge.specs.Ends.{endOf}
+use Rattle.judge.specs.Judge.{reads, several, twoWords, sortAt, binderAt, bindersAt}
+use Rattle.judge.specs.Spelled.{Spelled}
+use Rattle.judge.proofs.FieldsBack.{moved}
+use Rattle.judge.proofs.Spell.{Low, post-reads, spelled-inside, spelled-none, spelled-seq, a-two}
+use Rattle.judge.proofs.SpellSort.{a-sort}
+use Rattle.judge.proofs.Taken.{first-read, same-value, same-end}
 use Rattle.flatten.specs.Operations.{noText}
-use Rattle.judge.specs.declared.expr_words.End.the-variants as end
-use Rattle.judge.proofs.SortBack.{sort-at}
 use Rattle.show.specs.Lines.{line, refusalText, paramLines, solutionText}
 use Rattle.show.proofs.Printing.{between, line-length}
 
@@ -47,25 +46,54 @@ pub text-length : (s : Solution) → length (solutionText s) + 6 ≡ 9 * length 
 unfolding solutionText refusalText solutionItems wordsOf
 text-length s = omega (arith, lines-length (s .params) (s .body))
 
--- The sort of the next parameter is found, and its end.
-pub record Found (words : List ℕ) (from : ℕ) (b : Binder) (others : List ℕ) : Type 0 where
-  pub behind : endOf (sortAt noText words (from + 2)) ≡ end.At (from + length (paramWords b))
-  pub inside : from + length (paramWords b) ≤ length words
-  pub here : between words from (from + length (paramWords b)) ≡ paramWords b
-  pub then : drop (from + length (paramWords b)) words ≡ others
+-- Words that are spelled between two places are the words between them.
+pub between-spelled : {words xs : List ℕ} {from to : ℕ} → Spelled words from to xs → between words from to ≡ xs
+between-spelled {words} {xs} {from} {to} s =
+    let n : to - from ≡ length xs = omega (arith, s .ends) in
+    rw (n, at-drop (s .stands)) (take-at xs (s .stands .rest) (length xs) refl)
 
--- So it is where the words of parameters stand.
-pub found : (words : List ℕ) (from : ℕ) (b : Binder) (bs : List Binder) (its : List Item) → from ≤ length words → BindersCoded (b ∷ bs) noText (2 ^ 64) → drop from words ≡ wordsOf (binderItems (b ∷ bs) ++ its)
-    → Found words from b (wordsOf (binderItems bs ++ its))
-found words from b bs its h c e =
-    let p : List ℕ = paramWords b in
-    let o : List ℕ = wordsOf (binderItems bs ++ its) in
-    let q : drop from words ≡ p ++ o = e ∙ words-next b bs its in
-    let a : At words from p = Placed.drop-at words from p o h q in
-    let n : from + length p - from ≡ length p = omega arith in
-    record {
-      behind = ap endOf (sort-at noText words (b .sort) (from + 2) (c .1) (at-right (two (b .var)) (sortWords (b .sort)) a)) ∙ ap end.At (omega arith);
-      inside = at-inside a;
-      here = rw (n, q) (take-at p o (length p) refl);
-      then = sym (drop-drop (length p) from words) ∙ rw q (drop-at p o (length p) refl);
-    }
+-- The next of the parameters that are read from a place on: its sort ends at another place, from which the others are read.
+pub record Next (words : List ℕ) (from left : ℕ) (bs : List Binder) (behind : ℕ) : Type 0 where
+  pub binder : Binder
+  pub others : List Binder
+  pub is : bs ≡ binder ∷ others
+  pub to : ℕ
+  pub sort : sortAt noText words (from + 2) ≡ reads (binder .sort) to
+  pub then : bindersAt noText (left - 1) words to ≡ reads others behind
+  pub spelled : Spelled words from to (paramWords binder)
+
+module _ (words : List ℕ) {bs : List Binder} {behind : ℕ} where
+  -- A number and a sort.
+  next-at : Low words → (from left : ℕ) → from ≤ length words → (b : Binder) (others : List Binder) (m : ℕ) → binderAt noText words from ≡ reads b m → bindersAt noText (left - 1) words m ≡ reads others behind → bs ≡ b ∷ others → Next words from left bs behind
+  unfolding binderAt
+  next-at low from left h b others m x u e =
+      first-read (twoWords words from) _ words x λ k a p q.
+      first-read (sortAt noText words a) _ words q λ s t f g.
+      let n : Spelled words from a (two k) = post-reads (twoWords words from) (λ i j. Spelled words from j (two i)) (a-two low .reach from from (spelled-none h)) p in
+      let o : Spelled words a t (sortWords s) = post-reads (sortAt noText words a) (λ i j. Spelled words a j (sortWords i)) (a-sort noText low .reach a a (spelled-none (spelled-inside n))) f in
+      let l : a ≡ from + 2 = omega (arith, n .ends) in
+      let c : Binder = record { var = k; sort = s } in
+      record {
+        binder = c;
+        others = others;
+        is = e ∙ ap (λ (d : Binder). d ∷ others) (sym (same-value g));
+        to = t;
+        sort = rw l at f;
+        then = rw (same-end g) u;
+        spelled = spelled-seq n o;
+      }
+
+  pub next-read : Low words → (from left : ℕ) → from ≤ length words → 0 < left → bindersAt noText left words from ≡ reads bs behind → Next words from left bs behind
+  unfolding bindersAt several
+  next-read low from zero h z e = absurd (omega arith)
+  next-read low from (suc left) h z e =
+      let k : suc left - 1 ≡ left = omega arith in
+      first-read (binderAt noText words from) _ words e λ b m x y.
+      first-read (bindersAt noText left words m) _ words y λ others n u v.
+      next-at low from (suc left) h b others m x (rw k (u ∙ moved (same-end v))) (sym (same-value v))
+
+  -- No parameter is left.
+  pub none-read : (from left : ℕ) → left ≤ 0 → bindersAt noText left words from ≡ reads bs behind → (bs ≡ []) × (from ≡ behind)
+  unfolding bindersAt several
+  none-read from zero h e = (sym (same-value e), same-end e)
+  none-read from (suc left) h e = absurd (omega arith)

@@ -1,12 +1,9 @@
 -- What is printed of a solution, and of a refusal.
-use Prim.Native.Nat.{ℕ, _^_}
-use mathlib.Core.Path.{_≡_}
+use Prim.Native.Nat.{ℕ}
 use mathlib.Core.List.{List, [], _∷_, _++_}
 use Rattle.grammar.specs.Sort.{two, sortWords}
 use Rattle.grammar.specs.Item.{wordsOf}
-use Rattle.grammar.specs.Expr.{Binder, exprItems, Solution, solutionItems}
-use Rattle.grammar.specs.Shape.{BindersCoded}
-use Rattle.flatten.specs.Operations.{noText}
+use Rattle.grammar.specs.Expr.{Binder, exprItems, Solution}
 use Rattle.show.specs.Hex.{twoDigits, eightDigits}
 
 -- What stands behind a word: a space, or a line feed if no word follows.
@@ -31,7 +28,3 @@ paramLines (b ∷ bs) = line (two (b .var) ++ sortWords (b .sort)) ++ paramLines
 -- No refusal, the parameters, and the expression on a line.
 unfoldable pub solutionText : Solution → List ℕ
 solutionText s = refusalText 0 ++ (paramLines (s .params) ++ line (wordsOf (exprItems (s .body))))
-
--- Words that tell the solution which they are written from: the fresh numbers of its parameters, and the indexes in their sorts, have 64 bits.
-abbrev pub SolutionWords : Solution → List ℕ → Type 0
-SolutionWords s words = BindersCoded (s .params) noText (2 ^ 64) × (words ≡ wordsOf (solutionItems s))

@@ -2,16 +2,21 @@
 ghost use mathlib.Core.Path.{_≡_};
 ghost use mathlib.Core.List.{[], _∷_, _++_};
 ghost use Prim.Native.Nat.{_+_, _-_, _*_, _<_, _≤_};
-ghost use lib.Dec.{eqb};
+ghost use mathlib.Core.Bool.{true};
+ghost use lib.Dec.{eqb, leb};
 ghost use lib.ListN.{length, take, drop};
 ghost use lib.Seq.{sets};
 ghost use Rattle.reading.specs.Pick.{pick};
-ghost use Rattle.reading.specs.Answer.{over};
-ghost use Rattle.grammar.specs.Expr.{Solution};
+ghost use Rattle.reading.specs.Bytes.{just};
+ghost use Rattle.reading.specs.Answer.{zeros};
 ghost use Rattle.show.specs.Hex.{digit as digitOf, eightDigits};
-ghost use Rattle.show.specs.Lines.{line as lineOf, refusalText, solutionText, SolutionWords};
+ghost use Rattle.show.specs.Lines.{line as lineOf, refusalText};
+ghost use Rattle.show.specs.Shown.{wordsText, hasRoom, shown};
 use judge::expr_words::End;
+use judge::expr_words::MAX_NODES;
 use judge::expr_words::NO_TEXT;
+use judge::expr_words::expr_end;
+use judge::sort_words::binders_end;
 use judge::sort_words::sort_end;
 
 // A digit as a byte.
@@ -66,11 +71,24 @@ fn line(words: &[u32], from: usize, to: usize, out: &mut [u8], at: usize) -> usi
     a
 }
 
-// The text of a refusal at the start of an output that has room for it; answers its length.
+// Zeros throughout.
+fn clear(out: &mut [u8])
+    ensures { λ _. ⌜ now (out .exit) ≡ zeros (now (out .entry)) ⌝ }
+{
+    let mut i = 0;
+    while i < out.len() {
+        out[i] = 0;
+        i += 1;
+    }
+}
+
+// The text of a refusal, at the start of the output; answers its length. An output without room for its three bytes is cleared, and the
+// answer is 0.
 pub fn refusal(n: u32, out: &mut [u8]) -> usize
-    ensures { λ r. ⌜ (3 ≤ length (now (out .entry)) → (r ≡ 3) × (now (out .exit) ≡ over (refusalText n) (now (out .entry)))) ⌝ }
+    ensures { λ r. ⌜ record { count = r; out = now (out .exit) } ≡ shown (just (refusalText n)) (now (out .entry)) ⌝ }
 {
     if out.len() < 3 {
+        clear(out);
         return 0;
     }
     out[0] = digit(n / 16 % 16);
@@ -79,37 +97,73 @@ pub fn refusal(n: u32, out: &mut [u8]) -> usize
     3
 }
 
-// The text of the solution that has these words, at the start of an output with room for nine bytes a word; answers its length.
-// Other words have no text, and a shorter output gets none: the answer is then of no use.
-pub fn solution(words: &[u32], out: &mut [u8]) -> usize
-    ensures { λ r. ⌜ ((s : Solution) → SolutionWords s (now (words .entry)) → 9 * length (now (words .entry)) ≤ length (now (out .entry)) → (r ≡ length (solutionText s)) × (now (out .exit) ≡ over (solutionText s) (now (out .entry)))) ⌝ }
+// Room for the text of a solution of so many words: three bytes, and nine for each word but the first.
+fn long_enough(words: usize, room: usize) -> bool
+    requires { ⌜ 1 ≤ words ⌝ }
+    ensures { λ r. ⌜ r ≡ leb (3 + 9 * (words - 1)) room ⌝ }
+{
+    if room < 3 {
+        return false;
+    }
+    if (room - 3) / 9 < words - 1 {
+        return false;
+    }
+    true
+}
+
+// The words are judged to be a solution, and there is room for its text.
+fn fits(words: &[u32], room: usize) -> bool
+    ensures { λ r. ⌜ r ≡ hasRoom (wordsText (now (words .entry))) room ⌝ }
 {
     if words.len() == 0 {
-        return 0;
+        return false;
     }
-    if out.len() / 9 < words.len() {
-        return 0;
+    match binders_end(words, 1, words[0], NO_TEXT) {
+        End::At(a) => match expr_end(words, a, NO_TEXT, MAX_NODES) {
+            End::At(n) => {
+                if n == words.len() {
+                    return long_enough(n, room);
+                }
+                false
+            }
+            End::No(_) => false,
+        },
+        End::No(_) => false,
     }
+}
+
+// The text of the solution that these words are, in an output with room for it; answers its length.
+fn lines(words: &[u32], out: &mut [u8]) -> usize
+    requires { ⌜ hasRoom (wordsText (now words)) (length (now out)) ≡ true ⌝ }
+    ensures { λ r. ⌜ record { count = r; out = now (out .exit) } ≡ shown (wordsText (now (words .entry))) (now (out .entry)) ⌝ }
+{
     let mut at = refusal(0, out);
     let mut from = 1;
     let mut left = words[0];
     while 0 < left {
         match sort_end(words, from + 2, NO_TEXT) {
             End::At(to) => {
-                if to < from {
-                    return 0;
-                }
-                if words.len() < to {
-                    return 0;
-                }
                 at = line(words, from, to, out, at);
                 from = to;
             }
+            // Never, since the words are a solution.
             End::No(_) => {
-                return 0;
+                return at;
             }
         }
         left -= 1;
     }
     line(words, from, words.len(), out, at)
+}
+
+// The text of the solution that these words are judged to be, at the start of the output; answers its length. Where the words are no
+// solution, or the output has no room for all of the text, the output is cleared, and the answer is 0.
+pub fn solution(words: &[u32], out: &mut [u8]) -> usize
+    ensures { λ r. ⌜ record { count = r; out = now (out .exit) } ≡ shown (wordsText (now (words .entry))) (now (out .entry)) ⌝ }
+{
+    if fits(words, out.len()) {
+        return lines(words, out);
+    }
+    clear(out);
+    0
 }

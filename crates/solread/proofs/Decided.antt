@@ -1,37 +1,39 @@
 -- What a call of solution at the count 0 decides, and what it leaves in the output.
-use Prim.Native.Nat.{ℕ, _+_, _^_, _≤_}
+use Prim.Native.Nat.{ℕ, _+_, _*_, _≤_}
 use mathlib.Core.Bool.{Bool, true, false, false≢true}
 use mathlib.Core.Path.{_≡_, refl, sym, ap, _∙_}
 use mathlib.Core.List.{List}
 use native.Mathlib.Omega.{arith}
-use borrow.Author.Tests.{leb-true}
+use borrow.Author.Tests.{leb-true, ltb-false}
 use lib.Dec.{leb, ltb}
 use lib.ListN.{length, take, drop}
 use lib.Seq.{take-at}
 use Rattle.reading.specs.Limits.{maxNumber}
 use Rattle.reading.specs.Pick.{pick}
+use Rattle.reading.specs.Bytes.{just}
 use Rattle.reading.specs.Answer.{number, noRoom, numbersSpent, Res, ok, no, chain, Final, accepts, refuses, finish, accepted, refused, over, outputOf, saidOf}
 use Rattle.reading.proofs.Over.{over-length, over-fits}
-use Rattle.reading.proofs.Picks.{pick-holds}
 use Rattle.grammar.specs.Item.{wordsOf}
 use Rattle.grammar.specs.Expr.{Solution, solutionItems}
 use Rattle.grammar.specs.Operations.{makeSolution}
-use Rattle.grammar.specs.Shape.{BindersCoded}
 use Rattle.grammar.proofs.Post.{Post}
 use Rattle.grammar.proofs.Raise.{raise-zero}
+use Rattle.judge.specs.Judge.{judgeSolution}
 use Rattle.flatten.specs.Uncurry.{flattened}
 use Rattle.flatten.specs.Operations.{noText}
-use Rattle.flatten.proofs.ParamsCoded.{ParamsCoded, params-coded}
 use Rattle.session.specs.Session.{Term, aSolution, termItems, draftItems, termWords, report, make, roomFor, final, outcome}
-use Rattle.show.specs.Lines.{refusalText, solutionText, SolutionWords}
+use Rattle.show.specs.Lines.{refusalText, solutionText}
+use Rattle.show.specs.Shown.{textOf, wordsText}
+use Rattle.show.proofs.Params.{text-length}
 use Rattle.reader.specs.Calls.{solutionCall}
 use Rattle.solread.specs.Printed.{finalText}
+use Rattle.solread.proofs.Back.{SolutionBack, FlatBack, flat-back}
 
 -- A solution after flattening, whose words are read back and fit.
 pub record Fits (room : ℕ) (m : Term) : Type 0 where
   pub before : Solution
   pub is : m ≡ aSolution before
-  pub coded : BindersCoded (before .params) noText (2 ^ 64)
+  pub back : SolutionBack (flattened before)
   pub short : length (wordsOf (solutionItems (flattened before))) ≤ room
 
 -- A refusal, or such a solution.
@@ -52,24 +54,29 @@ module _ (text tree draft out : List ℕ) where
   -- What is decided.
   pub decided : Decided (length out) (final (solutionCall text tree draft out) 0)
   unfolding final make finish pick
-  decided = go (makeSolution text tree 0) (params-coded text tree)
+  decided = go (makeSolution text tree 0) (flat-back text tree)
     where
-      fits : (s : Solution) (n : ℕ) → BindersCoded (s .params) noText (2 ^ 64) → (b : Bool) → roomFor (solutionCall text tree draft out) (aSolution s) ≡ b → Decided (length out) (pick b (accepts (aSolution s) n) (refuses (number noRoom)))
-      fits s n p true e = record { before = s; is = refl; coded = p; short = room-there s e }
+      fits : (s : Solution) (n : ℕ) → SolutionBack (flattened s) → (b : Bool) → roomFor (solutionCall text tree draft out) (aSolution s) ≡ b → Decided (length out) (pick b (accepts (aSolution s) n) (refuses (number noRoom)))
+      fits s n p true e = record { before = s; is = refl; back = p; short = room-there s e }
       fits s n p false e = tt
 
-      go : (r : Res Solution) → Post r ParamsCoded → Decided (length out) (finish (roomFor (solutionCall text tree draft out)) 0 (chain r (λ s n. ok (aSolution s) n)))
-      go (no r) p = tt
-      go (ok s n) p =
-          pick-holds (ltb maxNumber (0 + n)) (refuses numbersSpent) (pick (roomFor (solutionCall text tree draft out) (aSolution s)) (accepts (aSolution s) n) (refuses (number noRoom))) (Decided (length out)) tt (fits s n p (roomFor (solutionCall text tree draft out) (aSolution s)) refl)
+      few : (s : Solution) (n : ℕ) → FlatBack s n → (b : Bool) → ltb maxNumber (0 + n) ≡ b → Decided (length out) (pick b (refuses numbersSpent) (pick (roomFor (solutionCall text tree draft out) (aSolution s)) (accepts (aSolution s) n) (refuses (number noRoom))))
+      few s n p true e = tt
+      few s n p false e =
+          fits s n (p (omega (arith, ltb-false maxNumber (0 + n) e))) (roomFor (solutionCall text tree draft out) (aSolution s)) refl
 
--- The solution that is printed, and that its words are the first of the output.
+      go : (r : Res Solution) → Post r FlatBack → Decided (length out) (finish (roomFor (solutionCall text tree draft out)) 0 (chain r (λ s n. ok (aSolution s) n)))
+      go (no r) p = tt
+      go (ok s n) p = few s n p (ltb maxNumber (0 + n)) refl
+
+-- The solution that is printed: the first words of the output have its text, and nine bytes are enough for each of them.
 pub record Answered (text : List ℕ) (room k : ℕ) (words : List ℕ) : Type 0 where
   pub solution : Solution
   pub is : text ≡ solutionText solution
   pub long : length words ≡ room
   pub inside : k ≤ room
-  pub tells : SolutionWords solution (take k words)
+  pub tells : wordsText (take k words) ≡ just (solutionText solution)
+  pub fits : length (solutionText solution) ≤ 9 * k
 
 -- Two answers that differ.
 no-accepted : {a b r : ℕ} → accepted a b ≡ refused r → ⊥
@@ -90,19 +97,21 @@ not-said s q = no-accepted (sym q)
 
 -- What is known where a call is accepted, or refused, by what it decides.
 when-accepted : (out words : List ℕ) (f : Final Term) → Decided (length out) f → (k j : ℕ) → accepted k j ≡ saidOf report f → words ≡ outputOf (termWords 0) f out → Answered (finalText f) (length out) k words
-unfolding saidOf outputOf finalText
+unfolding saidOf outputOf finalText wordsText
 when-accepted out words (refuses r) d k j e w = absurd (no-accepted e)
 when-accepted out words (accepts m n) d k j e w =
     let s : Solution = flattened (d .before) in
     let ws : List ℕ = wordsOf (solutionItems s) in
     let n′ : k ≡ length ws = words-said (d .before) (e ∙ ap report (d .is)) in
     let o : words ≡ over ws out = w ∙ rw (d .is, words-of (d .before)) refl in
+    let t : take k words ≡ ws = rw (o, n′, over-fits ws out (d .short)) (take-at ws (drop (length ws) out) (length ws) refl) in
     record {
       solution = s;
       is = rw (d .is) refl;
       long = ap length o ∙ over-length ws out;
       inside = omega (arith, d .short, n′);
-      tells = (d .coded, rw (o, n′, over-fits ws out (d .short)) (take-at ws (drop (length ws) out) (length ws) refl));
+      tells = ap (λ (l : List ℕ). textOf (judgeSolution noText l)) t ∙ ap textOf (d .back);
+      fits = omega (arith, text-length s, n′);
     }
 
 when-refused : (room : ℕ) (f : Final Term) → Decided room f → (r : ℕ) → refused r ≡ saidOf report f → finalText f ≡ refusalText r

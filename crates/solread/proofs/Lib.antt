@@ -1,3 +1,4 @@
+pub mod Back
 pub mod Decided
 pub mod Told
 pub mod Shown

@@ -1,11 +1,16 @@
-use mathlib.Core.Path.{sym, _∙_}
+use mathlib.Core.Path.{sym}
 use lib.Seq.{length-take-le}
 use Rattle.solread.specs.Printed.{slice}
-use Rattle.solread.proofs.Told.{told-accepted, told-refused}
+use Rattle.solread.proofs.Told.{Told}
 use Rattle.solread.proofs.Shown.{shown-long, shown-refused, shown-accepted, words-inside}
 use borrow.Author.Needs.{needs}
 use Rattle.solread.proofs.answer.Statement.{statement}
 use Rattle.solread.proofs.answer.Tie as tie
+
+-- What the call tells: the only place that reads the contract of the method.
+told : (c : tie.After-solution) → Told (c .before .before .before .before .before .before .before .before .args .text .now) (c .before .before .before .before .«open» .result .next) (c .solution .result .said) (c .solution .last .1 .1 .1 .1 .0)
+unfolding slice
+told c = record { new = c .before .before .before .before .«open» .ensures; says = c .solution .ensures .0; leaves = c .solution .ensures .1 .1 .1 .1 }
 
 refusal-requires : tie.Need-refusal-requires
 refusal-requires c κs = search needs
@@ -35,9 +40,7 @@ enum-known-said : tie.Need-enum-known-said
 enum-known-said c = search needs
 
 array-share-prefix-words : tie.Need-array-share-prefix-words
-unfolding slice
-array-share-prefix-words c =
-    words-inside (c .before .before .before .before .before .before .before .before .before .before .before .before .before .before .args .text .now) _ _ _ _ (c .before .before .before .before .before .before .before .before .before .before .«open» .ensures) (told-accepted _ (sym (c .before .said .given .1) ∙ c .before .before .before .before .before .before .solution .ensures .0)) (c .before .before .before .before .before .before .solution .ensures .1 .1 .1 .1)
+array-share-prefix-words c = words-inside (told (c .before .before .before .before .before .before)) (c .before .said .given .1)
 
 slice-aggregate-solution-4 : tie.Need-slice-aggregate-solution-4
 slice-aggregate-solution-4 c = sym (length-take-le _ _ (array-share-prefix-words (c .before)))
@@ -55,17 +58,13 @@ same-length-2 : tie.Need-same-length-2
 same-length-2 c = search needs
 
 returns-2 : tie.Need-returns-2
-unfolding slice
-returns-2 c =
-    shown-accepted (c .before .before .before .before .before .before .before .before .before .before .before .before .before .before .before .before .before .before .before .args .text .now) (c .before .before .before .before .before .before .before .before .before .before .before .before .before .before .before .before .before .before .before .args .out .now) (c .before .before .before .before .before .before .before .before .before .before .before .before .before .before .before .before .before .before .before .pre) _ _ _ _ (c .before .before .before .before .before .before .before .before .before .before .before .before .before .before .before .before .if1 .left) (c .before .before .before .before .before .before .before .before .before .before .before .before .before .before .before .«open» .ensures) (told-accepted _ (sym (c .before .before .before .before .before .before .said .given .1) ∙ c .before .before .before .before .before .before .before .before .before .before .before .solution .ensures .0)) (c .before .before .before .before .before .before .before .before .before .before .before .solution .ensures .1 .1 .1 .1) (c .before .before .solution2 .ensures)
+returns-2 c = shown-accepted (c .before .before .before .before .before .before .before .before .before .before .before .before .before .before .before .before .before .before .before .args .text .now) (c .before .before .before .before .before .before .before .before .before .before .before .before .before .before .before .before .before .before .before .args .out .now) (c .before .before .before .before .before .before .before .before .before .before .before .before .before .before .before .before .before .before .before .pre) (told (c .before .before .before .before .before .before .before .before .before .before .before)) (c .before .before .before .before .before .before .before .before .before .before .before .before .before .before .before .before .if1 .left) (c .before .before .before .before .before .before .said .given .1) (c .before .before .solution2 .ensures)
 
 same-length-3 : tie.Need-same-length-3
 same-length-3 c = search needs
 
 returns-3 : tie.Need-returns-3
-unfolding slice
-returns-3 c =
-    shown-refused (c .before .before .before .before .before .before .before .before .before .before .before .before .before .before .before .before .before .before .args .text .now) (c .before .before .before .before .before .before .before .before .before .before .before .before .before .before .before .before .before .before .args .out .now) (c .before .before .before .before .before .before .before .before .before .before .before .before .before .before .before .before .before .before .pre) _ _ (c .before .before .before .before .before .before .before .before .before .before .before .before .before .before .before .if1 .left) (c .before .before .before .before .before .before .before .before .before .before .before .before .before .before .«open» .ensures) (told-refused _ (sym (c .before .before .before .before .before .said2 .given .1) ∙ c .before .before .before .before .before .before .before .before .before .before .solution .ensures .0)) (c .before .before .refusal2 .ensures)
+returns-3 c = shown-refused (c .before .before .before .before .before .before .before .before .before .before .before .before .before .before .before .before .before .before .args .text .now) (c .before .before .before .before .before .before .before .before .before .before .before .before .before .before .before .before .before .before .args .out .now) (c .before .before .before .before .before .before .before .before .before .before .before .before .before .before .before .before .before .before .pre) (told (c .before .before .before .before .before .before .before .before .before .before)) (c .before .before .before .before .before .before .before .before .before .before .before .before .before .before .before .if1 .left) (c .before .before .before .before .before .said2 .given .1) (c .before .before .refusal2 .ensures)
 
 pub answer-spec : {M : Type 1} → statement M
 answer-spec =
