@@ -10,7 +10,7 @@ use Rattle.solread.proofs.answer.Tie as tie
 -- What the call tells: the only place that reads the contract of the method.
 told : (c : tie.After-solution) → Told (c .before .before .before .before .before .before .before .before .args .text .now) (c .before .before .before .before .«open» .result .next) (c .solution .result .said) (c .solution .last .1 .1 .1 .1 .0)
 unfolding slice
-told c = record { new = c .before .before .before .before .«open» .ensures; says = c .solution .ensures .0; leaves = c .solution .ensures .1 .1 .1 .1 }
+told c = record { new = c .before .before .before .before .«open» .ensures; says = c .solution .ensures .said; leaves = c .solution .ensures .output }
 
 refusal-requires : tie.Need-refusal-requires
 refusal-requires c κs = search needs
