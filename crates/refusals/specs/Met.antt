@@ -1,16 +1,18 @@
 -- For each refusal of each operation a call that meets it, with the shortest text that was found.
 use Prim.Native.Nat.{ℕ}
 use Prim.Native.String.{String}
+use mathlib.Core.Bool.{false}
 use mathlib.Core.Path.{_≡_, refl}
 use mathlib.Core.List.{List, [], _∷_, _++_, map}
 use lib.ListN.{replicate}
 use Rattle.reading.specs.Limits.{maxNumber}
+use Rattle.reading.specs.Pick.{pick}
 use Rattle.reading.specs.Bytes.{ascii}
 use Rattle.reading.specs.Answer.{Said, accepted, refused}
 use Rattle.flatten.specs.Operations.{flattenSaid}
 use Rattle.session.specs.Session.{Op, readOne, readAll, sort, expression, bind, solution, Call, outcome}
 use Rattle.session.specs.Compute.{readerComputes}
-use Rattle.refusals.specs.Refusals.{refusalsOf, ofFlatten, roomyCall}
+use Rattle.refusals.specs.Refusals.{isAmong, refusalsOf, ofFlatten, roomyCall}
 
 -- A call on a reader at a count.
 pub record Asked : Type 0 where
@@ -89,12 +91,26 @@ met-all expression = refl
 met-all bind = refl
 met-all solution = refl
 
+-- Numbers that stand in no list of theirs.
+pub not-among : (op : Op) → isAmong 14 (refusalsOf op) ≡ false
+unfolding isAmong pick
+not-among readOne = refl
+not-among readAll = refl
+not-among sort = refl
+not-among expression = refl
+not-among bind = refl
+not-among solution = refl
+
+pub not-among-flatten : isAmong 1 ofFlatten ≡ false
+unfolding isAmong pick
+not-among-flatten = refl
+
 -- Words to flatten, and the length of the output.
 pub record Flat : Type 0 where
   pub input : List ℕ
   pub out : ℕ
 
--- 129 times `not`; `true` without room; no words.
+-- 129 times `not`; `true` with one word of output; no words.
 abbrev pub flats : List Flat
 flats =
     record { input = replicate 129 44; out = 129 }
@@ -102,6 +118,7 @@ flats =
     ∷ record { input = []; out = 0 }
     ∷ []
 
+-- The refusals that they meet are all that flattening has.
 unfoldable pub metByFlatten : List ℕ
 unfolding readerComputes refusalIn
 metByFlatten = map (λ f. refusalIn (flattenSaid (f .input) (replicate (f .out) 0))) flats

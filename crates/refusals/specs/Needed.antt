@@ -1,6 +1,6 @@
 -- For each number of words a byte a text that needs more than half of it.
 use Prim.Native.Nat.{ℕ, _-_, _*_}
-use mathlib.Core.Bool.{Bool, true, false, not}
+use mathlib.Core.Bool.{Bool, true, false}
 use mathlib.Core.Path.{_≡_, refl}
 use mathlib.Core.List.{List}
 use lib.Dec.{eqb, ltb}
@@ -12,6 +12,7 @@ use Rattle.session.specs.Session.{Op, readOne, readAll, sort, expression, bind,
 use Rattle.session.specs.Compute.{readerComputes}
 use Rattle.refusals.specs.Refusals.{perByte, roomyCall}
 
+-- The slices that a call is lent.
 pub data Slice : Type 0 where
   tree draft out : Slice
 
@@ -21,17 +22,18 @@ perByteOf op tree = perByte op .tree
 perByteOf op draft = perByte op .draft
 perByteOf op out = perByte op .out
 
--- A call with so many words in one slice, whose other slices are roomy.
+-- A call with so many words in one slice; its other slices are kept.
 abbrev pub lending : Slice → ℕ → Call → Call
 lending tree n c = record { op = c .op; text = c .text; tree = replicate n 0; draft = c .draft; out = c .out }
 lending draft n c = record { op = c .op; text = c .text; tree = c .tree; draft = replicate n 0; out = c .out }
 lending out n c = record { op = c .op; text = c .text; tree = c .tree; draft = c .draft; out = replicate n 0 }
 
--- A call on a new reader is refused with 7.
+-- The refusal 7.
 unfoldable pub isSeven : Said → Bool
 isSeven (accepted a b) = false
 isSeven (refused r) = eqb r (number noRoom)
 
+-- A new reader refuses a text with 7 where one slice has so many words.
 unfoldable pub lacksRoom : Op → Slice → List ℕ → ℕ → Bool
 unfolding readerComputes isSeven
 lacksRoom op s text n = isSeven (outcome (lending s n (roomyCall op text)) 0 .said)
@@ -48,6 +50,7 @@ pub data Used (op : Op) (s : Slice) : Type 0 where
   unused : perByteOf op s ≡ 0 → Used op s
   needed : (text : List ℕ) (n : ℕ) → needs op s text n ≡ true → Used op s
 
+-- So it is for every operation and slice: the text, and the words that it needs.
 pub used : (op : Op) (s : Slice) → Used op s
 unfolding needs
 used readOne tree = unused refl

@@ -25,6 +25,7 @@ ofSort = 8 ∷ 12 ∷ []
 abbrev pub ofExpr : List ℕ
 ofExpr = 8 ∷ 9 ∷ 10 ∷ 11 ∷ 12 ∷ 13 ∷ []
 
+-- The refusals of an operation.
 abbrev pub refusalsOf : Op → List ℕ
 refusalsOf readOne = ofReading
 refusalsOf readAll = ofReading
@@ -37,12 +38,13 @@ refusalsOf solution = ofReading ++ ofExpr
 abbrev pub ofFlatten : List ℕ
 ofFlatten = 6 ∷ 7 ∷ 14 ∷ []
 
--- Words for each byte of the text.
+-- Words of the slices for each byte of the text.
 pub record PerByte : Type 0 where
   pub tree : ℕ
   pub draft : ℕ
   pub out : ℕ
 
+-- So many are enough for an operation.
 abbrev pub perByte : Op → PerByte
 perByte readOne = record { tree = 0; draft = 0; out = 5 }
 perByte readAll = record { tree = 0; draft = 0; out = 5 }
