@@ -12,12 +12,12 @@ use Rattle.judge.specs.Judge.{Judged, reads, fails, judgeSolution}
 use Rattle.flatten.specs.Operations.{noText}
 use Rattle.show.specs.Lines.{solutionText}
 
--- The text of what was read; what is refused has none.
+-- The text of what was judged: words that are refused have none.
 abbrev pub textOf : Judged Solution → Maybe (List ℕ)
 textOf (reads s n) = just (solutionText s)
 textOf (fails r) = nothing
 
--- The text of words: that of the solution that they are judged to be. No text is lent with them.
+-- The text of words is that of the solution that they are judged to be, where no text is lent for their spans.
 unfoldable pub wordsText : List ℕ → Maybe (List ℕ)
 wordsText words = textOf (judgeSolution noText words)
 
