@@ -8,4 +8,3 @@ pub mod Wrote
 pub mod WriteSteps
 pub mod FewOperands
 pub mod Decided
-pub mod ParamsCoded

@@ -1,15 +1,17 @@
 -- What the notions of fresh numbers rule out, a case each.
-use Prim.Native.Nat.{ℕ}
-use mathlib.Core.Path.{_≡_, refl}
+use Prim.Native.Nat.{ℕ, _+_, _≤_, _<_, _%_, _/_, _^_}
+use mathlib.Core.Path.{_≡_, refl, ap}
 use mathlib.Core.Logic.{⊎-elim}
 use mathlib.Core.Bool.{Bool, true, false}
 use mathlib.Core.List.{List, [], _∷_}
 use native.Mathlib.Omega.{arith}
 use lib.Dec.{ltb}
+use lib.ListN.{length, drop, getD}
 use borrow.Author.Tests.{eq-eqb, ltb-true, ltb-false}
+use Rattle.reading.specs.Limits.{maxNumber}
 use Rattle.reading.specs.Pick.{pick}
 use Rattle.grammar.specs.Sort.{sInt, sortWords}
-use Rattle.grammar.specs.Item.{raise, used, bound}
+use Rattle.grammar.specs.Item.{Item, plain, uses, binds, raise, wordsOf, used, bound}
 use Rattle.grammar.specs.Expr.{Expr, leaf, node, oneOf, econs, enil, exprs, Binder, binderItems, kindItems, kFresh, kBool, kAnd, kExists, Solution}
 use Rattle.grammar.specs.Numbers.{hit, times, Exactly}
 use Rattle.grammar.specs.Scoped.{Scoped, ScopedSolution}
@@ -43,18 +45,20 @@ pub no-parameter : (c : ℕ) → ScopedSolution c (record { params = []; body = 
 unfolding kindItems binderItems raise used bound
 no-parameter c h = h .0 .0
 
+-- A number stands once in front of a list that begins with it.
+once : (k : ℕ) → hit k k ≡ 1
+unfolding pick
+once k = rw (eq-eqb k k refl) refl
+
 -- A list with a number twice is not exact, from where to where it may be.
 pub bound-twice : (a b k : ℕ) (l : List ℕ) → Exactly a (k ∷ k ∷ l) b → ⊥
-unfolding times pick
+unfolding times
 bound-twice a b k l e = go (ltb k a) refl (ltb k b) refl
   where
-    one : hit k k ≡ 1
-    one = rw (eq-eqb k k refl) refl
-
     go : (s : Bool) → ltb k a ≡ s → (t : Bool) → ltb k b ≡ t → ⊥
-    go true p t q = omega (arith, one, e .below k (ltb-true k a p))
-    go false p true q = omega (arith, one, e .once k (ltb-false k a p) (ltb-true k b q))
-    go false p false q = omega (arith, one, e .above k (ltb-false k b q))
+    go true p t q = omega (arith, once k, e .below k (ltb-true k a p))
+    go false p true q = omega (arith, once k, e .once k (ltb-false k a p) (ltb-true k b q))
+    go false p false q = omega (arith, once k, e .above k (ltb-false k b q))
 
 -- Nor is one with a gap, with a number too small, or with too few.
 pub left-out : (b : ℕ) → Exactly 0 (0 ∷ 2 ∷ []) b → ⊥
@@ -67,3 +71,19 @@ too-small e = omega (arith, e .below 0 (omega arith))
 
 pub too-few : Exactly 0 (0 ∷ []) 2 → ⊥
 too-few e = omega (arith, e .size)
+
+-- Items whose numbers stay below n, and whose words are the same where their numbers are raised by c, bind none.
+pub unraised : (c n : ℕ) → 0 < c → c + n ≤ maxNumber → (its : List Item) → ((k : ℕ) → n ≤ k → times k (bound its) ≡ 0) → wordsOf (raise c its) ≡ wordsOf its → length (bound its) ≡ 0
+unfolding raise wordsOf bound times pick
+unraised c n h l [] a e = refl
+unraised c n h l (plain w ∷ its) a e = unraised c n h l its a (ap (drop 1) e)
+unraised c n h l (uses k ∷ its) a e = unraised c n h l its a (ap (drop 2) e)
+unraised c n h l (binds k ∷ its) a e = absurd (go (ltb k n) refl)
+  where
+    go : (b : Bool) → ltb k n ≡ b → ⊥
+    go true q =
+        let i : k < n = ltb-true k n q in
+        let low : (c + k) % 2 ^ 32 ≡ k % 2 ^ 32 = ap (λ (z : List ℕ). getD z 0 0) e in
+        let high : (c + k) / 2 ^ 32 % 2 ^ 32 ≡ k / 2 ^ 32 % 2 ^ 32 = ap (λ (z : List ℕ). getD z 1 0) e in
+        omega (arith, low, high, i)
+    go false q = omega (arith, once k, a k (ltb-false k n q))

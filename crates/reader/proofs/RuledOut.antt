@@ -1,21 +1,20 @@
 -- What demand 3 rules out of the replies of an old reader and a new one, a case each.
-use Prim.Native.Nat.{ℕ, _+_, _≤_, _<_, _%_, _/_, _^_}
+use Prim.Native.Nat.{ℕ, _+_, _≤_, _<_}
 use mathlib.Core.Path.{_≡_, refl, sym, ap, _∙_}
 use mathlib.Core.Logic.{_⊎_, inl, inr}
 use mathlib.Core.Bool.{Bool, true, false}
-use mathlib.Core.List.{List, [], _∷_, _++_}
+use mathlib.Core.List.{List, _++_}
 use native.Mathlib.Omega.{arith}
 use lib.Dec.{ltb}
-use lib.ListN.{length, take, drop, getD}
+use lib.ListN.{length, take, drop}
 use lib.Seq.{take-at}
-use borrow.Author.Tests.{eq-eqb, ltb-true, ltb-false}
+use borrow.Author.Tests.{ltb-true, ltb-false}
 use Rattle.reading.specs.Limits.{maxNumber}
-use Rattle.reading.specs.Pick.{pick}
 use Rattle.reading.specs.Answer.{number, noRoom, numbersSpent}
 use Rattle.reading.proofs.Over.{over-fits}
-use Rattle.grammar.specs.Item.{Item, plain, uses, binds, raise, wordsOf, bound}
-use Rattle.grammar.specs.Numbers.{hit, times}
+use Rattle.grammar.specs.Item.{bound}
 use Rattle.grammar.proofs.Raise.{words-raise}
+use Rattle.grammar.proofs.RuledOut.{unraised}
 use Rattle.session.specs.Session.{Call, Term, termItems, termWords}
 use Rattle.reader.specs.Sessions.{Reply}
 use Rattle.reader.specs.Demand3.{BothRefuse, BothAccept, Later, Alike, early, later}
@@ -25,22 +24,6 @@ use Rattle.reader.proofs.Saying.{refused-same, apart, not-refused}
 -- Lists of the same length in front of others that make the same list.
 heads-same : (xs ys r s : List ℕ) → length xs ≡ length ys → xs ++ r ≡ ys ++ s → xs ≡ ys
 heads-same xs ys r s l e = sym (take-at xs r (length xs) refl) ∙ ap (take (length xs)) e ∙ take-at ys s (length xs) (sym l)
-
--- Items whose numbers stay below n, and whose words are the same where their numbers are raised by c, bind none.
-unraised : (c n : ℕ) → 0 < c → c + n ≤ maxNumber → (its : List Item) → ((k : ℕ) → n ≤ k → times k (bound its) ≡ 0) → wordsOf (raise c its) ≡ wordsOf its → length (bound its) ≡ 0
-unfolding raise wordsOf bound times pick
-unraised c n h l [] a e = refl
-unraised c n h l (plain w ∷ its) a e = unraised c n h l its a (ap (drop 1) e)
-unraised c n h l (uses k ∷ its) a e = unraised c n h l its a (ap (drop 2) e)
-unraised c n h l (binds k ∷ its) a e = absurd (go (ltb k n) refl)
-  where
-    go : (b : Bool) → ltb k n ≡ b → ⊥
-    go true q =
-        let i : k < n = ltb-true k n q in
-        let low : (c + k) % 2 ^ 32 ≡ k % 2 ^ 32 = ap (λ (z : List ℕ). getD z 0 0) e in
-        let high : (c + k) / 2 ^ 32 % 2 ^ 32 ≡ k / 2 ^ 32 % 2 ^ 32 = ap (λ (z : List ℕ). getD z 1 0) e in
-        omega (arith, low, high, i)
-    go false q = let one : hit k k ≡ 1 = rw (eq-eqb k k refl) refl in omega (arith, one, a k (ltb-false k n q))
 
 module _ {old new : Call} {c : ℕ} {ro rn : Reply} where
   -- An old reader that refuses what a new one accepts says 13.
