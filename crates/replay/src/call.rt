@@ -1,5 +1,8 @@
 // One call of a reader.
+ghost use mathlib.Core.Path.{_≡_};
+ghost use Rattle.replay.specs.Recorded.{isClear};
 use crate::input::put_bytes;
+use crate::input::put_words;
 use crate::line::Line;
 use crate::slices::Reply;
 use crate::slices::fill;
@@ -12,29 +15,37 @@ pub struct Done {
     pub same: bool,
 }
 
-// The longest text and the longest slices that are recorded.
-const TEXT: usize = 32769;
+// No longer text and no longer slices are recorded.
+const TEXT: usize = 65536;
 
 const WORDS: usize = 120000;
 
 // The text is spelled out, then the call is made.
-pub fn text_line(data: &[u8], line: Line, reader: reader::Reader) -> Done {
+pub fn text_line(lines: &[u8], line: Line, reader: reader::Reader) -> Done {
     let mut text = [0u8; TEXT];
-    let n = put_bytes(data, line.input, &mut text);
+    let n = put_bytes(lines, line.input, &mut text);
     if TEXT < n {
         return Done {
             reader: reader,
             same: false,
         };
     }
-    lend(data, line, reader, &text[..n])
+    lend(lines, line, reader, &text[..n])
 }
 
-// Makes the slices. Reading takes no tree, and only a solution takes a draft.
-fn lend(data: &[u8], line: Line, reader: reader::Reader, text: &[u8]) -> Done {
+// Makes the slices, and spells out the words that are recorded. Reading takes no tree, and only a solution takes a draft.
+fn lend(lines: &[u8], line: Line, reader: reader::Reader, text: &[u8]) -> Done {
     let mut tree = [0u32; WORDS];
     let mut draft = [0u32; WORDS];
     let mut out = [0u32; WORDS];
+    let mut words = [0u32; WORDS];
+    let n = put_words(lines, line.words, &mut words);
+    if WORDS < n {
+        return Done {
+            reader: reader,
+            same: false,
+        };
+    }
     if WORDS < line.tree {
         return Done {
             reader: reader,
@@ -54,8 +65,8 @@ fn lend(data: &[u8], line: Line, reader: reader::Reader, text: &[u8]) -> Done {
         };
     }
     asked(
-        data,
         line,
+        &words[..n],
         reader,
         text,
         &mut tree[..line.tree],
@@ -66,8 +77,8 @@ fn lend(data: &[u8], line: Line, reader: reader::Reader, text: &[u8]) -> Done {
 
 // Fills the slices, makes the call, and compares.
 fn asked(
-    data: &[u8],
     line: Line,
+    words: &[u32],
     reader: reader::Reader,
     text: &[u8],
     tree: &mut [u32],
@@ -78,7 +89,7 @@ fn asked(
     fill(draft);
     fill(out);
     let answer = run(line.op, reader, text, tree, draft, out);
-    let same = is_recorded(data, line, reply(answer), out) && is_clear(line.op, tree, draft);
+    let same = is_recorded(line, words, reply(answer), out) && is_clear(line.op, tree, draft);
     let returned = answer.reader;
     Done {
         reader: returned,
@@ -87,11 +98,22 @@ fn asked(
 }
 
 // Whether the working slices that the operation was lent are zero.
-fn is_clear(op: u8, tree: &[u32], draft: &[u32]) -> bool {
-    if op == b'R' || op == b'A' {
+fn is_clear(op: u8, tree: &[u32], draft: &[u32]) -> bool
+    ensures { λ r. ⌜ r ≡ isClear op (now (tree .entry)) (now (draft .entry)) ⌝ }
+{
+    if op == b'R' {
         return true;
     }
-    is_zero(tree) && (op != b'L' || is_zero(draft))
+    if op == b'A' {
+        return true;
+    }
+    if !is_zero(tree) {
+        return false;
+    }
+    if op == b'L' {
+        return is_zero(draft);
+    }
+    true
 }
 
 fn run(

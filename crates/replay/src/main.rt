@@ -41,7 +41,7 @@ fn main() {
 }
 
 // All lines.
-fn replay(data: &[u8]) -> State {
+fn replay(lines: &[u8]) -> State {
     let mut at: usize = 0;
     let mut state = State {
         reader: reader::Reader::open(0),
@@ -51,9 +51,9 @@ fn replay(data: &[u8]) -> State {
         differing: 0,
         first: 0,
     };
-    while at < data.len() {
-        let line = line_at(data, at);
-        state = step(data, line, state);
+    while at < lines.len() {
+        let line = line_at(lines, at);
+        state = step(lines, line, state);
         if line.next <= at {
             break;
         }
@@ -63,17 +63,17 @@ fn replay(data: &[u8]) -> State {
 }
 
 // One line. Flattening takes no reader.
-fn step(data: &[u8], line: Line, state: State) -> State {
+fn step(lines: &[u8], line: Line, state: State) -> State {
     if line.op == b'F' {
-        return told(state, flatten_line(data, line));
+        return told(state, flatten_line(lines, line));
     }
     let reader = state.reader;
     if state.opened && reader.next == line.start {
-        return returned(state, text_line(data, line, reader), more(state.kept));
+        return returned(state, text_line(lines, line, reader), more(state.kept));
     }
     returned(
         state,
-        text_line(data, line, reader::Reader::open(line.start)),
+        text_line(lines, line, reader::Reader::open(line.start)),
         state.kept,
     )
 }
