@@ -13,10 +13,9 @@ use lib.Seq.{sets}
 use Rattle.reading.specs.Pick.{pick}
 use Rattle.reading.specs.Bytes.{sameBytes}
 use Rattle.reading.specs.Answer.{zeros, over}
-use Rattle.reading.proofs.Picks.{pick-lt, pick-ge}
 use Rattle.reading.proofs.Bytes.{same-more, same-differ, same-end}
 use Rattle.reading.proofs.Over.{over-length, over-more, over-fits}
-use Rattle.replay.specs.Recorded.{pattern, patterns, filled, isZero, isAnswer}
+use Rattle.replay.specs.Recorded.{pattern, patterns, filled, isAnswer}
 
 pub patterns-length : (i n : ℕ) → length (patterns i n) ≡ n
 unfolding patterns

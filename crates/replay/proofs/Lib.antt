@@ -3,3 +3,4 @@ pub mod Places
 pub mod Parts
 pub mod Storing
 pub mod Compared
+pub mod Calling

@@ -2,3 +2,5 @@ pub mod Numbers
 pub mod Fields
 pub mod Spelled
 pub mod Recorded
+pub mod Called
+pub mod Tally

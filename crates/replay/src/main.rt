@@ -1,5 +1,9 @@
 // Replays recorded answers from standard input, a call and its answer a line (line.rt), and says how many there were and how many differ.
 // A call is made on the reader that the last call returned if that one's count is where the line starts, and on a new one if not.
+ghost use mathlib.Core.Path.{_≡_};
+ghost use mathlib.Core.Bool.{true};
+ghost use Rattle.replay.specs.Tally.{more as moreOf, Told, Stepped};
+
 mod call;
 mod flat;
 mod input;
@@ -63,7 +67,9 @@ fn replay(lines: &[u8]) -> State {
 }
 
 // One line. Flattening takes no reader.
-fn step(lines: &[u8], line: Line, state: State) -> State {
+fn step(lines: &[u8], line: Line, state: State) -> State
+    ensures { λ r. ⌜ Stepped (now (lines .entry)) line state r ⌝ }
+{
     if line.op == b'F' {
         return told(state, flatten_line(lines, line));
     }
@@ -79,7 +85,9 @@ fn step(lines: &[u8], line: Line, state: State) -> State {
 }
 
 // One call of a reader more.
-fn returned(state: State, done: Done, kept: u64) -> State {
+fn returned(state: State, done: Done, kept: u64) -> State
+    ensures { λ r. ⌜ Told (record { reader = done .reader; opened = true; answers = state .answers; kept = kept; differing = state .differing; first = state .first }) (done .same) r ⌝ }
+{
     let reader = done.reader;
     let next = State {
         reader: reader,
@@ -93,7 +101,9 @@ fn returned(state: State, done: Done, kept: u64) -> State {
 }
 
 // One answer more, and whether it was the recorded one.
-fn told(state: State, same: bool) -> State {
+fn told(state: State, same: bool) -> State
+    ensures { λ r. ⌜ Told state same r ⌝ }
+{
     let mut next = state;
     next.answers = more(state.answers);
     if same {
@@ -106,7 +116,10 @@ fn told(state: State, same: bool) -> State {
     next
 }
 
-fn more(n: u64) -> u64 {
+// One more.
+fn more(n: u64) -> u64
+    ensures { λ r. ⌜ r ≡ moreOf n ⌝ }
+{
     if n < u64::MAX {
         return n + 1;
     }

@@ -119,8 +119,9 @@ fn is_output(line: Line, words: &[u32], out: &[u32]) -> bool
 pub fn is_recorded(line: Line, words: &[u32], reply: Reply, out: &[u32]) -> bool
     ensures { λ r. ⌜ r ≡ isRecorded line (now (words .entry)) reply (now (out .entry)) ⌝ }
 {
-    if !is_reply(line, reply) {
-        return false;
+    let same = is_output(line, words, out);
+    if is_reply(line, reply) {
+        return same;
     }
-    is_output(line, words, out)
+    false
 }

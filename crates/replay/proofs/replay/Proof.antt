@@ -3,11 +3,6 @@ use Prim.Native.Nat.{_-_}
 use native.Mathlib.Omega.{arith}
 use Rattle.replay.proofs.replay.Statement.{statement}
 use Rattle.replay.proofs.replay.Tie as tie
-use Rattle.replay.proofs.replay.Reads as reads
-use Rattle.replay.proofs.replay.Lts as lts
-use Rattle.reader.proofs.Reader.open.Reads as open-reads
-use Rattle.replay.proofs.line.line_at.Reads as line-at-reads
-use Rattle.replay.proofs.step.Reads as step-reads
 
 abbrev Inv-loop : tie.InvT-loop
 Inv-loop lines at₀ state₀ at state = Unit {0}
@@ -15,35 +10,27 @@ Inv-loop lines at₀ state₀ at state = Unit {0}
 abbrev μ-loop : tie.MeasureT-loop
 μ-loop lines at₀ state₀ at state = length lines - at
 
--- src/main.rt:47:17
 open-requires : tie.Need-open-requires Inv-loop μ-loop
 open-requires c κs = tt
 
--- src/main.rt:54:5
 loop-holds : tie.Need-loop-holds Inv-loop μ-loop
 loop-holds c = tt
 
--- src/main.rt:55:13
 line-at-requires : tie.Need-line-at-requires Inv-loop μ-loop
 line-at-requires c κs = tt
 
--- src/main.rt:56:9
 step-requires : tie.Need-step-requires Inv-loop μ-loop
 step-requires c κs = tt
 
--- src/main.rt:54:5
 loop-less : tie.Need-loop-less Inv-loop μ-loop
 loop-less c = omega arith
 
--- src/main.rt:54:5
 loop-again : tie.Need-loop-again Inv-loop μ-loop
 loop-again c = tt
 
--- src/main.rt:44:1
 returns : tie.Need-returns Inv-loop μ-loop
 returns c = tt
 
--- src/main.rt:44:1
 returns-2 : tie.Need-returns-2 Inv-loop μ-loop
 returns-2 c = tt
 

@@ -6,39 +6,29 @@ use Rattle.replay.proofs.Compared.{and-no, and-yes}
 use borrow.Author.Needs.{needs}
 use Rattle.replay.proofs.call.is_clear.Statement.{statement}
 use Rattle.replay.proofs.call.is_clear.Tie as tie
-use Rattle.replay.proofs.call.is_clear.Reads as reads
-use Rattle.replay.proofs.call.is_clear.Lts as lts
-use Rattle.replay.proofs.slices.is_zero.Reads as is-zero-reads
 
--- src/call.rt:105:9
 returns : tie.Need-returns
 unfolding isClear
 returns c = pick-eq _ (c .if1 .taken) refl
 
--- src/call.rt:108:9
 returns-2 : tie.Need-returns-2
 unfolding isClear
 returns-2 c = pick-ne _ (c .before .if1 .left) (pick-eq _ (c .if2 .taken) refl)
 
--- src/call.rt:110:9
 is-zero-requires : tie.Need-is-zero-requires
 is-zero-requires c κs = search needs
 
--- src/call.rt:111:9
 returns-3 : tie.Need-returns-3
 unfolding isClear
 returns-3 c = pick-ne _ (c .before .before .before .if1 .left) (pick-ne _ (c .before .before .if2 .left) (and-no _ (sym (c .before .is-zero .ensures) ∙ not-true _ (c .if3 .taken))))
 
--- src/call.rt:114:9
 is-zero-requires-2 : tie.Need-is-zero-requires-2
 is-zero-requires-2 c κs = search needs
 
--- src/call.rt:114:9
 returns-4 : tie.Need-returns-4
 unfolding isClear
 returns-4 c = pick-ne _ (c .before .before .before .before .before .if1 .left) (pick-ne _ (c .before .before .before .before .if2 .left) (and-yes (sym (c .before .before .before .is-zero .ensures) ∙ not-false _ (c .before .before .if3 .left)) (pick-eq _ (c .before .if4 .taken) (c .is-zero2 .ensures))))
 
--- src/call.rt:101:1
 returns-5 : tie.Need-returns-5
 unfolding isClear
 returns-5 c = pick-ne _ (c .before .before .before .before .if1 .left) (pick-ne _ (c .before .before .before .if2 .left) (and-yes (sym (c .before .before .is-zero .ensures) ∙ not-false _ (c .before .if3 .left)) (pick-ne _ (c .if4 .left) refl)))

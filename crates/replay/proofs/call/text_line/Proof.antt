@@ -1,40 +1,33 @@
+use native.Mathlib.Omega.{arith}
 use mathlib.Core.Path.{sym}
 use lib.Seq.{length-take-le}
+use Rattle.replay.proofs.Calling.{spelled-there, long-text, text-done}
 use borrow.Author.Needs.{needs}
 use Rattle.replay.proofs.call.text_line.Statement.{statement}
 use Rattle.replay.proofs.call.text_line.Tie as tie
-use Rattle.replay.proofs.call.text_line.Reads as reads
-use Rattle.replay.proofs.call.text_line.Lts as lts
-use Rattle.replay.proofs.call.lend.Reads as lend-reads
-use Rattle.replay.proofs.input.put_bytes.Reads as put-bytes-reads
 
--- src/call.rt:24:42
 slice-aggregate-put-bytes : tie.Need-slice-aggregate-put-bytes
 slice-aggregate-put-bytes c = search needs
 
--- src/call.rt:24:9
 put-bytes-requires : tie.Need-put-bytes-requires
 put-bytes-requires c κs = search needs
 
--- src/call.rt:26:9
 returns : tie.Need-returns
-returns c = search needs
+returns c = long-text (c .before .before .before .before .before .args .lines .now) (c .before .before .before .before .before .args .line) (c .before .before .before .before .before .args .reader .next) (c .before .before .put-bytes .ensures .0) (c .if1 .taken)
 
--- src/call.rt:31:31
 array-share-prefix-text : tie.Need-array-share-prefix-text
 array-share-prefix-text c = search needs
 
--- src/call.rt:31:31
 slice-aggregate-lend : tie.Need-slice-aggregate-lend
 slice-aggregate-lend c = sym (length-take-le _ _ (array-share-prefix-text (c .before)))
 
--- src/call.rt:31:5
 lend-requires : tie.Need-lend-requires
 lend-requires c κs = search needs
 
--- src/call.rt:22:1
 returns-2 : tie.Need-returns-2
-returns-2 c = search needs
+returns-2 c =
+    let p = c .before .before .before .before .put-bytes .ensures in
+    text-done (c .before .before .before .before .before .before .before .args .lines .now) (c .before .before .before .before .before .before .before .args .line) (c .before .before .before .before .before .before .before .args .reader .next) (p .0) (c .before .before .if1 .left) (spelled-there _ _ (p .0) (p .1) (array-share-prefix-text (c .before .before)) (omega (arith, c .before .before .if1 .left))) (c .lend .ensures)
 
 pub text-line-spec : {M : Type 1} → statement M
 text-line-spec =

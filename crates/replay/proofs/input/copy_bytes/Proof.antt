@@ -1,22 +1,14 @@
-use Prim.Native.Nat.{_+_, _-_, _*_, _≤_, min}
-use mathlib.Core.Path.{_≡_, refl, sym, ap, _∙_}
+use Prim.Native.Nat.{_+_, _-_, _*_, _≤_}
+use mathlib.Core.Path.{_≡_, ap, _∙_}
 use mathlib.Core.List.{[], _∷_}
 use native.Mathlib.Omega.{arith}
 use lib.ListN.{length, drop, getD}
 use Rattle.replay.specs.Numbers.{most, digit}
 use Rattle.replay.specs.Spelled.{bytesOnce}
-use Rattle.replay.proofs.Digits.{digit-zero}
-use Rattle.replay.proofs.Places.{byte-inside}
 use Rattle.replay.proofs.Parts.{once-end, once-high, once-low, once-more, low-inside}
 use Rattle.replay.proofs.Storing.{Left, left-all, left-more, left-none}
 use Rattle.replay.proofs.input.copy_bytes.Statement.{statement}
 use Rattle.replay.proofs.input.copy_bytes.Tie as tie
-use Rattle.replay.proofs.input.copy_bytes.Reads as reads
-use Rattle.replay.proofs.input.copy_bytes.Lts as lts
-use Rattle.replay.proofs.input.plus.Reads as plus-reads
-use Rattle.replay.proofs.input.put_byte.Reads as put-byte-reads
-use Rattle.replay.proofs.numbers.byte_at.Reads as byte-at-reads
-use Rattle.replay.proofs.numbers.digit.Reads as digit-reads
 
 abbrev Inv-loop : tie.InvT-loop
 Inv-loop lines at text₀ n i₀ len₀ text i len = (len ≤ most) × Left text₀ n (bytesOnce (drop at lines)) text len (bytesOnce (drop i lines))
@@ -24,84 +16,65 @@ Inv-loop lines at text₀ n i₀ len₀ text i len = (len ≤ most) × Left text
 abbrev μ-loop : tie.MeasureT-loop
 μ-loop lines at text₀ n i₀ len₀ text i len = length lines - i
 
--- src/input.rt:73:5
 loop-holds : tie.Need-loop-holds Inv-loop μ-loop
 loop-holds c = (omega arith, left-all _ _ _)
 
--- src/input.rt:74:26
 shared-slice-read-digit : tie.Need-shared-slice-read-digit Inv-loop μ-loop
 shared-slice-read-digit c = omega arith
 
--- src/input.rt:74:13
 digit-requires : tie.Need-digit-requires Inv-loop μ-loop
 digit-requires c κs = tt
 
--- src/input.rt:76:13
 same-length : tie.Need-same-length Inv-loop μ-loop
 same-length c = c .before .before .before .before .loop .inv .1 .kept
 
--- src/input.rt:76:13
 returns : tie.Need-returns Inv-loop μ-loop
 returns c = left-none (c .before .before .before .before .loop .inv .1) (once-high (c .before .before .before .before .before .before .before .args .lines .now) (c .before .before .before .before .loop .i) (c .before .before .before .loop-test .taken) (omega (arith, c .before .digit .ensures, c .if1 .taken))) (c .before .before .before .before .loop .inv .0)
 
--- src/input.rt:78:40
 add-byte-at : tie.Need-add-byte-at Inv-loop μ-loop
 add-byte-at c = omega arith
 
--- src/input.rt:78:25
 byte-at-requires : tie.Need-byte-at-requires Inv-loop μ-loop
 byte-at-requires c κs = tt
 
--- src/input.rt:78:13
 digit-requires-2 : tie.Need-digit-requires-2 Inv-loop μ-loop
 digit-requires-2 c κs = tt
 
--- src/input.rt:80:13
 same-length-2 : tie.Need-same-length-2 Inv-loop μ-loop
 same-length-2 c = c .before .before .before .before .before .before .before .loop .inv .1 .kept
 
--- src/input.rt:80:13
 returns-2 : tie.Need-returns-2 Inv-loop μ-loop
 returns-2 c =
     let e : c .before .digit2 .result ≡ digit (getD (c .before .before .before .before .before .before .before .before .before .before .args .lines .now) (c .before .before .before .before .before .before .before .loop .i + 1) 0) = c .before .digit2 .ensures ∙ ap digit (c .before .before .byte-at .ensures) in
     left-none (c .before .before .before .before .before .before .before .loop .inv .1) (once-low (c .before .before .before .before .before .before .before .before .before .before .args .lines .now) (c .before .before .before .before .before .before .before .loop .i) (c .before .before .before .before .before .before .loop-test .taken) (omega (arith, e, c .if2 .taken))) (c .before .before .before .before .before .before .before .loop .inv .0)
 
--- src/input.rt:82:29
 mul-put-byte : tie.Need-mul-put-byte Inv-loop μ-loop
 mul-put-byte c = omega arith
 
--- src/input.rt:82:29
 add-put-byte : tie.Need-add-put-byte Inv-loop μ-loop
 add-put-byte c = omega arith
 
--- src/input.rt:82:9
 put-byte-requires : tie.Need-put-byte-requires Inv-loop μ-loop
 put-byte-requires c κs = omega arith
 
--- src/input.rt:83:9
 plus-requires : tie.Need-plus-requires Inv-loop μ-loop
 plus-requires c κs = tt
 
--- src/input.rt:84:9
 add-i : tie.Need-add-i Inv-loop μ-loop
 add-i c = omega (arith, low-inside (c .before .before .before .before .before .before .before .before .before .before .before .before .before .before .before .args .lines .now) (c .before .before .before .before .before .before .before .before .before .before .before .before .loop .i + 1) (c .before .before .before .before .before .before .digit2 .ensures ∙ ap digit (c .before .before .before .before .before .before .before .byte-at .ensures)) (omega arith))
 
--- src/input.rt:73:5
 loop-less : tie.Need-loop-less Inv-loop μ-loop
 loop-less c = omega arith
 
--- src/input.rt:73:5
 loop-again : tie.Need-loop-again Inv-loop μ-loop
 loop-again c =
     let l = c .before .before .before .before .before .before .before .before .before .before .before .before .before .before .before .args .lines .now in
     let i = c .before .before .before .before .before .before .before .before .before .before .before .before .loop .i in
     (omega (arith, c .plus .ensures), left-more (c .before .before .before .before .before .before .before .before .before .before .before .before .loop .inv .1) ((16 * c .before .before .before .before .before .before .before .before .before .digit .result + c .before .before .before .before .before .before .digit2 .result) ∷ []) (bytesOnce (drop (i + 2) l)) (once-more l i (c .before .before .before .before .before .before .before .before .before .before .before .loop-test .taken) (c .before .before .before .before .before .before .before .before .before .digit .result) (c .before .before .before .before .before .before .digit2 .result) (c .before .before .before .before .before .before .before .before .before .digit .ensures) (c .before .before .before .before .before .before .digit2 .ensures ∙ ap digit (c .before .before .before .before .before .before .before .byte-at .ensures)) (omega arith) (omega arith)) (omega arith) (c .before .before .before .put-byte .ensures) (c .plus .ensures))
 
--- src/input.rt:68:1
 same-length-3 : tie.Need-same-length-3 Inv-loop μ-loop
 same-length-3 c = c .before .loop .inv .1 .kept
 
--- src/input.rt:68:1
 returns-3 : tie.Need-returns-3 Inv-loop μ-loop
 returns-3 c = left-none (c .before .loop .inv .1) (once-end (c .before .before .before .before .args .lines .now) (c .before .loop .i) (c .loop-test .left)) (c .before .loop .inv .0)
 

@@ -3,26 +3,19 @@ use lib.Seq.{set-out}
 use borrow.Author.Needs.{needs}
 use Rattle.replay.proofs.input.put_byte.Statement.{statement}
 use Rattle.replay.proofs.input.put_byte.Tie as tie
-use Rattle.replay.proofs.input.put_byte.Reads as reads
-use Rattle.replay.proofs.input.put_byte.Lts as lts
 
--- src/input.rt:95:20
 cast-text : tie.Need-cast-text
 cast-text c = search needs
 
--- src/input.rt:95:9
 slice-write-text : tie.Need-slice-write-text
 slice-write-text c = search needs
 
--- src/input.rt:90:1
 same-length : tie.Need-same-length
 same-length c = search needs
 
--- src/input.rt:90:1
 returns : tie.Need-returns
 returns c = search needs
 
--- src/input.rt:90:1
 returns-2 : tie.Need-returns-2
 returns-2 c = sym (set-out _ _ _ (c .if1 .left))
 

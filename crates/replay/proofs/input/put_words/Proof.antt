@@ -1,22 +1,16 @@
-use Prim.Native.Nat.{_+_, _-_, _*_, _≤_, min}
-use mathlib.Core.Path.{_≡_, refl, sym, ap, _∙_}
-use mathlib.Core.List.{[], _∷_}
+use Prim.Native.Nat.{_+_, _-_, _≤_}
+use mathlib.Core.Path.{refl, sym, ap, _∙_}
+use mathlib.Core.List.{[]}
 use native.Mathlib.Omega.{arith}
-use lib.ListN.{length, drop, getD}
+use lib.ListN.{length, drop}
 use Rattle.replay.specs.Numbers.{most}
 use Rattle.replay.specs.Fields.{ends}
-use Rattle.replay.specs.Spelled.{wordsIn, wordOnce, spelled, again, times, partsBehind}
+use Rattle.replay.specs.Spelled.{wordsIn, wordOnce, again, times}
 use Rattle.replay.proofs.Places.{ends-inside}
 use Rattle.replay.proofs.Parts.{spelled-more, spelled-last}
 use Rattle.replay.proofs.Storing.{Left, left-all, left-more, left-none, stored-over}
 use Rattle.replay.proofs.input.put_words.Statement.{statement}
 use Rattle.replay.proofs.input.put_words.Tie as tie
-use Rattle.replay.proofs.input.put_words.Reads as reads
-use Rattle.replay.proofs.input.put_words.Lts as lts
-use Rattle.replay.proofs.input.put_part.Reads as put-part-reads
-use Rattle.replay.proofs.numbers.byte_at.Reads as byte-at-reads
-use Rattle.replay.proofs.numbers.end_from.Reads as end-from-reads
-use Rattle.replay.proofs.numbers.ends.Reads as ends-reads
 
 abbrev Inv-loop : tie.InvT-loop
 Inv-loop lines at words₀ i₀ n₀ words i n = (n ≤ most) × Left words₀ 0 (wordsIn (drop at lines)) words n (wordsIn (drop i lines))
@@ -24,45 +18,35 @@ Inv-loop lines at words₀ i₀ n₀ words i n = (n ≤ most) × Left words₀ 0
 abbrev μ-loop : tie.MeasureT-loop
 μ-loop lines at words₀ i₀ n₀ words i n = length lines - i
 
--- src/input.rt:105:5
 loop-holds : tie.Need-loop-holds Inv-loop μ-loop
 loop-holds c = (omega arith, left-all _ _ _)
 
--- src/input.rt:106:9
 put-part-requires : tie.Need-put-part-requires Inv-loop μ-loop
 put-part-requires c κs = tt
 
--- src/input.rt:107:13
 end-from-requires : tie.Need-end-from-requires Inv-loop μ-loop
 end-from-requires c κs = tt
 
--- src/input.rt:108:17
 byte-at-requires : tie.Need-byte-at-requires Inv-loop μ-loop
 byte-at-requires c κs = tt
 
--- src/input.rt:108:12
 ends-requires : tie.Need-ends-requires Inv-loop μ-loop
 ends-requires c κs = tt
 
--- src/input.rt:109:13
 same-length : tie.Need-same-length Inv-loop μ-loop
 unfolding wordsIn
 same-length c = (left-more (c .before .before .before .before .before .before .before .before .loop .inv .1) (again (times (drop (c .before .before .before .before .before .before .before .before .loop .i) (c .before .before .before .before .before .before .before .before .before .before .before .args .lines .now))) (wordOnce (drop (c .before .before .before .before .before .before .before .before .loop .i) (c .before .before .before .before .before .before .before .before .before .before .before .args .lines .now)))) [] (spelled-last wordOnce (c .before .before .before .before .before .before .before .before .before .before .before .args .lines .now) (c .before .before .before .before .before .before .before .before .loop .i) (c .before .before .before .end-from .ensures) (λ z. c .if1 .taken (c .before .ends .ensures ∙ ap ends (c .before .before .byte-at .ensures) ∙ z))) (omega arith) (c .before .before .before .before .before .before .put-part .ensures .1) (c .before .before .before .before .before .before .put-part .ensures .0)) .kept
 
--- src/input.rt:109:13
 returns : tie.Need-returns Inv-loop μ-loop
 unfolding wordsIn
 returns c = stored-over (wordsIn (drop (c .before .before .before .before .before .before .before .before .before .before .before .args .at) (c .before .before .before .before .before .before .before .before .before .before .before .args .lines .now))) (c .before .before .before .before .before .before .before .before .before .before .before .args .words .now) (left-none (left-more (c .before .before .before .before .before .before .before .before .loop .inv .1) (again (times (drop (c .before .before .before .before .before .before .before .before .loop .i) (c .before .before .before .before .before .before .before .before .before .before .before .args .lines .now))) (wordOnce (drop (c .before .before .before .before .before .before .before .before .loop .i) (c .before .before .before .before .before .before .before .before .before .before .before .args .lines .now)))) [] (spelled-last wordOnce (c .before .before .before .before .before .before .before .before .before .before .before .args .lines .now) (c .before .before .before .before .before .before .before .before .loop .i) (c .before .before .before .end-from .ensures) (λ z. c .if1 .taken (c .before .ends .ensures ∙ ap ends (c .before .before .byte-at .ensures) ∙ z))) (omega arith) (c .before .before .before .before .before .before .put-part .ensures .1) (c .before .before .before .before .before .before .put-part .ensures .0)) refl (omega (arith, c .before .before .before .before .before .before .put-part .ensures .0)))
 
--- src/input.rt:111:13
 add-i : tie.Need-add-i Inv-loop μ-loop
 add-i c = omega (arith, ends-inside (c .before .before .before .before .before .before .before .before .before .before .before .args .lines .now) (c .before .before .before .end-from .result) (sym (c .before .ends .ensures ∙ ap ends (c .before .before .byte-at .ensures)) ∙ c .if1 .left))
 
--- src/input.rt:105:5
 loop-less : tie.Need-loop-less Inv-loop μ-loop
 loop-less c = omega (arith, c .before .before .before .end-from .ensures, ends-inside (c .before .before .before .before .before .before .before .before .before .before .before .args .lines .now) (c .before .before .before .end-from .result) (sym (c .before .ends .ensures ∙ ap ends (c .before .before .byte-at .ensures)) ∙ c .if1 .left))
 
--- src/input.rt:105:5
 loop-again : tie.Need-loop-again Inv-loop μ-loop
 unfolding wordsIn
 loop-again c =

@@ -1,15 +1,12 @@
-use Prim.Native.Nat.{_+_, _-_, _*_, _≤_, min}
-use mathlib.Core.Path.{_≡_, refl, sym, ap, _∙_}
+use Prim.Native.Nat.{_+_, _-_, _≤_}
+use mathlib.Core.Path.{_≡_}
 use native.Mathlib.Omega.{arith}
-use lib.ListN.{length, drop}
+use lib.ListN.{drop}
 use Rattle.replay.specs.Numbers.{most}
 use Rattle.replay.specs.Spelled.{bytesOnce, again}
 use Rattle.replay.proofs.Storing.{Left, left-all, left-more, left-none, again-next, again-none}
 use Rattle.replay.proofs.input.repeat_bytes.Statement.{statement}
 use Rattle.replay.proofs.input.repeat_bytes.Tie as tie
-use Rattle.replay.proofs.input.repeat_bytes.Reads as reads
-use Rattle.replay.proofs.input.repeat_bytes.Lts as lts
-use Rattle.replay.proofs.input.copy_bytes.Reads as copy-bytes-reads
 
 abbrev Inv-loop : tie.InvT-loop
 Inv-loop lines at times text₀ n len₀ k₀ text len k = (len ≤ most) × Left text₀ n (again times (bytesOnce (drop at lines))) text len (again (times - k) (bytesOnce (drop at lines)))
@@ -17,36 +14,29 @@ Inv-loop lines at times text₀ n len₀ k₀ text len k = (len ≤ most) × Lef
 abbrev μ-loop : tie.MeasureT-loop
 μ-loop lines at times text₀ n len₀ k₀ text len k = times - k
 
--- src/input.rt:60:5
 loop-holds : tie.Need-loop-holds Inv-loop μ-loop
 loop-holds c =
     let z : c .before .before .args .times - 0 ≡ c .before .before .args .times = omega arith in
     (omega arith, rw z (left-all _ _ _))
 
--- src/input.rt:61:9
 copy-bytes-requires : tie.Need-copy-bytes-requires Inv-loop μ-loop
 copy-bytes-requires c κs = tt
 
--- src/input.rt:62:9
 add-k : tie.Need-add-k Inv-loop μ-loop
 add-k c = omega arith
 
--- src/input.rt:60:5
 loop-less : tie.Need-loop-less Inv-loop μ-loop
 loop-less c = omega arith
 
--- src/input.rt:60:5
 loop-again : tie.Need-loop-again Inv-loop μ-loop
 loop-again c =
     let b = bytesOnce (drop (c .before .before .before .before .before .before .before .before .args .at) (c .before .before .before .before .before .before .before .before .args .lines .now)) in
     let t = c .before .before .before .before .before .before .before .before .args .times in
     (omega (arith, c .before .before .copy-bytes .ensures .0), left-more (c .before .before .before .before .before .loop .inv .1) b (again (t - (c .before .before .before .before .before .loop .k + 1)) b) (again-next b (t - c .before .before .before .before .before .loop .k) (t - (c .before .before .before .before .before .loop .k + 1)) (omega arith)) (omega arith) (c .before .before .copy-bytes .ensures .1) (c .before .before .copy-bytes .ensures .0))
 
--- src/input.rt:55:1
 same-length : tie.Need-same-length Inv-loop μ-loop
 same-length c = c .before .loop .inv .1 .kept
 
--- src/input.rt:55:1
 returns : tie.Need-returns Inv-loop μ-loop
 returns c = left-none (c .before .loop .inv .1) (again-none _ (c .before .before .before .before .args .times - c .before .loop .k) (omega arith)) (c .before .loop .inv .0)
 

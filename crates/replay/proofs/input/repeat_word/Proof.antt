@@ -1,17 +1,13 @@
 use Prim.Native.Nat.{_+_, _-_, _≤_, min}
 use borrow.Author.Needs.{needs}
-use mathlib.Core.Path.{_≡_, refl, sym, ap, _∙_}
+use mathlib.Core.Path.{_≡_}
 use mathlib.Core.List.{[], _∷_}
 use native.Mathlib.Omega.{arith}
-use lib.ListN.{length}
 use Rattle.replay.specs.Numbers.{most}
 use Rattle.replay.specs.Spelled.{again}
 use Rattle.replay.proofs.Storing.{Left, left-all, word-more, word-end, word-last}
 use Rattle.replay.proofs.input.repeat_word.Statement.{statement}
 use Rattle.replay.proofs.input.repeat_word.Tie as tie
-use Rattle.replay.proofs.input.repeat_word.Reads as reads
-use Rattle.replay.proofs.input.repeat_word.Lts as lts
-use Rattle.replay.proofs.input.plus.Reads as plus-reads
 
 abbrev Inv-loop : tie.InvT-loop
 Inv-loop word times words₀ n end i₀ words i = (n ≤ i) × (end ≡ min most (n + times)) × Left words₀ n (again times (word ∷ [])) words i (again (n + times - i) (word ∷ []))
@@ -19,52 +15,41 @@ Inv-loop word times words₀ n end i₀ words i = (n ≤ i) × (end ≡ min most
 abbrev μ-loop : tie.MeasureT-loop
 μ-loop word times words₀ n end i₀ words i = end - i
 
--- src/input.rt:129:9
 plus-requires : tie.Need-plus-requires Inv-loop μ-loop
 plus-requires c κs = tt
 
--- src/input.rt:131:5
 loop-holds : tie.Need-loop-holds Inv-loop μ-loop
 loop-holds c =
     let a = c .before .before .args in
     let z : a .n + a .times - a .n ≡ a .times = omega arith in
     (omega arith, c .plus .ensures, rw z (left-all _ _ _))
 
--- src/input.rt:133:13
 same-length : tie.Need-same-length Inv-loop μ-loop
 same-length c = c .before .before .loop .inv .2 .kept
 
--- src/input.rt:133:13
 returns : tie.Need-returns Inv-loop μ-loop
 returns c = word-end (c .before .before .before .before .before .args .n) (c .before .before .before .before .before .args .times) (c .before .before .before .before .before .args .word) (c .before .before .loop .inv .2) (c .before .before .loop .inv .1) (c .if1 .taken)
 
--- src/input.rt:135:9
 mul-words : tie.Need-mul-words Inv-loop μ-loop
 mul-words c = search needs
 
--- src/input.rt:135:9
 slice-write-words : tie.Need-slice-write-words Inv-loop μ-loop
 slice-write-words c = omega arith
 
--- src/input.rt:136:9
 add-i : tie.Need-add-i Inv-loop μ-loop
 add-i c = omega arith
 
--- src/input.rt:131:5
 loop-less : tie.Need-loop-less Inv-loop μ-loop
 loop-less c = omega arith
 
--- src/input.rt:131:5
 loop-again : tie.Need-loop-again Inv-loop μ-loop
 loop-again c =
     let v = c .before .before .loop .inv in
     (omega arith, v .1, word-more (c .before .before .before .before .before .args .n) (c .before .before .before .before .before .args .times) (c .before .before .before .before .before .args .word) (v .2) (omega arith) (c .if1 .left) (omega arith))
 
--- src/input.rt:126:1
 same-length-2 : tie.Need-same-length-2 Inv-loop μ-loop
 same-length-2 c = c .before .loop .inv .2 .kept
 
--- src/input.rt:126:1
 returns-2 : tie.Need-returns-2 Inv-loop μ-loop
 returns-2 c = word-last (c .before .before .before .before .args .n) (c .before .before .before .before .args .times) (c .before .before .before .before .args .word) (c .before .loop .inv .2) (c .before .loop .inv .1) (omega arith) (c .loop-test .left)
 

@@ -1,37 +1,26 @@
-use mathlib.Core.Path.{_≡_, refl, sym, ap, _∙_}
+use mathlib.Core.Path.{sym, _∙_}
 use native.Mathlib.Omega.{arith}
 use Rattle.replay.proofs.Places.{byte-inside}
 use Rattle.replay.proofs.Parts.{times-star, times-once}
 use borrow.Author.Needs.{needs}
 use Rattle.replay.proofs.input.times.Statement.{statement}
 use Rattle.replay.proofs.input.times.Tie as tie
-use Rattle.replay.proofs.input.times.Reads as reads
-use Rattle.replay.proofs.input.times.Lts as lts
-use Rattle.replay.proofs.numbers.byte_at.Reads as byte-at-reads
-use Rattle.replay.proofs.numbers.decimal.Reads as decimal-reads
-use Rattle.replay.proofs.numbers.end_from.Reads as end-from-reads
 
--- src/input.rt:31:9
 end-from-requires : tie.Need-end-from-requires
 end-from-requires c κs = search needs
 
--- src/input.rt:32:8
 byte-at-requires : tie.Need-byte-at-requires
 byte-at-requires c κs = search needs
 
--- src/input.rt:33:31
 add-decimal : tie.Need-add-decimal
 add-decimal c = omega (arith, byte-inside (c .before .before .before .before .args .lines .now) (c .before .before .end-from .result) (sym (c .before .byte-at .ensures) ∙ c .if1 .taken) (λ z. omega arith))
 
--- src/input.rt:33:16
 decimal-requires : tie.Need-decimal-requires
 decimal-requires c κs = search needs
 
--- src/input.rt:33:9
 returns : tie.Need-returns
 returns c = c .decimal .ensures ∙ times-star (c .before .before .before .before .before .args .lines .now) (c .before .before .before .before .before .args .at) (c .before .before .before .end-from .ensures) (sym (c .before .before .byte-at .ensures) ∙ c .before .if1 .taken)
 
--- src/input.rt:28:1
 returns-2 : tie.Need-returns-2
 returns-2 c = times-once (c .before .before .before .before .args .lines .now) (c .before .before .before .before .args .at) (c .before .before .end-from .ensures) (λ z. c .if1 .left (c .before .byte-at .ensures ∙ z))
 

@@ -1,100 +1,72 @@
-use mathlib.Core.Path.{_≡_, refl}
-use Rattle.replay.specs.Fields.{lineAt, field, numberIn}
+use Rattle.replay.specs.Fields.{lineAt}
 use Rattle.replay.proofs.Places.{field-next, number-in, field-first, line-equal}
 use borrow.Author.Needs.{needs}
 use Rattle.replay.proofs.line.line_at.Statement.{statement}
 use Rattle.replay.proofs.line.line_at.Tie as tie
-use Rattle.replay.proofs.line.line_at.Reads as reads
-use Rattle.replay.proofs.line.line_at.Lts as lts
-use Rattle.replay.proofs.numbers.byte_at.Reads as byte-at-reads
-use Rattle.replay.proofs.numbers.decimal.Reads as decimal-reads
-use Rattle.replay.proofs.numbers.next_field.Reads as next-field-reads
 
--- src/line.rt:30:9
 next-field-requires : tie.Need-next-field-requires
 next-field-requires c κs = search needs
 
--- src/line.rt:31:9
 next-field-requires-2 : tie.Need-next-field-requires-2
 next-field-requires-2 c κs = search needs
 
--- src/line.rt:32:9
 next-field-requires-3 : tie.Need-next-field-requires-3
 next-field-requires-3 c κs = search needs
 
--- src/line.rt:33:9
 next-field-requires-4 : tie.Need-next-field-requires-4
 next-field-requires-4 c κs = search needs
 
--- src/line.rt:34:9
 next-field-requires-5 : tie.Need-next-field-requires-5
 next-field-requires-5 c κs = search needs
 
--- src/line.rt:35:37
 next-field-requires-6 : tie.Need-next-field-requires-6
 next-field-requires-6 c κs = search needs
 
--- src/line.rt:35:9
 next-field-requires-7 : tie.Need-next-field-requires-7
 next-field-requires-7 c κs = search needs
 
--- src/line.rt:36:9
 next-field-requires-8 : tie.Need-next-field-requires-8
 next-field-requires-8 c κs = search needs
 
--- src/line.rt:37:9
 next-field-requires-9 : tie.Need-next-field-requires-9
 next-field-requires-9 c κs = search needs
 
--- src/line.rt:38:9
 next-field-requires-10 : tie.Need-next-field-requires-10
 next-field-requires-10 c κs = search needs
 
--- src/line.rt:39:9
 next-field-requires-11 : tie.Need-next-field-requires-11
 next-field-requires-11 c κs = search needs
 
--- src/line.rt:41:13
 byte-at-requires : tie.Need-byte-at-requires
 byte-at-requires c κs = search needs
 
--- src/line.rt:42:16
 decimal-requires : tie.Need-decimal-requires
 decimal-requires c κs = search needs
 
--- src/line.rt:43:15
 decimal-requires-2 : tie.Need-decimal-requires-2
 decimal-requires-2 c κs = search needs
 
--- src/line.rt:44:16
 decimal-requires-3 : tie.Need-decimal-requires-3
 decimal-requires-3 c κs = search needs
 
--- src/line.rt:45:14
 decimal-requires-4 : tie.Need-decimal-requires-4
 decimal-requires-4 c κs = search needs
 
--- src/line.rt:47:18
 decimal-requires-5 : tie.Need-decimal-requires-5
 decimal-requires-5 c κs = search needs
 
--- src/line.rt:48:12
 decimal-requires-6 : tie.Need-decimal-requires-6
 decimal-requires-6 c κs = search needs
 
--- src/line.rt:49:12
 decimal-requires-7 : tie.Need-decimal-requires-7
 decimal-requires-7 c κs = search needs
 
--- src/line.rt:50:16
 decimal-requires-8 : tie.Need-decimal-requires-8
 decimal-requires-8 c κs = search needs
 
--- src/line.rt:52:15
 next-field-requires-12 : tie.Need-next-field-requires-12
 next-field-requires-12 c κs = search needs
 
--- src/line.rt:27:1
 returns : tie.Need-returns
 unfolding lineAt
 returns c =

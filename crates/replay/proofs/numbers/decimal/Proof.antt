@@ -1,4 +1,4 @@
-use Prim.Native.Nat.{_+_, _-_, _*_, _≤_}
+use Prim.Native.Nat.{_-_, _≤_}
 use mathlib.Core.Path.{_≡_, refl}
 use native.Mathlib.Omega.{arith}
 use lib.ListN.{length, drop, getD}
@@ -6,9 +6,6 @@ use Rattle.replay.specs.Numbers.{numberFrom, most, decimal}
 use Rattle.replay.proofs.Digits.{digit-small, number-end, number-stop, number-next, number-over}
 use Rattle.replay.proofs.numbers.decimal.Statement.{statement}
 use Rattle.replay.proofs.numbers.decimal.Tie as tie
-use Rattle.replay.proofs.numbers.decimal.Reads as reads
-use Rattle.replay.proofs.numbers.decimal.Lts as lts
-use Rattle.replay.proofs.numbers.digit.Reads as digit-reads
 
 abbrev Inv-loop : tie.InvT-loop
 Inv-loop lines at value₀ i₀ value i = (value ≤ most) × (numberFrom 10 0 (drop at lines) ≡ numberFrom 10 value (drop i lines))
@@ -16,23 +13,18 @@ Inv-loop lines at value₀ i₀ value i = (value ≤ most) × (numberFrom 10 0 (
 abbrev μ-loop : tie.MeasureT-loop
 μ-loop lines at value₀ i₀ value i = length lines - i
 
--- src/numbers.rt:42:5
 loop-holds : tie.Need-loop-holds Inv-loop μ-loop
 loop-holds c = (omega arith, refl)
 
--- src/numbers.rt:43:23
 shared-slice-read-digit : tie.Need-shared-slice-read-digit Inv-loop μ-loop
 shared-slice-read-digit c = omega arith
 
--- src/numbers.rt:43:17
 digit-requires : tie.Need-digit-requires Inv-loop μ-loop
 digit-requires c κs = tt
 
--- src/numbers.rt:43:17
 cast-d : tie.Need-cast-d Inv-loop μ-loop
 cast-d c = omega (arith, c .digit .ensures, digit-small (getD (c .before .before .before .before .before .args .lines .now) (c .before .before .before .loop .i) 0))
 
--- src/numbers.rt:45:13
 returns : tie.Need-returns Inv-loop μ-loop
 unfolding decimal
 returns c =
@@ -40,7 +32,6 @@ returns c =
     let p = c .before .before .before .before .loop in
     number-stop most 10 l (c .before .before .before .before .before .before .args .at) (p .i) (p .value) (p .inv .1) (c .before .digit .result) (c .before .before .before .loop-test .taken) (c .before .digit .ensures) (c .if1 .taken) (p .inv .0)
 
--- src/numbers.rt:48:13
 returns-2 : tie.Need-returns-2 Inv-loop μ-loop
 unfolding decimal
 returns-2 c =
@@ -48,15 +39,12 @@ returns-2 c =
     let p = c .before .before .before .before .before .loop in
     number-over most 10 l (c .before .before .before .before .before .before .before .args .at) (p .i) (p .value) (p .inv .1) (c .before .before .digit .result) (c .before .before .before .before .loop-test .taken) (c .before .before .digit .ensures) (omega arith) (omega arith) (omega arith)
 
--- src/numbers.rt:50:23
 mul-if3 : tie.Need-mul-if3 Inv-loop μ-loop
 mul-if3 c = omega arith
 
--- src/numbers.rt:50:12
 sub-if3 : tie.Need-sub-if3 Inv-loop μ-loop
 sub-if3 c = omega arith
 
--- src/numbers.rt:51:13
 returns-3 : tie.Need-returns-3 Inv-loop μ-loop
 unfolding decimal
 returns-3 c =
@@ -64,30 +52,24 @@ returns-3 c =
     let p = c .before .before .before .before .before .before .loop in
     number-over most 10 l (c .before .before .before .before .before .before .before .before .args .at) (p .i) (p .value) (p .inv .1) (c .before .before .before .digit .result) (c .before .before .before .before .before .loop-test .taken) (c .before .before .before .digit .ensures) (omega arith) (omega arith) (omega arith)
 
--- src/numbers.rt:53:17
 mul-value : tie.Need-mul-value Inv-loop μ-loop
 mul-value c = omega arith
 
--- src/numbers.rt:53:17
 add-value : tie.Need-add-value Inv-loop μ-loop
 add-value c = omega arith
 
--- src/numbers.rt:54:9
 add-i : tie.Need-add-i Inv-loop μ-loop
 add-i c = omega arith
 
--- src/numbers.rt:42:5
 loop-less : tie.Need-loop-less Inv-loop μ-loop
 loop-less c = omega arith
 
--- src/numbers.rt:42:5
 loop-again : tie.Need-loop-again Inv-loop μ-loop
 loop-again c =
     let l = c .before .before .before .before .before .before .before .before .args .lines .now in
     let p = c .before .before .before .before .before .before .loop in
     (omega arith, number-next most 10 l (c .before .before .before .before .before .before .before .before .args .at) (p .i) (p .value) (p .inv .1) (c .before .before .before .digit .result) (c .before .before .before .before .before .loop-test .taken) (c .before .before .before .digit .ensures) (omega arith) _ (omega arith))
 
--- src/numbers.rt:37:1
 returns-4 : tie.Need-returns-4 Inv-loop μ-loop
 unfolding decimal
 returns-4 c =

@@ -1,45 +1,34 @@
 use Rattle.replay.specs.Numbers.{digit}
-use Rattle.reading.specs.Pick.{pick}
 use Rattle.reading.proofs.Picks.{picks}
 use borrow.Author.Needs.{needs}
 use Rattle.replay.proofs.numbers.digit.Statement.{statement}
 use Rattle.replay.proofs.numbers.digit.Tie as tie
-use Rattle.replay.proofs.numbers.digit.Reads as reads
-use Rattle.replay.proofs.numbers.digit.Lts as lts
 
--- src/numbers.rt:22:9
 returns : tie.Need-returns
 unfolding digit
 returns c = search picks depth 24
 
--- src/numbers.rt:25:16
 cast-result : tie.Need-cast-result
 cast-result c = search needs
 
--- src/numbers.rt:25:9
 returns-2 : tie.Need-returns-2
 unfolding digit
 returns-2 c = search picks depth 24
 
--- src/numbers.rt:28:9
 returns-3 : tie.Need-returns-3
 unfolding digit
 returns-3 c = search picks depth 24
 
--- src/numbers.rt:31:17
 sub-result : tie.Need-sub-result
 sub-result c = search needs
 
--- src/numbers.rt:31:16
 cast-result-2 : tie.Need-cast-result-2
 cast-result-2 c = search needs
 
--- src/numbers.rt:31:9
 returns-4 : tie.Need-returns-4
 unfolding digit
 returns-4 c = search picks depth 24
 
--- src/numbers.rt:18:1
 returns-5 : tie.Need-returns-5
 unfolding digit
 returns-5 c = search picks depth 24

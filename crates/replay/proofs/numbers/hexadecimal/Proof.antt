@@ -1,14 +1,11 @@
-use Prim.Native.Nat.{_+_, _-_, _*_, _^_, _≤_}
+use Prim.Native.Nat.{_-_, _^_, _≤_}
 use mathlib.Core.Path.{_≡_, refl}
 use native.Mathlib.Omega.{arith}
-use lib.ListN.{length, drop, getD}
+use lib.ListN.{length, drop}
 use Rattle.replay.specs.Numbers.{numberFrom, hexadecimal}
-use Rattle.replay.proofs.Digits.{digit-small, number-end, number-stop, number-next, number-over}
+use Rattle.replay.proofs.Digits.{number-end, number-stop, number-next, number-over}
 use Rattle.replay.proofs.numbers.hexadecimal.Statement.{statement}
 use Rattle.replay.proofs.numbers.hexadecimal.Tie as tie
-use Rattle.replay.proofs.numbers.hexadecimal.Reads as reads
-use Rattle.replay.proofs.numbers.hexadecimal.Lts as lts
-use Rattle.replay.proofs.numbers.digit.Reads as digit-reads
 
 abbrev Inv-loop : tie.InvT-loop
 Inv-loop lines at value₀ i₀ value i = (value ≤ (2 ^ 32 - 1)) × (numberFrom 16 0 (drop at lines) ≡ numberFrom 16 value (drop i lines))
@@ -16,19 +13,15 @@ Inv-loop lines at value₀ i₀ value i = (value ≤ (2 ^ 32 - 1)) × (numberFro
 abbrev μ-loop : tie.MeasureT-loop
 μ-loop lines at value₀ i₀ value i = length lines - i
 
--- src/numbers.rt:65:5
 loop-holds : tie.Need-loop-holds Inv-loop μ-loop
 loop-holds c = (omega arith, refl)
 
--- src/numbers.rt:66:23
 shared-slice-read-digit : tie.Need-shared-slice-read-digit Inv-loop μ-loop
 shared-slice-read-digit c = omega arith
 
--- src/numbers.rt:66:13
 digit-requires : tie.Need-digit-requires Inv-loop μ-loop
 digit-requires c κs = tt
 
--- src/numbers.rt:68:13
 returns : tie.Need-returns Inv-loop μ-loop
 unfolding hexadecimal
 returns c =
@@ -36,7 +29,6 @@ returns c =
     let p = c .before .before .before .before .loop in
     number-stop (2 ^ 32 - 1) 16 l (c .before .before .before .before .before .before .args .at) (p .i) (p .value) (p .inv .1) (c .before .digit .result) (c .before .before .before .loop-test .taken) (c .before .digit .ensures) (c .if1 .taken) (p .inv .0)
 
--- src/numbers.rt:71:13
 returns-2 : tie.Need-returns-2 Inv-loop μ-loop
 unfolding hexadecimal
 returns-2 c =
@@ -44,30 +36,24 @@ returns-2 c =
     let p = c .before .before .before .before .before .loop in
     number-over (2 ^ 32 - 1) 16 l (c .before .before .before .before .before .before .before .args .at) (p .i) (p .value) (p .inv .1) (c .before .before .digit .result) (c .before .before .before .before .loop-test .taken) (c .before .before .digit .ensures) (omega arith) (omega arith) (omega arith)
 
--- src/numbers.rt:73:17
 mul-value : tie.Need-mul-value Inv-loop μ-loop
 mul-value c = omega arith
 
--- src/numbers.rt:73:17
 add-value : tie.Need-add-value Inv-loop μ-loop
 add-value c = omega arith
 
--- src/numbers.rt:74:9
 add-i : tie.Need-add-i Inv-loop μ-loop
 add-i c = omega arith
 
--- src/numbers.rt:65:5
 loop-less : tie.Need-loop-less Inv-loop μ-loop
 loop-less c = omega arith
 
--- src/numbers.rt:65:5
 loop-again : tie.Need-loop-again Inv-loop μ-loop
 loop-again c =
     let l = c .before .before .before .before .before .before .before .args .lines .now in
     let p = c .before .before .before .before .before .loop in
     (omega arith, number-next (2 ^ 32 - 1) 16 l (c .before .before .before .before .before .before .before .args .at) (p .i) (p .value) (p .inv .1) (c .before .before .digit .result) (c .before .before .before .before .loop-test .taken) (c .before .before .digit .ensures) (omega arith) _ (omega arith))
 
--- src/numbers.rt:60:1
 returns-3 : tie.Need-returns-3 Inv-loop μ-loop
 unfolding hexadecimal
 returns-3 c =

@@ -5,9 +5,6 @@ use lib.ListN.{length}
 use Rattle.replay.proofs.Compared.{Filling, filling-all, filling-more, filling-none}
 use Rattle.replay.proofs.slices.fill.Statement.{statement}
 use Rattle.replay.proofs.slices.fill.Tie as tie
-use Rattle.replay.proofs.slices.fill.Reads as reads
-use Rattle.replay.proofs.slices.fill.Lts as lts
-use Rattle.replay.proofs.slices.pattern.Reads as pattern-reads
 
 abbrev Inv-loop : tie.InvT-loop
 Inv-loop words₀ i₀ words i = Filling words₀ words i
@@ -15,39 +12,30 @@ Inv-loop words₀ i₀ words i = Filling words₀ words i
 abbrev μ-loop : tie.MeasureT-loop
 μ-loop words₀ i₀ words i = length words₀ - i
 
--- src/slices.rt:29:5
 loop-holds : tie.Need-loop-holds Inv-loop μ-loop
 loop-holds c = filling-all _
 
--- src/slices.rt:30:20
 pattern-requires : tie.Need-pattern-requires Inv-loop μ-loop
 pattern-requires c κs = tt
 
--- src/slices.rt:30:9
 mul-words : tie.Need-mul-words Inv-loop μ-loop
 mul-words c = search needs
 
--- src/slices.rt:30:9
 slice-write-words : tie.Need-slice-write-words Inv-loop μ-loop
 slice-write-words c = omega arith
 
--- src/slices.rt:31:9
 add-i : tie.Need-add-i Inv-loop μ-loop
 add-i c = omega arith
 
--- src/slices.rt:29:5
 loop-less : tie.Need-loop-less Inv-loop μ-loop
 loop-less c = omega arith
 
--- src/slices.rt:29:5
 loop-again : tie.Need-loop-again Inv-loop μ-loop
 loop-again c = filling-more (c .before .before .loop .inv) (c .before .loop-test .taken) (c .pattern .ensures)
 
--- src/slices.rt:25:1
 same-length : tie.Need-same-length Inv-loop μ-loop
 same-length c = c .before .loop .inv .kept
 
--- src/slices.rt:25:1
 returns : tie.Need-returns Inv-loop μ-loop
 returns c = filling-none (c .before .loop .inv) (c .loop-test .left)
 

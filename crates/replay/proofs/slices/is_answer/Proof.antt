@@ -1,5 +1,4 @@
 use Prim.Native.Nat.{_-_, _≤_}
-use mathlib.Core.Path.{sym}
 use native.Mathlib.Omega.{arith}
 use borrow.Author.Needs.{needs}
 use lib.ListN.{length}
@@ -8,9 +7,6 @@ use Rattle.replay.specs.Recorded.{filled}
 use Rattle.replay.proofs.Compared.{Comparing, comparing-all, comparing-differ, comparing-more, comparing-none, answer-length, answer-at, answer-fits, answer-long}
 use Rattle.replay.proofs.slices.is_answer.Statement.{statement}
 use Rattle.replay.proofs.slices.is_answer.Tie as tie
-use Rattle.replay.proofs.slices.is_answer.Reads as reads
-use Rattle.replay.proofs.slices.is_answer.Lts as lts
-use Rattle.replay.proofs.slices.expected.Reads as expected-reads
 
 abbrev Inv-loop : tie.InvT-loop
 Inv-loop words out i₀ i = (length words ≤ length out) × Comparing out (over words (filled out)) i
@@ -18,43 +14,33 @@ Inv-loop words out i₀ i = (length words ≤ length out) × Comparing out (over
 abbrev μ-loop : tie.MeasureT-loop
 μ-loop words out i₀ i = length out - i
 
--- src/slices.rt:64:9
 returns : tie.Need-returns Inv-loop μ-loop
 returns c = answer-long _ _ (c .if1 .taken)
 
--- src/slices.rt:67:5
 loop-holds : tie.Need-loop-holds Inv-loop μ-loop
 loop-holds c = (c .if1 .left, comparing-all _ _ (answer-length (c .before .before .before .args .words .now) (c .before .before .before .args .out .now)))
 
--- src/slices.rt:68:12
 mul-if2 : tie.Need-mul-if2 Inv-loop μ-loop
 mul-if2 c = search needs
 
--- src/slices.rt:68:12
 shared-slice-read-if2 : tie.Need-shared-slice-read-if2 Inv-loop μ-loop
 shared-slice-read-if2 c = omega arith
 
--- src/slices.rt:68:22
 expected-requires : tie.Need-expected-requires Inv-loop μ-loop
 expected-requires c κs = tt
 
--- src/slices.rt:69:13
 returns-2 : tie.Need-returns-2 Inv-loop μ-loop
 returns-2 c = answer-fits _ _ (c .before .before .before .before .loop .inv .0) (comparing-differ (c .before .before .before .before .loop .inv .1) (c .before .before .before .loop-test .taken) (answer-at (c .before .before .before .before .before .before .before .before .args .words .now) (c .before .before .before .before .before .before .before .before .args .out .now) (c .before .before .before .before .loop .i) (c .before .before .before .loop-test .taken) (c .before .expected .ensures)) (c .if2 .taken))
 
--- src/slices.rt:71:9
 add-i : tie.Need-add-i Inv-loop μ-loop
 add-i c = omega arith
 
--- src/slices.rt:67:5
 loop-less : tie.Need-loop-less Inv-loop μ-loop
 loop-less c = omega arith
 
--- src/slices.rt:67:5
 loop-again : tie.Need-loop-again Inv-loop μ-loop
 loop-again c = (c .before .before .before .before .loop .inv .0, comparing-more (c .before .before .before .before .loop .inv .1) (c .before .before .before .loop-test .taken) (answer-at (c .before .before .before .before .before .before .before .before .args .words .now) (c .before .before .before .before .before .before .before .before .args .out .now) (c .before .before .before .before .loop .i) (c .before .before .before .loop-test .taken) (c .before .expected .ensures)) (c .if2 .left))
 
--- src/slices.rt:60:1
 returns-3 : tie.Need-returns-3 Inv-loop μ-loop
 returns-3 c = answer-fits _ _ (c .before .loop .inv .0) (comparing-none (c .before .loop .inv .1) (c .loop-test .left))
 

@@ -4,25 +4,19 @@ use borrow.Author.Tests.{eq-eqb, ne-eqb}
 use Rattle.replay.specs.Recorded.{isReply}
 use Rattle.replay.proofs.slices.is_reply.Statement.{statement}
 use Rattle.replay.proofs.slices.is_reply.Tie as tie
-use Rattle.replay.proofs.slices.is_reply.Reads as reads
-use Rattle.replay.proofs.slices.is_reply.Lts as lts
 
--- src/slices.rt:91:9
 returns : tie.Need-returns
 unfolding isReply
 returns c = and-no _ (ne-eqb _ _ (c .if1 .taken))
 
--- src/slices.rt:94:9
 returns-2 : tie.Need-returns-2
 unfolding isReply
 returns-2 c = and-yes (eq-eqb _ _ (c .before .before .before .if1 .left)) (and-no _ (ne-eqb _ _ (c .if2 .taken)))
 
--- src/slices.rt:97:9
 returns-3 : tie.Need-returns-3
 unfolding isReply
 returns-3 c = and-yes (eq-eqb _ _ (c .before .before .before .before .before .before .if1 .left)) (and-yes (eq-eqb _ _ (c .before .before .before .if2 .left)) (and-no _ (ne-eqb _ _ (c .if3 .taken))))
 
--- src/slices.rt:87:1
 returns-4 : tie.Need-returns-4
 unfolding isReply
 returns-4 c = and-yes (eq-eqb _ _ (c .before .before .before .before .before .before .before .before .if1 .left)) (and-yes (eq-eqb _ _ (c .before .before .before .before .before .if2 .left)) (and-yes (eq-eqb _ _ (c .before .before .if3 .left)) refl))

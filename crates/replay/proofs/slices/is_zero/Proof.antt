@@ -1,5 +1,4 @@
 use Prim.Native.Nat.{_-_}
-use mathlib.Core.Path.{sym}
 use native.Mathlib.Omega.{arith}
 use borrow.Author.Needs.{needs}
 use lib.ListN.{length}
@@ -8,8 +7,6 @@ use Rattle.replay.specs.Recorded.{isZero}
 use Rattle.replay.proofs.Compared.{Comparing, comparing-all, comparing-differ, comparing-more, comparing-none, zeros-length, zeros-at}
 use Rattle.replay.proofs.slices.is_zero.Statement.{statement}
 use Rattle.replay.proofs.slices.is_zero.Tie as tie
-use Rattle.replay.proofs.slices.is_zero.Reads as reads
-use Rattle.replay.proofs.slices.is_zero.Lts as lts
 
 abbrev Inv-loop : tie.InvT-loop
 Inv-loop words i₀ i = Comparing words (zeros words) i
@@ -17,36 +14,28 @@ Inv-loop words i₀ i = Comparing words (zeros words) i
 abbrev μ-loop : tie.MeasureT-loop
 μ-loop words i₀ i = length words - i
 
--- src/slices.rt:40:5
 loop-holds : tie.Need-loop-holds Inv-loop μ-loop
 loop-holds c = comparing-all _ _ (zeros-length (c .args .words .now))
 
--- src/slices.rt:41:12
 mul-if1 : tie.Need-mul-if1 Inv-loop μ-loop
 mul-if1 c = search needs
 
--- src/slices.rt:41:12
 shared-slice-read-if1 : tie.Need-shared-slice-read-if1 Inv-loop μ-loop
 shared-slice-read-if1 c = omega arith
 
--- src/slices.rt:42:13
 returns : tie.Need-returns Inv-loop μ-loop
 unfolding isZero
 returns c = comparing-differ (c .before .before .before .loop .inv) (c .before .before .loop-test .taken) (zeros-at (c .before .before .before .before .args .words .now) (c .before .before .before .loop .i) (c .before .before .loop-test .taken)) (c .if1 .taken)
 
--- src/slices.rt:44:9
 add-i : tie.Need-add-i Inv-loop μ-loop
 add-i c = omega arith
 
--- src/slices.rt:40:5
 loop-less : tie.Need-loop-less Inv-loop μ-loop
 loop-less c = omega arith
 
--- src/slices.rt:40:5
 loop-again : tie.Need-loop-again Inv-loop μ-loop
 loop-again c = comparing-more (c .before .before .before .loop .inv) (c .before .before .loop-test .taken) (zeros-at (c .before .before .before .before .args .words .now) (c .before .before .before .loop .i) (c .before .before .loop-test .taken)) (c .if1 .left)
 
--- src/slices.rt:36:1
 returns-2 : tie.Need-returns-2 Inv-loop μ-loop
 unfolding isZero
 returns-2 c = comparing-none (c .before .loop .inv) (c .loop-test .left)

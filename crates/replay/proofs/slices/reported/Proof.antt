@@ -3,15 +3,11 @@ use Rattle.reading.proofs.Picks.{pick-eq, pick-ne}
 use Rattle.replay.specs.Recorded.{reported}
 use Rattle.replay.proofs.slices.reported.Statement.{statement}
 use Rattle.replay.proofs.slices.reported.Tie as tie
-use Rattle.replay.proofs.slices.reported.Reads as reads
-use Rattle.replay.proofs.slices.reported.Lts as lts
 
--- src/slices.rt:81:9
 returns : tie.Need-returns
 unfolding reported
 returns c = pick-eq _ (c .if1 .taken) refl
 
--- src/slices.rt:77:1
 returns-2 : tie.Need-returns-2
 unfolding reported
 returns-2 c = pick-ne _ (c .if1 .left) refl
