@@ -1,5 +1,10 @@
 // One call of a reader.
+ghost use mathlib.Core.Path.{_≡_};
+ghost use Rattle.replay.specs.Recorded.{isClear, filled};
+ghost use Rattle.session.specs.Session.{outcome};
+ghost use Rattle.replay.specs.Called.{replyTo, callOf, Ran, isOutcome, isSameOn, countOn, isSame, countAfter};
 use crate::input::put_bytes;
+use crate::input::put_words;
 use crate::line::Line;
 use crate::slices::Reply;
 use crate::slices::fill;
@@ -12,29 +17,41 @@ pub struct Done {
     pub same: bool,
 }
 
-// The longest text and the longest slices that are recorded.
-const TEXT: usize = 32769;
+// No longer text and no longer slices are recorded.
+const TEXT: usize = 65536;
 
 const WORDS: usize = 120000;
 
 // The text is spelled out, then the call is made.
-pub fn text_line(data: &[u8], line: Line, reader: reader::Reader) -> Done {
+pub fn text_line(lines: &[u8], line: Line, reader: reader::Reader) -> Done
+    ensures { λ r. ⌜ (r .same ≡ isSame (now (lines .entry)) line (reader .next)) × (r .reader .next ≡ countAfter (now (lines .entry)) line (reader .next)) ⌝ }
+{
     let mut text = [0u8; TEXT];
-    let n = put_bytes(data, line.input, &mut text);
+    let n = put_bytes(lines, line.input, &mut text);
     if TEXT < n {
         return Done {
             reader: reader,
             same: false,
         };
     }
-    lend(data, line, reader, &text[..n])
+    lend(lines, line, reader, &text[..n])
 }
 
-// Makes the slices. Reading takes no tree, and only a solution takes a draft.
-fn lend(data: &[u8], line: Line, reader: reader::Reader, text: &[u8]) -> Done {
+// Makes the slices, and spells out the words that are recorded. Reading takes no tree, and only a solution takes a draft.
+fn lend(lines: &[u8], line: Line, reader: reader::Reader, text: &[u8]) -> Done
+    ensures { λ r. ⌜ (r .same ≡ isSameOn (now (lines .entry)) line (now (text .entry)) (reader .next)) × (r .reader .next ≡ countOn (now (lines .entry)) line (now (text .entry)) (reader .next)) ⌝ }
+{
     let mut tree = [0u32; WORDS];
     let mut draft = [0u32; WORDS];
     let mut out = [0u32; WORDS];
+    let mut words = [0u32; WORDS];
+    let n = put_words(lines, line.words, &mut words);
+    if WORDS < n {
+        return Done {
+            reader: reader,
+            same: false,
+        };
+    }
     if WORDS < line.tree {
         return Done {
             reader: reader,
@@ -54,8 +71,8 @@ fn lend(data: &[u8], line: Line, reader: reader::Reader, text: &[u8]) -> Done {
         };
     }
     asked(
-        data,
         line,
+        &words[..n],
         reader,
         text,
         &mut tree[..line.tree],
@@ -66,34 +83,54 @@ fn lend(data: &[u8], line: Line, reader: reader::Reader, text: &[u8]) -> Done {
 
 // Fills the slices, makes the call, and compares.
 fn asked(
-    data: &[u8],
     line: Line,
+    words: &[u32],
     reader: reader::Reader,
     text: &[u8],
     tree: &mut [u32],
     draft: &mut [u32],
     out: &mut [u32],
-) -> Done {
+) -> Done
+    ensures same { λ r. ⌜ r .same ≡ isOutcome line (now (words .entry)) (outcome (callOf (line .op) (now (text .entry)) (filled (now (tree .entry))) (filled (now (draft .entry))) (filled (now (out .entry)))) (reader .next)) ⌝ }
+    ensures count { λ r. ⌜ r .reader .next ≡ outcome (callOf (line .op) (now (text .entry)) (filled (now (tree .entry))) (filled (now (draft .entry))) (filled (now (out .entry)))) (reader .next) .count ⌝ }
+{
     fill(tree);
     fill(draft);
     fill(out);
     let answer = run(line.op, reader, text, tree, draft, out);
-    let same = is_recorded(data, line, reply(answer), out) && is_clear(line.op, tree, draft);
     let returned = answer.reader;
+    if !is_recorded(line, words, reply(answer), out) {
+        return Done {
+            reader: returned,
+            same: false,
+        };
+    }
     Done {
         reader: returned,
-        same: same,
+        same: is_clear(line.op, tree, draft),
     }
 }
 
 // Whether the working slices that the operation was lent are zero.
-fn is_clear(op: u8, tree: &[u32], draft: &[u32]) -> bool {
-    if op == b'R' || op == b'A' {
+fn is_clear(op: u8, tree: &[u32], draft: &[u32]) -> bool
+    ensures { λ r. ⌜ r ≡ isClear op (now (tree .entry)) (now (draft .entry)) ⌝ }
+{
+    if op == b'R' {
         return true;
     }
-    is_zero(tree) && (op != b'L' || is_zero(draft))
+    if op == b'A' {
+        return true;
+    }
+    if !is_zero(tree) {
+        return false;
+    }
+    if op == b'L' {
+        return is_zero(draft);
+    }
+    true
 }
 
+// Makes the call.
 fn run(
     op: u8,
     reader: reader::Reader,
@@ -101,7 +138,9 @@ fn run(
     tree: &mut [u32],
     draft: &mut [u32],
     out: &mut [u32],
-) -> reader::Answer {
+) -> reader::Answer
+    ensures { λ r. ⌜ Ran op (callOf op (now (text .entry)) (now (tree .entry)) (now (draft .entry)) (now (out .entry))) (reader .next) r (now (tree .exit)) (now (draft .exit)) (now (out .exit)) ⌝ }
+{
     match op {
         b'R' => reader.read_one(text, out),
         b'A' => reader.read_all(text, out),
@@ -112,7 +151,10 @@ fn run(
     }
 }
 
-fn reply(answer: reader::Answer) -> Reply {
+// The numbers of the answer.
+fn reply(answer: reader::Answer) -> Reply
+    ensures { λ r. ⌜ r ≡ replyTo (answer .said) (answer .reader .next) ⌝ }
+{
     let reader = answer.reader;
     let count = reader.next;
     let said = answer.said;

@@ -1,4 +1,7 @@
 // One call of flattening.
+ghost use mathlib.Core.Path.{_≡_};
+ghost use Rattle.replay.specs.Recorded.{filled};
+ghost use Rattle.replay.specs.Called.{flatReply, isFlattened, isFlat};
 use crate::input::put_words;
 use crate::line::Line;
 use crate::slices::Reply;
@@ -9,26 +12,39 @@ use crate::slices::is_recorded;
 const WORDS: usize = 8192;
 
 // Whether the answer was the recorded one.
-pub fn flatten_line(data: &[u8], line: Line) -> bool {
+pub fn flatten_line(lines: &[u8], line: Line) -> bool
+    ensures { λ r. ⌜ r ≡ isFlat (now (lines .entry)) line ⌝ }
+{
     let mut given = [0u32; WORDS];
+    let mut words = [0u32; WORDS];
     let mut out = [0u32; WORDS];
-    let n = put_words(data, line.input, &mut given);
+    let n = put_words(lines, line.input, &mut given);
     if WORDS < n {
+        return false;
+    }
+    let m = put_words(lines, line.words, &mut words);
+    if WORDS < m {
         return false;
     }
     if WORDS < line.out {
         return false;
     }
-    is_flattened(data, line, &given[..n], &mut out[..line.out])
+    is_flattened(line, &words[..m], &given[..n], &mut out[..line.out])
 }
 
-fn is_flattened(data: &[u8], line: Line, given: &[u32], out: &mut [u32]) -> bool {
+// Fills the output, flattens into it, and compares.
+fn is_flattened(line: Line, words: &[u32], given: &[u32], out: &mut [u32]) -> bool
+    ensures { λ r. ⌜ r ≡ isFlattened line (now (words .entry)) (now (given .entry)) (filled (now (out .entry))) ⌝ }
+{
     fill(out);
     let reply = reply(flatten::flatten(given, out));
-    is_recorded(data, line, reply, out)
+    is_recorded(line, words, reply, out)
 }
 
-fn reply(answer: sorts::Answer) -> Reply {
+// The numbers of the answer.
+fn reply(answer: sorts::Answer) -> Reply
+    ensures { λ r. ⌜ r ≡ flatReply answer ⌝ }
+{
     match answer {
         sorts::Answer::Done(n) => Reply {
             refusal: 0,

@@ -1,133 +1,139 @@
-// INPUT and WORDS: parts joined by `.` or `,`, each perhaps `*N`, this part N times; `-` for none.
+// INPUT and WORDS: parts joined by `.` or `,`, each perhaps `*N`, this part N times; `-` for none. What does not fit is counted and not put.
+ghost use mathlib.Core.Path.{_≡_};
+ghost use Prim.Native.Nat.{_+_, _<_, min};
+ghost use mathlib.Core.List.{[], _∷_};
+ghost use lib.ListN.{length, drop, set};
+ghost use lib.Seq.{sets};
+ghost use Rattle.reading.specs.Answer.{over};
+ghost use Rattle.replay.specs.Numbers.{most};
+ghost use Rattle.replay.specs.Spelled.{times as timesOf, bytesOnce, wordOnce, again, bytesIn, wordsIn};
 use crate::numbers::byte_at;
 use crate::numbers::decimal;
 use crate::numbers::digit;
-use crate::numbers::digits_end;
+use crate::numbers::end_from;
+use crate::numbers::ends;
 use crate::numbers::hexadecimal;
 
-// Digits up to `end`, so many times, and where the next part begins, if there are more.
-pub struct Part {
-    pub end: usize,
-    pub times: usize,
-    pub more: bool,
-    pub next: usize,
-}
-
-// The part that begins at a place.
-pub fn part_at(data: &[u8], at: usize) -> Part {
-    let end = digits_end(data, at);
-    if byte_at(data, end) == b'*' {
-        let n = behind(data, end);
-        return part_with(data, end, decimal(data, n) as usize, digits_end(data, n));
+// A sum, or the largest number where it is larger.
+fn plus(a: usize, b: usize) -> usize
+    ensures { λ r. ⌜ r ≡ min most (a + b) ⌝ }
+{
+    if usize::MAX - a < b {
+        return usize::MAX;
     }
-    part_with(data, end, 1, end)
+    a + b
 }
 
-// The part whose last byte stands before `stop`.
-fn part_with(data: &[u8], end: usize, times: usize, stop: usize) -> Part {
-    let b = byte_at(data, stop);
-    Part {
-        end: end,
-        times: times,
-        more: b == b'.' || b == b',',
-        next: behind(data, stop),
+// How often the part at a place is meant.
+fn times(lines: &[u8], at: usize) -> usize
+    ensures { λ r. ⌜ r ≡ timesOf (drop at (now (lines .entry))) ⌝ }
+{
+    let end = end_from(1, lines, at);
+    if byte_at(lines, end) == b'*' {
+        return decimal(lines, end + 1) as usize;
     }
+    1
 }
 
-// The place behind this one, or the end.
-fn behind(data: &[u8], at: usize) -> usize {
-    if at < data.len() {
-        return at + 1;
-    }
-    at
-}
-
-// Puts the bytes that begin at a place into the text, as many as it takes, and says how many.
-pub fn put_bytes(data: &[u8], at: usize, text: &mut [u8]) -> usize {
+// Puts the bytes that the field at a place spells into the text, and says how many there are.
+pub fn put_bytes(lines: &[u8], at: usize, text: &mut [u8]) -> usize
+    ensures { λ r. ⌜ (r ≡ min most (length (bytesIn (drop at (now (lines .entry)))))) × (now (text .exit) ≡ over (bytesIn (drop at (now (lines .entry)))) (now (text .entry))) ⌝ }
+{
     let mut i = at;
     let mut n: usize = 0;
-    while i < data.len() {
-        let part = part_at(data, i);
-        n = repeat_bytes(data, i, part, text, n);
-        if !part.more {
+    loop {
+        n = repeat_bytes(lines, i, times(lines, i), text, n);
+        let end = end_from(2, lines, i);
+        if ends(byte_at(lines, end)) != 2 {
             return n;
         }
-        if part.next <= i {
-            return n;
-        }
-        i = part.next;
+        i = end + 1;
     }
-    n
 }
 
-// A part behind the first n bytes of the text.
-fn repeat_bytes(data: &[u8], at: usize, part: Part, text: &mut [u8], n: usize) -> usize {
+// The bytes of the part at a place, so many times, behind the first n bytes of the text; answers how many there are then.
+fn repeat_bytes(lines: &[u8], at: usize, times: usize, text: &mut [u8], n: usize) -> usize
+    ensures { λ r. ⌜ (r ≡ min most (n + length (again times (bytesOnce (drop at (now (lines .entry))))))) × (now (text .exit) ≡ sets (now (text .entry)) n (again times (bytesOnce (drop at (now (lines .entry)))))) ⌝ }
+{
     let mut len = n;
-    let mut times: usize = 0;
-    while times < part.times {
-        len = copy_bytes(data, at, part.end, text, len);
-        times += 1;
+    let mut k: usize = 0;
+    while k < times {
+        len = copy_bytes(lines, at, text, len);
+        k += 1;
     }
     len
 }
 
-// The bytes between two places, two digits each, behind the first n bytes of the text.
-fn copy_bytes(data: &[u8], from: usize, to: usize, text: &mut [u8], n: usize) -> usize {
-    let mut i = from;
+// The same, once.
+fn copy_bytes(lines: &[u8], at: usize, text: &mut [u8], n: usize) -> usize
+    ensures { λ r. ⌜ (r ≡ min most (n + length (bytesOnce (drop at (now (lines .entry)))))) × (now (text .exit) ≡ sets (now (text .entry)) n (bytesOnce (drop at (now (lines .entry))))) ⌝ }
+{
+    let mut i = at;
     let mut len = n;
-    while i < to {
-        if to - i < 2 {
+    while i < lines.len() {
+        let high = digit(lines[i]);
+        if 15 < high {
             return len;
         }
-        if text.len() <= len {
+        let low = digit(byte_at(lines, i + 1));
+        if 15 < low {
             return len;
         }
-        text[len] = byte(data, i);
-        len += 1;
+        put_byte(text, len, 16 * high + low);
+        len = plus(len, 1);
         i += 2;
     }
     len
 }
 
-// The byte that the two digits at a place spell.
-fn byte(data: &[u8], at: usize) -> u8 {
-    let high = digit(byte_at(data, at)) % 16;
-    let low = digit(byte_at(data, behind(data, at))) % 16;
-    (high * 16 + low) as u8
+// A byte at an index, where there is one.
+fn put_byte(text: &mut [u8], at: usize, b: u32)
+    requires { ⌜ b < 256 ⌝ }
+    ensures { λ _. ⌜ now (text .exit) ≡ set (now (text .entry)) at b ⌝ }
+{
+    if at < text.len() {
+        text[at] = b as u8;
+    }
 }
 
-// Puts the words that begin at a place into the slice, as many as it takes, and says how many.
-pub fn put_words(data: &[u8], at: usize, words: &mut [u32]) -> usize {
+// Puts the words that the field at a place spells into the slice, and says how many there are.
+pub fn put_words(lines: &[u8], at: usize, words: &mut [u32]) -> usize
+    ensures { λ r. ⌜ (r ≡ min most (length (wordsIn (drop at (now (lines .entry)))))) × (now (words .exit) ≡ over (wordsIn (drop at (now (lines .entry)))) (now (words .entry))) ⌝ }
+{
     let mut i = at;
     let mut n: usize = 0;
-    while i < data.len() {
-        let part = part_at(data, i);
-        if part.end == i {
+    loop {
+        n = put_part(lines, i, words, n);
+        let end = end_from(2, lines, i);
+        if ends(byte_at(lines, end)) != 2 {
             return n;
         }
-        n = repeat_word(hexadecimal(data, i), part.times, words, n);
-        if !part.more {
-            return n;
-        }
-        if part.next <= i {
-            return n;
-        }
-        i = part.next;
+        i = end + 1;
     }
-    n
+}
+
+// The words of the part at a place behind the first n words; answers how many there are then.
+fn put_part(lines: &[u8], at: usize, words: &mut [u32], n: usize) -> usize
+    ensures { λ r. ⌜ (r ≡ min most (n + length (again (timesOf (drop at (now (lines .entry)))) (wordOnce (drop at (now (lines .entry))))))) × (now (words .exit) ≡ sets (now (words .entry)) n (again (timesOf (drop at (now (lines .entry)))) (wordOnce (drop at (now (lines .entry)))))) ⌝ }
+{
+    if 15 < digit(byte_at(lines, at)) {
+        return n;
+    }
+    repeat_word(hexadecimal(lines, at), times(lines, at), words, n)
 }
 
 // A word so many times behind the first n words.
-fn repeat_word(word: u32, times: usize, words: &mut [u32], n: usize) -> usize {
-    let mut len = n;
-    let mut i: usize = 0;
-    while i < times {
-        if words.len() <= len {
-            return len;
+fn repeat_word(word: u32, times: usize, words: &mut [u32], n: usize) -> usize
+    ensures { λ r. ⌜ (r ≡ min most (n + length (again times (word ∷ [])))) × (now (words .exit) ≡ sets (now (words .entry)) n (again times (word ∷ []))) ⌝ }
+{
+    let end = plus(n, times);
+    let mut i = n;
+    while i < end {
+        if words.len() <= i {
+            return end;
         }
-        words[len] = word;
-        len += 1;
+        words[i] = word;
         i += 1;
     }
-    len
+    end
 }

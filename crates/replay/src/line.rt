@@ -1,4 +1,6 @@
 // A recorded answer: `OP START TREE DRAFT OUT INPUT = REFUSAL A B COUNT WORDS`.
+ghost use mathlib.Core.Path.{_≡_};
+ghost use Rattle.replay.specs.Fields.{lineAt};
 use crate::numbers::byte_at;
 use crate::numbers::decimal;
 use crate::numbers::next_field;
@@ -22,29 +24,31 @@ pub struct Line {
 }
 
 // The line that begins at a place.
-pub fn line_at(data: &[u8], at: usize) -> Line {
-    let start = next_field(data, at);
-    let tree = next_field(data, start);
-    let draft = next_field(data, tree);
-    let out = next_field(data, draft);
-    let input = next_field(data, out);
-    let refusal = next_field(data, next_field(data, input));
-    let a = next_field(data, refusal);
-    let b = next_field(data, a);
-    let count = next_field(data, b);
-    let words = next_field(data, count);
+pub fn line_at(lines: &[u8], at: usize) -> Line
+    ensures { λ r. ⌜ r ≡ lineAt (now (lines .entry)) at ⌝ }
+{
+    let start = next_field(lines, at);
+    let tree = next_field(lines, start);
+    let draft = next_field(lines, tree);
+    let out = next_field(lines, draft);
+    let input = next_field(lines, out);
+    let refusal = next_field(lines, next_field(lines, input));
+    let a = next_field(lines, refusal);
+    let b = next_field(lines, a);
+    let count = next_field(lines, b);
+    let words = next_field(lines, count);
     Line {
-        op: byte_at(data, at),
-        start: decimal(data, start),
-        tree: decimal(data, tree) as usize,
-        draft: decimal(data, draft) as usize,
-        out: decimal(data, out) as usize,
+        op: byte_at(lines, at),
+        start: decimal(lines, start),
+        tree: decimal(lines, tree) as usize,
+        draft: decimal(lines, draft) as usize,
+        out: decimal(lines, out) as usize,
         input: input,
-        refusal: decimal(data, refusal),
-        a: decimal(data, a),
-        b: decimal(data, b),
-        count: decimal(data, count),
+        refusal: decimal(lines, refusal),
+        a: decimal(lines, a),
+        b: decimal(lines, b),
+        count: decimal(lines, count),
         words: words,
-        next: next_field(data, words),
+        next: next_field(lines, words),
     }
 }

@@ -1,5 +1,9 @@
 // Replays recorded answers from standard input, a call and its answer a line (line.rt), and says how many there were and how many differ.
 // A call is made on the reader that the last call returned if that one's count is where the line starts, and on a new one if not.
+ghost use mathlib.Core.Path.{_≡_};
+ghost use mathlib.Core.Bool.{true};
+ghost use Rattle.replay.specs.Tally.{more as moreOf, Told, Stepped};
+
 mod call;
 mod flat;
 mod input;
@@ -41,7 +45,7 @@ fn main() {
 }
 
 // All lines.
-fn replay(data: &[u8]) -> State {
+fn replay(lines: &[u8]) -> State {
     let mut at: usize = 0;
     let mut state = State {
         reader: reader::Reader::open(0),
@@ -51,9 +55,9 @@ fn replay(data: &[u8]) -> State {
         differing: 0,
         first: 0,
     };
-    while at < data.len() {
-        let line = line_at(data, at);
-        state = step(data, line, state);
+    while at < lines.len() {
+        let line = line_at(lines, at);
+        state = step(lines, line, state);
         if line.next <= at {
             break;
         }
@@ -63,23 +67,27 @@ fn replay(data: &[u8]) -> State {
 }
 
 // One line. Flattening takes no reader.
-fn step(data: &[u8], line: Line, state: State) -> State {
+fn step(lines: &[u8], line: Line, state: State) -> State
+    ensures { λ r. ⌜ Stepped (now (lines .entry)) line state r ⌝ }
+{
     if line.op == b'F' {
-        return told(state, flatten_line(data, line));
+        return told(state, flatten_line(lines, line));
     }
     let reader = state.reader;
     if state.opened && reader.next == line.start {
-        return returned(state, text_line(data, line, reader), more(state.kept));
+        return returned(state, text_line(lines, line, reader), more(state.kept));
     }
     returned(
         state,
-        text_line(data, line, reader::Reader::open(line.start)),
+        text_line(lines, line, reader::Reader::open(line.start)),
         state.kept,
     )
 }
 
 // One call of a reader more.
-fn returned(state: State, done: Done, kept: u64) -> State {
+fn returned(state: State, done: Done, kept: u64) -> State
+    ensures { λ r. ⌜ Told (record { reader = done .reader; opened = true; answers = state .answers; kept = kept; differing = state .differing; first = state .first }) (done .same) r ⌝ }
+{
     let reader = done.reader;
     let next = State {
         reader: reader,
@@ -93,7 +101,9 @@ fn returned(state: State, done: Done, kept: u64) -> State {
 }
 
 // One answer more, and whether it was the recorded one.
-fn told(state: State, same: bool) -> State {
+fn told(state: State, same: bool) -> State
+    ensures { λ r. ⌜ Told state same r ⌝ }
+{
     let mut next = state;
     next.answers = more(state.answers);
     if same {
@@ -106,7 +116,10 @@ fn told(state: State, same: bool) -> State {
     next
 }
 
-fn more(n: u64) -> u64 {
+// One more.
+fn more(n: u64) -> u64
+    ensures { λ r. ⌜ r ≡ moreOf n ⌝ }
+{
     if n < u64::MAX {
         return n + 1;
     }

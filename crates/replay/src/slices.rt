@@ -1,7 +1,10 @@
 // What the lent slices hold before a call, and what they should hold after it.
-use crate::input::part_at;
+ghost use mathlib.Core.Path.{_≡_};
+ghost use lib.Dec.{ltb};
+ghost use lib.ListN.{length, getD};
+ghost use Rattle.reading.specs.Pick.{pick};
+ghost use Rattle.replay.specs.Recorded.{pattern as patternOf, filled, isZero, isAnswer, isReply, isOutput, isRecorded, reported as reportedOf};
 use crate::line::Line;
-use crate::numbers::hexadecimal;
 
 // The refusal or 0, the two numbers reported, and the reader's count.
 pub struct Reply {
@@ -12,11 +15,16 @@ pub struct Reply {
 }
 
 // The word that stands at an index before a call.
-fn pattern(i: usize) -> u32 {
+fn pattern(i: usize) -> u32
+    ensures { λ r. ⌜ r ≡ patternOf i ⌝ }
+{
     0xA5A5_0000 + (i % 0x1_0000) as u32
 }
 
-pub fn fill(words: &mut [u32]) {
+// Such words throughout.
+pub fn fill(words: &mut [u32])
+    ensures { λ _. ⌜ now (words .exit) ≡ filled (now (words .entry)) ⌝ }
+{
     let mut i: usize = 0;
     while i < words.len() {
         words[i] = pattern(i);
@@ -24,7 +32,10 @@ pub fn fill(words: &mut [u32]) {
     }
 }
 
-pub fn is_zero(words: &[u32]) -> bool {
+// Whether the slice is zero throughout.
+pub fn is_zero(words: &[u32]) -> bool
+    ensures { λ r. ⌜ r ≡ isZero (now (words .entry)) ⌝ }
+{
     let mut i: usize = 0;
     while i < words.len() {
         if words[i] != 0 {
@@ -35,82 +46,82 @@ pub fn is_zero(words: &[u32]) -> bool {
     true
 }
 
-// Whether the words from `from` on are those that stood there before the call.
-fn is_kept(words: &[u32], from: usize) -> bool {
-    let mut i = from;
-    while i < words.len() {
-        if words[i] != pattern(i) {
-            return false;
-        }
-        i += 1;
+// The word at an index after words were laid over what stood there before the call.
+fn expected(words: &[u32], i: usize) -> u32
+    ensures { λ r. ⌜ r ≡ pick (ltb i (length (now (words .entry)))) (getD (now (words .entry)) i 0) (patternOf i) ⌝ }
+{
+    if i < words.len() {
+        return words[i];
     }
-    true
+    pattern(i)
 }
 
-// Whether the words between two indexes are all the same word.
-fn is_run(words: &[u32], from: usize, to: usize, word: u32) -> bool {
-    let mut i = from;
-    while i < to {
-        if words.len() <= i {
-            return false;
-        }
-        if words[i] != word {
-            return false;
-        }
-        i += 1;
-    }
-    true
-}
-
-// Whether the slice begins with the n words that are recorded at a place, and no more are.
-fn begins(data: &[u8], at: usize, words: &[u32], n: usize) -> bool {
-    let mut i = at;
-    let mut len: usize = 0;
-    while i < data.len() {
-        let part = part_at(data, i);
-        if part.end == i {
-            return len == n;
-        }
-        if n < len {
-            return false;
-        }
-        if n - len < part.times {
-            return false;
-        }
-        if !is_run(words, len, len + part.times, hexadecimal(data, i)) {
-            return false;
-        }
-        len += part.times;
-        if !part.more {
-            return len == n;
-        }
-        if part.next <= i {
-            return false;
-        }
-        i = part.next;
-    }
-    len == n
-}
-
-// Whether the reply and the output are the recorded ones: words and behind them what was there, or zeros after a refusal.
-pub fn is_recorded(data: &[u8], line: Line, reply: Reply, out: &[u32]) -> bool {
-    if reply.refusal != line.refusal
-        || reply.a != line.a
-        || reply.b != line.b
-        || reply.count != line.count
-    {
+// Whether the output is the words, and behind them what stood there before the call.
+fn is_answer(words: &[u32], out: &[u32]) -> bool
+    ensures { λ r. ⌜ r ≡ isAnswer (now (words .entry)) (now (out .entry)) ⌝ }
+{
+    if out.len() < words.len() {
         return false;
     }
-    if line.refusal != 0 {
-        return is_zero(out) && begins(data, line.words, out, 0);
+    let mut i: usize = 0;
+    while i < out.len() {
+        if out[i] != expected(words, i) {
+            return false;
+        }
+        i += 1;
     }
-    if line.op == b'A' {
-        return is_answer(data, line, out, line.b as usize);
-    }
-    is_answer(data, line, out, line.a as usize)
+    true
 }
 
-// Whether the output has the n words recorded, and keeps the rest.
-fn is_answer(data: &[u8], line: Line, out: &[u32], n: usize) -> bool {
-    begins(data, line.words, out, n) && is_kept(out, n)
+// How many words an accepted call reports.
+fn reported(line: Line) -> u64
+    ensures { λ r. ⌜ r ≡ reportedOf line ⌝ }
+{
+    if line.op == b'A' {
+        return line.b;
+    }
+    line.a
+}
+
+// Whether the numbers of the reply are the recorded ones.
+fn is_reply(line: Line, reply: Reply) -> bool
+    ensures { λ r. ⌜ r ≡ isReply line reply ⌝ }
+{
+    if reply.refusal != line.refusal {
+        return false;
+    }
+    if reply.a != line.a {
+        return false;
+    }
+    if reply.b != line.b {
+        return false;
+    }
+    reply.count == line.count
+}
+
+// Whether the output is the recorded one: zeros after a refusal, else the words that are recorded and behind them what was there.
+fn is_output(line: Line, words: &[u32], out: &[u32]) -> bool
+    ensures { λ r. ⌜ r ≡ isOutput line (now (words .entry)) (now (out .entry)) ⌝ }
+{
+    if line.refusal != 0 {
+        if words.len() != 0 {
+            return false;
+        }
+        return is_zero(out);
+    }
+    if words.len() as u64 != reported(line) {
+        return false;
+    }
+    is_answer(words, out)
+}
+
+// Whether the reply and the output are those of the line, which records these words.
+pub fn is_recorded(line: Line, words: &[u32], reply: Reply, out: &[u32]) -> bool
+    ensures { λ r. ⌜ r ≡ isRecorded line (now (words .entry)) reply (now (out .entry)) ⌝ }
+{
+    let same = is_output(line, words, out);
+    if is_reply(line, reply) {
+        return same;
+    }
+    false
 }

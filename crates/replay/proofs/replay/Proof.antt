@@ -5,10 +5,10 @@ use Rattle.replay.proofs.replay.Statement.{statement}
 use Rattle.replay.proofs.replay.Tie as tie
 
 abbrev Inv-loop : tie.InvT-loop
-Inv-loop «data» at₀ state₀ at state = Unit {0}
+Inv-loop lines at₀ state₀ at state = Unit {0}
 
 abbrev μ-loop : tie.MeasureT-loop
-μ-loop «data» at₀ state₀ at state = length «data» - at
+μ-loop lines at₀ state₀ at state = length lines - at
 
 open-requires : tie.Need-open-requires Inv-loop μ-loop
 open-requires c κs = tt

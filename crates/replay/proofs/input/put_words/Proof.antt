@@ -1,58 +1,56 @@
-use lib.ListN.{length}
-use mathlib.Core.Path.{_≡_, refl}
-use Prim.Native.Nat.{_-_}
+use Prim.Native.Nat.{_+_, _-_, _≤_}
+use mathlib.Core.Path.{refl, sym, ap, _∙_}
+use mathlib.Core.List.{[]}
 use native.Mathlib.Omega.{arith}
-use borrow.Author.Needs.{needs}
+use lib.ListN.{length, drop}
+use Rattle.replay.specs.Numbers.{most}
+use Rattle.replay.specs.Fields.{ends}
+use Rattle.replay.specs.Spelled.{wordsIn, wordOnce, again, times}
+use Rattle.replay.proofs.Places.{ends-inside}
+use Rattle.replay.proofs.Parts.{spelled-more, spelled-last}
+use Rattle.replay.proofs.Storing.{Left, left-all, left-more, left-none, stored-over}
 use Rattle.replay.proofs.input.put_words.Statement.{statement}
 use Rattle.replay.proofs.input.put_words.Tie as tie
 
 abbrev Inv-loop : tie.InvT-loop
-Inv-loop «data» at words₀ i₀ n₀ words i n = length words ≡ length words₀
+Inv-loop lines at words₀ i₀ n₀ words i n = (n ≤ most) × Left words₀ 0 (wordsIn (drop at lines)) words n (wordsIn (drop i lines))
 
 abbrev μ-loop : tie.MeasureT-loop
-μ-loop «data» at words₀ i₀ n₀ words i n = length «data» - i
+μ-loop lines at words₀ i₀ n₀ words i n = length lines - i
 
 loop-holds : tie.Need-loop-holds Inv-loop μ-loop
-loop-holds c = refl
+loop-holds c = (omega arith, left-all _ _ _)
 
-part-at-requires : tie.Need-part-at-requires Inv-loop μ-loop
-part-at-requires c κs = tt
+put-part-requires : tie.Need-put-part-requires Inv-loop μ-loop
+put-part-requires c κs = tt
+
+end-from-requires : tie.Need-end-from-requires Inv-loop μ-loop
+end-from-requires c κs = tt
+
+byte-at-requires : tie.Need-byte-at-requires Inv-loop μ-loop
+byte-at-requires c κs = tt
+
+ends-requires : tie.Need-ends-requires Inv-loop μ-loop
+ends-requires c κs = tt
 
 same-length : tie.Need-same-length Inv-loop μ-loop
-same-length c = search needs
+unfolding wordsIn
+same-length c = (left-more (c .before .before .before .before .before .before .before .before .loop .inv .1) (again (times (drop (c .before .before .before .before .before .before .before .before .loop .i) (c .before .before .before .before .before .before .before .before .before .before .before .args .lines .now))) (wordOnce (drop (c .before .before .before .before .before .before .before .before .loop .i) (c .before .before .before .before .before .before .before .before .before .before .before .args .lines .now)))) [] (spelled-last wordOnce (c .before .before .before .before .before .before .before .before .before .before .before .args .lines .now) (c .before .before .before .before .before .before .before .before .loop .i) (c .before .before .before .end-from .ensures) (λ z. c .if1 .taken (c .before .ends .ensures ∙ ap ends (c .before .before .byte-at .ensures) ∙ z))) (omega arith) (c .before .before .before .before .before .before .put-part .ensures .1) (c .before .before .before .before .before .before .put-part .ensures .0)) .kept
 
 returns : tie.Need-returns Inv-loop μ-loop
-returns c = tt
+unfolding wordsIn
+returns c = stored-over (wordsIn (drop (c .before .before .before .before .before .before .before .before .before .before .before .args .at) (c .before .before .before .before .before .before .before .before .before .before .before .args .lines .now))) (c .before .before .before .before .before .before .before .before .before .before .before .args .words .now) (left-none (left-more (c .before .before .before .before .before .before .before .before .loop .inv .1) (again (times (drop (c .before .before .before .before .before .before .before .before .loop .i) (c .before .before .before .before .before .before .before .before .before .before .before .args .lines .now))) (wordOnce (drop (c .before .before .before .before .before .before .before .before .loop .i) (c .before .before .before .before .before .before .before .before .before .before .before .args .lines .now)))) [] (spelled-last wordOnce (c .before .before .before .before .before .before .before .before .before .before .before .args .lines .now) (c .before .before .before .before .before .before .before .before .loop .i) (c .before .before .before .end-from .ensures) (λ z. c .if1 .taken (c .before .ends .ensures ∙ ap ends (c .before .before .byte-at .ensures) ∙ z))) (omega arith) (c .before .before .before .before .before .before .put-part .ensures .1) (c .before .before .before .before .before .before .put-part .ensures .0)) refl (omega (arith, c .before .before .before .before .before .before .put-part .ensures .0)))
 
-hexadecimal-requires : tie.Need-hexadecimal-requires Inv-loop μ-loop
-hexadecimal-requires c κs = tt
-
-repeat-word-requires : tie.Need-repeat-word-requires Inv-loop μ-loop
-repeat-word-requires c κs = tt
-
-same-length-2 : tie.Need-same-length-2 Inv-loop μ-loop
-same-length-2 c = search needs
-
-returns-2 : tie.Need-returns-2 Inv-loop μ-loop
-returns-2 c = tt
-
-same-length-3 : tie.Need-same-length-3 Inv-loop μ-loop
-same-length-3 c = search needs
-
-returns-3 : tie.Need-returns-3 Inv-loop μ-loop
-returns-3 c = tt
+add-i : tie.Need-add-i Inv-loop μ-loop
+add-i c = omega (arith, ends-inside (c .before .before .before .before .before .before .before .before .before .before .before .args .lines .now) (c .before .before .before .end-from .result) (sym (c .before .ends .ensures ∙ ap ends (c .before .before .byte-at .ensures)) ∙ c .if1 .left))
 
 loop-less : tie.Need-loop-less Inv-loop μ-loop
-loop-less c = omega arith
+loop-less c = omega (arith, c .before .before .before .end-from .ensures, ends-inside (c .before .before .before .before .before .before .before .before .before .before .before .args .lines .now) (c .before .before .before .end-from .result) (sym (c .before .ends .ensures ∙ ap ends (c .before .before .byte-at .ensures)) ∙ c .if1 .left))
 
 loop-again : tie.Need-loop-again Inv-loop μ-loop
-loop-again c = search needs
-
-same-length-4 : tie.Need-same-length-4 Inv-loop μ-loop
-same-length-4 c = search needs
-
-returns-4 : tie.Need-returns-4 Inv-loop μ-loop
-returns-4 c = tt
+unfolding wordsIn
+loop-again c =
+    (omega (arith, c .before .before .before .before .before .before .put-part .ensures .0), left-more (c .before .before .before .before .before .before .before .before .loop .inv .1) (again (times (drop (c .before .before .before .before .before .before .before .before .loop .i) (c .before .before .before .before .before .before .before .before .before .before .before .args .lines .now))) (wordOnce (drop (c .before .before .before .before .before .before .before .before .loop .i) (c .before .before .before .before .before .before .before .before .before .before .before .args .lines .now)))) (wordsIn (drop (c .before .before .before .end-from .result + 1) (c .before .before .before .before .before .before .before .before .before .before .before .args .lines .now))) (spelled-more wordOnce (c .before .before .before .before .before .before .before .before .before .before .before .args .lines .now) (c .before .before .before .before .before .before .before .before .loop .i) (c .before .before .before .end-from .ensures) (sym (c .before .ends .ensures ∙ ap ends (c .before .before .byte-at .ensures)) ∙ c .if1 .left)) (omega arith) (c .before .before .before .before .before .before .put-part .ensures .1) (c .before .before .before .before .before .before .put-part .ensures .0))
 
 pub put-words-spec : {M : Type 1} → statement M
 put-words-spec =
@@ -61,16 +59,12 @@ put-words-spec =
     Inv-loop
     μ-loop
     loop-holds
-    part-at-requires
+    put-part-requires
+    end-from-requires
+    byte-at-requires
+    ends-requires
     same-length
     returns
-    hexadecimal-requires
-    repeat-word-requires
-    same-length-2
-    returns-2
-    same-length-3
-    returns-3
+    add-i
     loop-less
-    loop-again
-    same-length-4
-    returns-4)
+    loop-again)

@@ -1,54 +1,19 @@
-use lib.ListN.{length}
-use Prim.Native.Nat.{_-_}
-use native.Mathlib.Omega.{arith}
+use Rattle.replay.proofs.Places.{next-inside, next-end}
+use borrow.Author.Needs.{needs}
 use Rattle.replay.proofs.numbers.next_field.Statement.{statement}
 use Rattle.replay.proofs.numbers.next_field.Tie as tie
 
-abbrev Inv-loop : tie.InvT-loop
-Inv-loop «data» at i₀ i = Unit {0}
+end-from-requires : tie.Need-end-from-requires
+end-from-requires c κs = search needs
 
-abbrev μ-loop : tie.MeasureT-loop
-μ-loop «data» at i₀ i = length «data» - i
+add-result : tie.Need-add-result
+add-result c = search needs
 
-loop-holds : tie.Need-loop-holds Inv-loop μ-loop
-loop-holds c = tt
+returns : tie.Need-returns
+returns c = next-inside (c .before .before .before .args .lines .now) (c .before .before .before .args .at) (c .before .end-from .ensures) (c .if1 .taken)
 
-shared-slice-read-if1 : tie.Need-shared-slice-read-if1 Inv-loop μ-loop
-shared-slice-read-if1 c = omega arith
-
-shared-slice-read-if2 : tie.Need-shared-slice-read-if2 Inv-loop μ-loop
-shared-slice-read-if2 c = omega arith
-
-add-result : tie.Need-add-result Inv-loop μ-loop
-add-result c = omega arith
-
-returns : tie.Need-returns Inv-loop μ-loop
-returns c = tt
-
-add-i : tie.Need-add-i Inv-loop μ-loop
-add-i c = omega arith
-
-loop-less : tie.Need-loop-less Inv-loop μ-loop
-loop-less c = omega arith
-
-loop-again : tie.Need-loop-again Inv-loop μ-loop
-loop-again c = tt
-
-returns-2 : tie.Need-returns-2 Inv-loop μ-loop
-returns-2 c = tt
+returns-2 : tie.Need-returns-2
+returns-2 c = next-end (c .before .before .before .args .lines .now) (c .before .before .before .args .at) (c .before .end-from .ensures) (c .if1 .left)
 
 pub next-field-spec : {M : Type 1} → statement M
-next-field-spec =
-    tie.close
-    (tie.spec
-    Inv-loop
-    μ-loop
-    loop-holds
-    shared-slice-read-if1
-    shared-slice-read-if2
-    add-result
-    returns
-    add-i
-    loop-less
-    loop-again
-    returns-2)
+next-field-spec = tie.close (tie.spec end-from-requires add-result returns returns-2)

@@ -1,0 +1,6 @@
+pub mod Numbers
+pub mod Fields
+pub mod Spelled
+pub mod Recorded
+pub mod Called
+pub mod Tally
