@@ -20,15 +20,15 @@ use Rattle.reader.specs.declared.Said.{Said}
 use Rattle.reader.specs.declared.Answer.{Answer}
 use Rattle.reader.specs.Calls.{oneCall, allCall, sortCall, exprCall, bindCall, solutionCall, asSaid}
 use Rattle.reader.specs.Sessions.{Promised, replied}
-use Rattle.replay.specs.declared.line.Line.{Line}
-use Rattle.replay.specs.declared.slices.Reply.{Reply}
+use Rattle.recorded.specs.declared.line.Line.{Line}
+use Rattle.recorded.specs.declared.slices.Reply.{Reply}
 use Rattle.replay.specs.declared.State.{State}
-use Rattle.replay.specs.Numbers.{most}
-use Rattle.replay.specs.Spelled.{wordsIn}
-use Rattle.replay.specs.Recorded.{patterns, filled, isZero, isRecorded, isClear}
+use Rattle.recorded.specs.Numbers.{most}
+use Rattle.recorded.specs.Spelled.{wordsIn}
+use Rattle.recorded.specs.Recorded.{patterns, filled, isZero, isRecorded, isClear}
 use Rattle.replay.specs.Called.{replyTo, flatReply, callOf, Ran, isOutcome, outcomeOn, isLent, isSameOn, countOn, textOf, isSame, countAfter, isFlattened, isFlat, isRight}
 use Rattle.replay.specs.Tally.{Told, Stepped}
-use Rattle.replay.proofs.Compared.{and-no, and-yes}
+use Rattle.recorded.proofs.Compared.{and-no, and-yes}
 
 -- Zeros are zero.
 zeros-zero : (l : List ℕ) → isZero (zeros l) ≡ true

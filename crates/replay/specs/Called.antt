@@ -15,10 +15,10 @@ use Rattle.reader.specs.declared.Said.{Said}
 use Rattle.reader.specs.declared.Said.the-variants.{Accepted, Refused}
 use Rattle.reader.specs.declared.Answer.{Answer}
 use Rattle.reader.specs.Calls.{oneCall, allCall, sortCall, exprCall, bindCall, solutionCall, asSaid}
-use Rattle.replay.specs.declared.line.Line.{Line}
-use Rattle.replay.specs.declared.slices.Reply.{Reply}
-use Rattle.replay.specs.Spelled.{bytesIn, wordsIn}
-use Rattle.replay.specs.Recorded.{patterns, isRecorded, isClear}
+use Rattle.recorded.specs.declared.line.Line.{Line}
+use Rattle.recorded.specs.declared.slices.Reply.{Reply}
+use Rattle.recorded.specs.Spelled.{bytesIn, wordsIn}
+use Rattle.recorded.specs.Recorded.{patterns, isRecorded, isClear}
 
 -- The numbers of what a reader says, at the count of the reader that comes back. After a refusal nothing is reported.
 abbrev pub replyTo : Said → ℕ → Reply

@@ -1,6 +1,2 @@
-pub mod Numbers
-pub mod Fields
-pub mod Spelled
-pub mod Recorded
 pub mod Called
 pub mod Tally

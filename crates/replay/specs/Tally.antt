@@ -5,9 +5,9 @@ use mathlib.Core.Path.{_≡_}
 use mathlib.Core.List.{List}
 use lib.Dec.{eqb}
 use Rattle.reading.specs.Pick.{pick}
-use Rattle.replay.specs.Numbers.{most}
+use Rattle.recorded.specs.Numbers.{most}
 use Rattle.replay.specs.Called.{isRight}
-use Rattle.replay.specs.declared.line.Line.{Line}
+use Rattle.recorded.specs.declared.line.Line.{Line}
 use Rattle.replay.specs.declared.State.{State}
 
 -- One more, and no more than the largest number.

@@ -1,15 +1,15 @@
 // One call of a reader.
 ghost use mathlib.Core.Path.{_≡_};
-ghost use Rattle.replay.specs.Recorded.{isClear, filled};
+ghost use Rattle.recorded.specs.Recorded.{isClear, filled};
 ghost use Rattle.session.specs.Session.{outcome};
 ghost use Rattle.replay.specs.Called.{replyTo, callOf, Ran, isOutcome, isSameOn, countOn, isSame, countAfter};
-use crate::input::put_bytes;
-use crate::input::put_words;
-use crate::line::Line;
-use crate::slices::Reply;
-use crate::slices::fill;
-use crate::slices::is_recorded;
-use crate::slices::is_zero;
+use recorded::input::put_bytes;
+use recorded::input::put_words;
+use recorded::line::Line;
+use recorded::slices::Reply;
+use recorded::slices::fill;
+use recorded::slices::is_recorded;
+use recorded::slices::is_zero;
 
 // The reader that came back, and whether the answer was the recorded one.
 pub struct Done {

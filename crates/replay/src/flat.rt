@@ -1,12 +1,12 @@
 // One call of flattening.
 ghost use mathlib.Core.Path.{_≡_};
-ghost use Rattle.replay.specs.Recorded.{filled};
+ghost use Rattle.recorded.specs.Recorded.{filled};
 ghost use Rattle.replay.specs.Called.{flatReply, isFlattened, isFlat};
-use crate::input::put_words;
-use crate::line::Line;
-use crate::slices::Reply;
-use crate::slices::fill;
-use crate::slices::is_recorded;
+use recorded::input::put_words;
+use recorded::line::Line;
+use recorded::slices::Reply;
+use recorded::slices::fill;
+use recorded::slices::is_recorded;
 
 // The most words that are recorded.
 const WORDS: usize = 8192;

@@ -1,4 +1,4 @@
-// Replays recorded answers from standard input, a call and its answer a line (line.rt), and says how many there were and how many differ.
+// Replays recorded answers from standard input, a call and its answer a line (crates/recorded/src/line.rt), and says how many there were and how many differ.
 // A call is made on the reader that the last call returned if that one's count is where the line starts, and on a new one if not.
 ghost use mathlib.Core.Path.{_≡_};
 ghost use mathlib.Core.Bool.{true};
@@ -6,16 +6,12 @@ ghost use Rattle.replay.specs.Tally.{more as moreOf, Told, Stepped};
 
 mod call;
 mod flat;
-mod input;
-mod line;
-mod numbers;
-mod slices;
 
 use crate::call::Done;
 use crate::call::text_line;
 use crate::flat::flatten_line;
-use crate::line::Line;
-use crate::line::line_at;
+use recorded::line::Line;
+use recorded::line::line_at;
 
 // What was replayed so far, and the reader that the last call returned.
 struct State {

@@ -1,0 +1,5 @@
+pub mod Digits
+pub mod Places
+pub mod Parts
+pub mod Storing
+pub mod Compared
