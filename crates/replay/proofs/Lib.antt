@@ -4,3 +4,4 @@ pub mod Parts
 pub mod Storing
 pub mod Compared
 pub mod Calling
+pub mod Tallying
