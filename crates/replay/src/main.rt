@@ -2,7 +2,10 @@
 // A call is made on the reader that the last call returned if that one's count is where the line starts, and on a new one if not.
 ghost use mathlib.Core.Path.{_≡_};
 ghost use mathlib.Core.Bool.{true};
-ghost use Rattle.replay.specs.Tally.{more as moreOf, Told, Stepped};
+ghost use Prim.Native.Nat.{min};
+ghost use lib.ListN.{length};
+ghost use Rattle.recorded.specs.Numbers.{most};
+ghost use Rattle.replay.specs.Tally.{more as moreOf, Told, Stepped, linesOf, wrong};
 
 mod call;
 mod flat;
@@ -40,8 +43,10 @@ fn main() {
     }
 }
 
-// All lines.
-fn replay(lines: &[u8]) -> State {
+// All lines: how many there are, and how many have another answer than the recorded one.
+fn replay(lines: &[u8]) -> State
+    ensures { λ r. ⌜ (r .answers ≡ min most (length (linesOf (now (lines .entry))))) × (r .differing ≡ min most (wrong (now (lines .entry)) (linesOf (now (lines .entry))))) ⌝ }
+{
     let mut at: usize = 0;
     let mut state = State {
         reader: reader::Reader::open(0),
