@@ -15,8 +15,8 @@ use Rattle.session.specs.Compute.{readerComputes}
 abbrev pub sevens : ℕ → List ℕ
 sevens n = replicate n 7
 
-abbrev pub zeros : ℕ → List ℕ
-zeros n = replicate n 0
+abbrev pub blank : ℕ → List ℕ
+blank n = replicate n 0
 
 -- A call with slices of so many words: tree, draft, output.
 abbrev pub lends : ℕ → ℕ → ℕ → Op → String → Call
@@ -37,18 +37,18 @@ row call left = record { call = call; left = left }
 abbrev pub rows : List Row
 rows =
     row (lends 0 0 4 readOne "a b") (leaves (accepted 3 1) 5 [] [] (16 ∷ 0 ∷ 1 ∷ 7 ∷ []))
-    ∷ row (lends 0 0 4 readOne ")") (leaves (refused 4) 5 [] [] (zeros 4))
+    ∷ row (lends 0 0 4 readOne ")") (leaves (refused 4) 5 [] [] (blank 4))
     ∷ row (lends 0 0 7 readAll "a b") (leaves (accepted 2 6) 5 [] [] (16 ∷ 0 ∷ 1 ∷ 16 ∷ 2 ∷ 1 ∷ 7 ∷ []))
-    ∷ row (lends 0 0 5 readAll "a b") (leaves (refused 7) 5 [] [] (zeros 5))
-    ∷ row (lends 4 0 3 sort "Int") (leaves (accepted 1 0) 5 (zeros 4) [] (1 ∷ 7 ∷ 7 ∷ []))
-    ∷ row (lends 4 0 3 sort "Size") (leaves (refused 8) 5 (zeros 4) [] (zeros 3))
-    ∷ row (lends 21 0 9 expression "(exists ((x Int)) x)") (leaves (accepted 8 0) 6 (zeros 21) [] (51 ∷ 1 ∷ 5 ∷ 0 ∷ 1 ∷ 36 ∷ 5 ∷ 0 ∷ 7 ∷ []))
-    ∷ row (lends 21 0 7 expression "(exists ((x Int)) x)") (leaves (refused 7) 5 (zeros 21) [] (zeros 7))
-    ∷ row (lends 21 0 9 bind "((x Int) (x))") (leaves (accepted 8 0) 5 (zeros 21) [] (2 ∷ 1 ∷ 1 ∷ 1 ∷ 65 ∷ 37 ∷ 10 ∷ 1 ∷ 7 ∷ []))
-    ∷ row (lends 21 0 9 bind "((x Int) (nan))") (leaves (refused 9) 5 (zeros 21) [] (zeros 9))
+    ∷ row (lends 0 0 5 readAll "a b") (leaves (refused 7) 5 [] [] (blank 5))
+    ∷ row (lends 4 0 3 sort "Int") (leaves (accepted 1 0) 5 (blank 4) [] (1 ∷ 7 ∷ 7 ∷ []))
+    ∷ row (lends 4 0 3 sort "Size") (leaves (refused 8) 5 (blank 4) [] (blank 3))
+    ∷ row (lends 21 0 9 expression "(exists ((x Int)) x)") (leaves (accepted 8 0) 6 (blank 21) [] (51 ∷ 1 ∷ 5 ∷ 0 ∷ 1 ∷ 36 ∷ 5 ∷ 0 ∷ 7 ∷ []))
+    ∷ row (lends 21 0 7 expression "(exists ((x Int)) x)") (leaves (refused 7) 5 (blank 21) [] (blank 7))
+    ∷ row (lends 21 0 9 bind "((x Int) (x))") (leaves (accepted 8 0) 5 (blank 21) [] (2 ∷ 1 ∷ 1 ∷ 1 ∷ 65 ∷ 37 ∷ 10 ∷ 1 ∷ 7 ∷ []))
+    ∷ row (lends 21 0 9 bind "((x Int) (nan))") (leaves (refused 9) 5 (blank 21) [] (blank 9))
     ∷ row (lends 64 10 15 solution "(lambda ((x Int)) (< x 5))")
-    (leaves (accepted 14 0) 6 (zeros 64) (zeros 10) (1 ∷ 5 ∷ 0 ∷ 1 ∷ 47 ∷ 4 ∷ 36 ∷ 5 ∷ 0 ∷ 32 ∷ 5 ∷ 0 ∷ 0 ∷ 0 ∷ 7 ∷ []))
-    ∷ row (lends 64 9 15 solution "(lambda ((x Int)) (< x 5))") (leaves (refused 7) 5 (zeros 64) (zeros 9) (zeros 15))
+    (leaves (accepted 14 0) 6 (blank 64) (blank 10) (1 ∷ 5 ∷ 0 ∷ 1 ∷ 47 ∷ 4 ∷ 36 ∷ 5 ∷ 0 ∷ 32 ∷ 5 ∷ 0 ∷ 0 ∷ 0 ∷ 7 ∷ []))
+    ∷ row (lends 64 9 15 solution "(lambda ((x Int)) (< x 5))") (leaves (refused 7) 5 (blank 64) (blank 9) (blank 15))
     ∷ []
 
 unfoldable pub leftBy : List Row → List Outcome
@@ -73,7 +73,7 @@ flatRow input out said left = record { input = input; out = out; said = said; le
 abbrev pub flatRows : List FlatRow
 flatRows =
     flatRow (38 ∷ 0 ∷ 1 ∷ 37 ∷ 4 ∷ 1 ∷ 38 ∷ 0 ∷ 1 ∷ 37 ∷ 2 ∷ 1 ∷ 37 ∷ 0 ∷ 1 ∷ []) 13 (accepted 12 0) (38 ∷ 0 ∷ 2 ∷ 37 ∷ 2 ∷ 1 ∷ 37 ∷ 4 ∷ 1 ∷ 37 ∷ 0 ∷ 1 ∷ 7 ∷ [])
-    ∷ flatRow (38 ∷ 0 ∷ 1 ∷ 37 ∷ 4 ∷ 1 ∷ []) 4 (refused 14) (zeros 4)
+    ∷ flatRow (38 ∷ 0 ∷ 1 ∷ 37 ∷ 4 ∷ 1 ∷ []) 4 (refused 14) (blank 4)
     ∷ []
 
 pub record FlatLeft : Type 0 where
