@@ -10,7 +10,7 @@ use Rattle.reading.specs.Answer.{zeros, over}
 use Rattle.recorded.specs.declared.line.Line.{Line}
 use Rattle.recorded.specs.declared.slices.Reply.{Reply}
 
--- The word that stands at an index of a slice before a call: a5a50000 and the index, whose lower 16 bits it takes.
+-- The word that stands at an index of a slice before a call: a5a5 in its upper 16 bits, and the index modulo 2^16 in its lower ones.
 unfoldable pub pattern : ℕ → ℕ
 pattern i = 2779054080 + i % 65536
 

@@ -16,7 +16,7 @@ use Rattle.replay.specs.declared.State.{State}
 abbrev pub more : ℕ → ℕ
 more n = min most (n + 1)
 
--- One answer more is counted, and if it is not the recorded one, one more that differs; the first such has its number noted.
+-- One answer more is counted, and if it is not the recorded one, one more that differs. The number of the first such is noted, counted from 1.
 pub record Told (before : State) (same : Bool) (after : State) : Type 0 where
   pub reader : after .reader ≡ before .reader
   pub opened : after .opened ≡ before .opened
@@ -25,7 +25,7 @@ pub record Told (before : State) (same : Bool) (after : State) : Type 0 where
   pub differing : after .differing ≡ pick same (before .differing) (more (before .differing))
   pub first : after .first ≡ pick same (before .first) (pick (eqb (before .differing) 0) (more (before .answers)) (before .first))
 
--- One line more.
+-- The same for a line: its answer is the recorded one, or differs.
 pub record Stepped (lines : List ℕ) (line : Line) (before after : State) : Type 0 where
   pub answers : after .answers ≡ more (before .answers)
   pub differing : after .differing ≡ pick (isRight lines line) (before .differing) (more (before .differing))

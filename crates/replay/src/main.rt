@@ -1,5 +1,6 @@
 // Replays recorded answers from standard input, a call and its answer a line (crates/recorded/src/line.rt), and says how many there were and how many differ.
 // A call is made on the reader that the last call returned if that one's count is where the line starts, and on a new one if not.
+// What it counts is proved: how many lines there are, and how many record another answer than the definitions give (specs/Tally.antt).
 ghost use mathlib.Core.Path.{_≡_};
 ghost use mathlib.Core.Bool.{true};
 ghost use Prim.Native.Nat.{min};
