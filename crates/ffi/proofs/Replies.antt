@@ -18,15 +18,14 @@ use Rattle.session.proofs.Unreported.{count-kept, reportsTwo, NoSecond, second-
 use Rattle.reader.specs.Calls.{asSaid}
 use Rattle.reader.specs.Sessions as reader
 use Rattle.reader.specs.declared.Said.the-variants.{Accepted, Refused}
+use Rattle.reader.proofs.Saying.{said-accepted, said-refused}
 use Rattle.ffi.specs.Reply.{refusalOf, firstOf, secondOf, counted, Promised, flat, Flattened}
 
 by-accepted : (s : answer.Said) (a b : ℕ) → asSaid s ≡ Accepted a b → (0 ≡ refusalOf s) × (a ≡ firstOf s) × (b ≡ secondOf s)
-by-accepted (answer.accepted x y) a b e = (refl, cc, cc)
-by-accepted (answer.refused r) a b e = let z : _≡_ {A = ℕ} 0 1 = cc in absurd (omega arith)
+by-accepted s a b e = rw (← said-accepted s (sym e)) (refl, refl, refl)
 
 by-refused : (s : answer.Said) (r : ℕ) → asSaid s ≡ Refused r → (r ≡ refusalOf s) × (0 ≡ firstOf s) × (0 ≡ secondOf s)
-by-refused (answer.accepted x y) r e = let z : _≡_ {A = ℕ} 0 1 = cc in absurd (omega arith)
-by-refused (answer.refused q) r e = (cc, refl, refl)
+by-refused s r e = rw (← said-refused s (sym e)) (refl, refl, refl)
 
 -- A promised reply of the reader, whose count n is the count c that it was opened at, as a C function's.
 module _ {call : Call} {n c : ℕ} {r : reader.Reply} (opened : n ≡ c) (p : reader.Promised call n r) where

@@ -1,15 +1,15 @@
 -- Demand 3 of the C functions: what they return is a session on one reader.
-use Prim.Native.Nat.{ℕ, _≤_, _<_}
-use mathlib.Core.Path.{_≡_, refl, sym, ap, subst, _∙_}
+use Prim.Native.Nat.{ℕ, _≤_}
+use mathlib.Core.Path.{_≡_, refl, sym, ap, _∙_}
 use mathlib.Core.Bool.{Bool, true, false}
 use mathlib.Core.List.{List, [], _∷_}
 use native.Mathlib.Omega.{arith}
 use lib.Dec.{eqb}
-use borrow.Author.Tests.{eq-eqb, ne-eqb}
+use borrow.Author.Tests.{ne-eqb}
 use Rattle.reading.specs.Limits.{maxNumber}
 use Rattle.reading.specs.Pick.{pick}
 use Rattle.reading.specs.Answer as answer
-use Rattle.session.specs.Session.{Call, Outcome, outcome}
+use Rattle.session.specs.Session.{Call, outcome}
 use Rattle.session.specs.Compared.{readsOrSorts}
 use Rattle.session.proofs.Unreported.{Positive, positive, count-kept, read-anywhere}
 use Rattle.reader.specs.Calls.{asSaid}

@@ -12,7 +12,7 @@ use Rattle.reading.specs.Limits.{maxNumber}
 use Rattle.reading.specs.Pick.{pick}
 use Rattle.grammar.specs.Sort.{sInt, sortWords}
 use Rattle.grammar.specs.Item.{Item, plain, uses, binds, raise, wordsOf, used, bound}
-use Rattle.grammar.specs.Expr.{Expr, leaf, node, oneOf, econs, enil, exprs, Binder, binderItems, kindItems, kFresh, kBool, kAnd, kExists, Solution}
+use Rattle.grammar.specs.Expr.{Expr, leaf, node, oneOf, econs, exprs, Binder, binderItems, kindItems, kFresh, kBool, kAnd, kExists}
 use Rattle.grammar.specs.Numbers.{hit, times, Exactly}
 use Rattle.grammar.specs.Scoped.{Scoped, ScopedSolution}
 

@@ -3,12 +3,11 @@ use Prim.Native.Nat.{ℕ, _+_, _≤_}
 use mathlib.Core.Path.{_≡_, ap, subst, _∙_}
 use mathlib.Core.Bool.{Bool, true, false}
 use native.Mathlib.Omega.{arith}
-use lib.Dec.{leb}
 use lib.ListN.{length}
 use borrow.Author.Tests.{leb-true}
 use Rattle.reading.specs.Pick.{pick}
 use Rattle.reading.specs.Limits.{maxNumber}
-use Rattle.reading.specs.Answer.{Res, ok, accepts, refuses, fitsIn}
+use Rattle.reading.specs.Answer.{Res, ok, refuses, fitsIn}
 use Rattle.grammar.specs.Item.{wordsOf}
 use Rattle.grammar.proofs.Raise.{words-raise}
 use Rattle.grammar.proofs.Post.{Post}

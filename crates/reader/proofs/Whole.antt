@@ -1,5 +1,5 @@
 -- Demand 3, proved: the claim about every list of calls.
-use Prim.Native.Nat.{ℕ, _+_, _≤_, _<_}
+use Prim.Native.Nat.{ℕ, _+_, _≤_}
 use mathlib.Core.Path.{_≡_, refl, sym, ap, subst, _∙_}
 use mathlib.Core.Logic.{_⊎_, inl, inr}
 use mathlib.Core.Bool.{Bool, true, false}
@@ -14,7 +14,7 @@ use Rattle.grammar.specs.Numbers.{Exactly}
 use Rattle.grammar.proofs.Exact.{exactly-none, exactly-append, exactly-raise}
 use Rattle.grammar.proofs.Raise.{raise-zero}
 use Rattle.session.specs.Session.{Call, Term, termItems, made, roomFor, final, boundBy}
-use Rattle.session.specs.Compared.{readsOrSorts, Agree, SameText, LongEnough}
+use Rattle.session.specs.Compared.{readsOrSorts, Agree}
 use Rattle.session.proofs.Calls.{made-same, final-same, decides-early, decides-spent, decides-short, room-same, not-spent}
 use Rattle.reader.specs.Sessions.{Reply, Promised, Turn, Session, lastCount}
 use Rattle.reader.specs.Demand3.{BothRefuse, BothAccept, Answered, AllAnswered, boundIn, Early, Later, Alike, early, later, Demand3}

@@ -1,6 +1,5 @@
 -- Hypotheses of demand 3 that can be met: every call agrees with itself, and for every call and answer there is one that is long enough.
-use mathlib.Core.Path.{_≡_, refl}
-use mathlib.Core.Bool.{true}
+use mathlib.Core.Path.{refl}
 use native.Mathlib.Omega.{arith}
 use lib.ListN.{length}
 use borrow.Author.Tests.{le-leb}
