@@ -1,15 +1,14 @@
 use mathlib.Core.Path.{sym, _∙_}
 use Rattle.replay.specs.Recorded.{isRecorded}
 use Rattle.replay.proofs.Compared.{and-no, and-yes}
-use borrow.Author.Needs.{needs}
 use Rattle.replay.proofs.slices.is_recorded.Statement.{statement}
 use Rattle.replay.proofs.slices.is_recorded.Tie as tie
 
 is-output-requires : tie.Need-is-output-requires
-is-output-requires c κs = search needs
+is-output-requires c κs = tt
 
 is-reply-requires : tie.Need-is-reply-requires
-is-reply-requires c κs = search needs
+is-reply-requires c κs = tt
 
 returns : tie.Need-returns
 unfolding isRecorded
