@@ -1,71 +1,70 @@
 use Rattle.recorded.specs.Fields.{lineAt}
 use Rattle.recorded.proofs.Places.{field-next, number-in, field-first, line-equal}
-use borrow.Author.Needs.{needs}
 use Rattle.recorded.proofs.line.line_at.Statement.{statement}
 use Rattle.recorded.proofs.line.line_at.Tie as tie
 
 next-field-requires : tie.Need-next-field-requires
-next-field-requires c κs = search needs
+next-field-requires c κs = tt
 
 next-field-requires-2 : tie.Need-next-field-requires-2
-next-field-requires-2 c κs = search needs
+next-field-requires-2 c κs = tt
 
 next-field-requires-3 : tie.Need-next-field-requires-3
-next-field-requires-3 c κs = search needs
+next-field-requires-3 c κs = tt
 
 next-field-requires-4 : tie.Need-next-field-requires-4
-next-field-requires-4 c κs = search needs
+next-field-requires-4 c κs = tt
 
 next-field-requires-5 : tie.Need-next-field-requires-5
-next-field-requires-5 c κs = search needs
+next-field-requires-5 c κs = tt
 
 next-field-requires-6 : tie.Need-next-field-requires-6
-next-field-requires-6 c κs = search needs
+next-field-requires-6 c κs = tt
 
 next-field-requires-7 : tie.Need-next-field-requires-7
-next-field-requires-7 c κs = search needs
+next-field-requires-7 c κs = tt
 
 next-field-requires-8 : tie.Need-next-field-requires-8
-next-field-requires-8 c κs = search needs
+next-field-requires-8 c κs = tt
 
 next-field-requires-9 : tie.Need-next-field-requires-9
-next-field-requires-9 c κs = search needs
+next-field-requires-9 c κs = tt
 
 next-field-requires-10 : tie.Need-next-field-requires-10
-next-field-requires-10 c κs = search needs
+next-field-requires-10 c κs = tt
 
 next-field-requires-11 : tie.Need-next-field-requires-11
-next-field-requires-11 c κs = search needs
+next-field-requires-11 c κs = tt
 
 byte-at-requires : tie.Need-byte-at-requires
-byte-at-requires c κs = search needs
+byte-at-requires c κs = tt
 
 decimal-requires : tie.Need-decimal-requires
-decimal-requires c κs = search needs
+decimal-requires c κs = tt
 
 decimal-requires-2 : tie.Need-decimal-requires-2
-decimal-requires-2 c κs = search needs
+decimal-requires-2 c κs = tt
 
 decimal-requires-3 : tie.Need-decimal-requires-3
-decimal-requires-3 c κs = search needs
+decimal-requires-3 c κs = tt
 
 decimal-requires-4 : tie.Need-decimal-requires-4
-decimal-requires-4 c κs = search needs
+decimal-requires-4 c κs = tt
 
 decimal-requires-5 : tie.Need-decimal-requires-5
-decimal-requires-5 c κs = search needs
+decimal-requires-5 c κs = tt
 
 decimal-requires-6 : tie.Need-decimal-requires-6
-decimal-requires-6 c κs = search needs
+decimal-requires-6 c κs = tt
 
 decimal-requires-7 : tie.Need-decimal-requires-7
-decimal-requires-7 c κs = search needs
+decimal-requires-7 c κs = tt
 
 decimal-requires-8 : tie.Need-decimal-requires-8
-decimal-requires-8 c κs = search needs
+decimal-requires-8 c κs = tt
 
 next-field-requires-12 : tie.Need-next-field-requires-12
-next-field-requires-12 c κs = search needs
+next-field-requires-12 c κs = tt
 
 returns : tie.Need-returns
 unfolding lineAt

@@ -3,7 +3,6 @@ use mathlib.Core.Path.{refl}
 use Rattle.recorded.specs.Fields.{ends}
 use Rattle.recorded.specs.Numbers.{digit}
 use Rattle.reading.proofs.Picks.{picks, pick-ne, pick-lt, pick-ge}
-use borrow.Author.Needs.{needs}
 use Rattle.recorded.proofs.numbers.ends.Statement.{statement}
 use Rattle.recorded.proofs.numbers.ends.Tie as tie
 
@@ -24,7 +23,7 @@ unfolding ends
 returns-4 c = search picks depth 24
 
 digit-requires : tie.Need-digit-requires
-digit-requires c κs = search needs
+digit-requires c κs = tt
 
 returns-5 : tie.Need-returns-5
 unfolding ends

@@ -4,7 +4,7 @@ use Rattle.recorded.proofs.numbers.next_field.Statement.{statement}
 use Rattle.recorded.proofs.numbers.next_field.Tie as tie
 
 end-from-requires : tie.Need-end-from-requires
-end-from-requires c κs = search needs
+end-from-requires c κs = tt
 
 add-result : tie.Need-add-result
 add-result c = search needs

@@ -14,7 +14,7 @@ returns : tie.Need-returns
 returns c = pick-lt _ (c .before .if1 .taken) refl
 
 pattern-requires : tie.Need-pattern-requires
-pattern-requires c κs = search needs
+pattern-requires c κs = tt
 
 returns-2 : tie.Need-returns-2
 returns-2 c = pick-ge _ (c .before .if1 .left) (c .pattern .ensures)

@@ -3,7 +3,6 @@ use borrow.Author.Tests.{not-true, not-false}
 use Rattle.reading.proofs.Picks.{pick-eq, pick-ne}
 use Rattle.recorded.specs.Recorded.{isClear}
 use Rattle.recorded.proofs.Compared.{and-no, and-yes}
-use borrow.Author.Needs.{needs}
 use Rattle.replay.proofs.call.is_clear.Statement.{statement}
 use Rattle.replay.proofs.call.is_clear.Tie as tie
 
@@ -16,14 +15,14 @@ unfolding isClear
 returns-2 c = pick-ne _ (c .before .if1 .left) (pick-eq _ (c .if2 .taken) refl)
 
 is-zero-requires : tie.Need-is-zero-requires
-is-zero-requires c κs = search needs
+is-zero-requires c κs = tt
 
 returns-3 : tie.Need-returns-3
 unfolding isClear
 returns-3 c = pick-ne _ (c .before .before .before .if1 .left) (pick-ne _ (c .before .before .if2 .left) (and-no _ (sym (c .before .is-zero .ensures) ∙ not-true _ (c .if3 .taken))))
 
 is-zero-requires-2 : tie.Need-is-zero-requires-2
-is-zero-requires-2 c κs = search needs
+is-zero-requires-2 c κs = tt
 
 returns-4 : tie.Need-returns-4
 unfolding isClear

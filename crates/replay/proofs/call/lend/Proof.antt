@@ -10,7 +10,7 @@ slice-aggregate-put-words : tie.Need-slice-aggregate-put-words
 slice-aggregate-put-words c = search needs
 
 put-words-requires : tie.Need-put-words-requires
-put-words-requires c κs = search needs
+put-words-requires c κs = tt
 
 returns : tie.Need-returns
 returns c = long-words (c .before .before .before .before .before .before .args .lines .now) (c .before .before .before .before .before .before .args .line) (c .before .before .before .before .before .before .args .text .now) (c .before .before .before .before .before .before .args .reader .next) (c .before .before .put-words .ensures .0) (c .if1 .taken)
@@ -49,7 +49,7 @@ slice-aggregate-asked-4 : tie.Need-slice-aggregate-asked-4
 slice-aggregate-asked-4 c = sym (length-take-le _ _ (array-borrow-prefix-out (c .before)))
 
 asked-requires : tie.Need-asked-requires
-asked-requires c κs = search needs
+asked-requires c κs = tt
 
 returns-5 : tie.Need-returns-5
 returns-5 c =

@@ -4,22 +4,22 @@ use Rattle.replay.proofs.call.run.Statement.{statement}
 use Rattle.replay.proofs.call.run.Tie as tie
 
 read-one-requires : tie.Need-read-one-requires
-read-one-requires c κs = search needs
+read-one-requires c κs = tt
 
 read-all-requires : tie.Need-read-all-requires
-read-all-requires c κs = search needs
+read-all-requires c κs = tt
 
 sort-requires : tie.Need-sort-requires
-sort-requires c κs = search needs
+sort-requires c κs = tt
 
 expression-requires : tie.Need-expression-requires
-expression-requires c κs = search needs
+expression-requires c κs = tt
 
 bind-requires : tie.Need-bind-requires
-bind-requires c κs = search needs
+bind-requires c κs = tt
 
 solution-requires : tie.Need-solution-requires
-solution-requires c κs = search needs
+solution-requires c κs = tt
 
 same-length : tie.Need-same-length
 same-length c = search needs

@@ -22,7 +22,7 @@ slice-aggregate-lend : tie.Need-slice-aggregate-lend
 slice-aggregate-lend c = sym (length-take-le _ _ (array-share-prefix-text (c .before)))
 
 lend-requires : tie.Need-lend-requires
-lend-requires c κs = search needs
+lend-requires c κs = tt
 
 returns-2 : tie.Need-returns-2
 returns-2 c =

@@ -10,7 +10,7 @@ slice-aggregate-put-words : tie.Need-slice-aggregate-put-words
 slice-aggregate-put-words c = search needs
 
 put-words-requires : tie.Need-put-words-requires
-put-words-requires c κs = search needs
+put-words-requires c κs = tt
 
 returns : tie.Need-returns
 returns c = flat-given (c .before .before .before .before .before .args .lines .now) (c .before .before .before .before .before .args .line) (c .before .before .put-words .ensures .0) (c .if1 .taken)
@@ -19,7 +19,7 @@ slice-aggregate-put-words-2 : tie.Need-slice-aggregate-put-words-2
 slice-aggregate-put-words-2 c = search needs
 
 put-words-requires-2 : tie.Need-put-words-requires-2
-put-words-requires-2 c κs = search needs
+put-words-requires-2 c κs = tt
 
 returns-2 : tie.Need-returns-2
 returns-2 c = flat-words (c .before .before .before .before .before .before .before .before .before .args .lines .now) (c .before .before .before .before .before .before .before .before .before .args .line) (c .before .before .before .before .before .before .put-words .ensures .0) (c .before .before .before .before .if1 .left) (c .before .before .put-words2 .ensures .0) (c .if2 .taken)
@@ -46,7 +46,7 @@ slice-aggregate-is-flattened-3 : tie.Need-slice-aggregate-is-flattened-3
 slice-aggregate-is-flattened-3 c = sym (length-take-le _ _ (array-borrow-prefix-out (c .before)))
 
 is-flattened-requires : tie.Need-is-flattened-requires
-is-flattened-requires c κs = search needs
+is-flattened-requires c κs = tt
 
 returns-4 : tie.Need-returns-4
 returns-4 c =

@@ -4,16 +4,16 @@ use Rattle.replay.proofs.flat.is_flattened.Statement.{statement}
 use Rattle.replay.proofs.flat.is_flattened.Tie as tie
 
 fill-requires : tie.Need-fill-requires
-fill-requires c κs = search needs
+fill-requires c κs = tt
 
 flatten-requires : tie.Need-flatten-requires
-flatten-requires c κs = search needs
+flatten-requires c κs = tt
 
 reply-requires : tie.Need-reply-requires
-reply-requires c κs = search needs
+reply-requires c κs = tt
 
 is-recorded-requires : tie.Need-is-recorded-requires
-is-recorded-requires c κs = search needs
+is-recorded-requires c κs = tt
 
 same-length : tie.Need-same-length
 same-length c = search needs
