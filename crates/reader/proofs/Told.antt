@@ -7,7 +7,7 @@ use native.Mathlib.Omega.{arith}
 use lib.ListN.{length}
 use Rattle.reading.specs.Limits.{maxNumber}
 use Rattle.reading.specs.Answer as answer
-use Rattle.reading.specs.Answer.{Final, accepts, refuses, saidOf, countOf}
+use Rattle.reading.specs.Answer.{Final, accepts, refuses, zeros, saidOf, countOf, outputOf}
 use Rattle.text.specs.Answers.{asAnswer}
 use Rattle.reading.specs.Reading.{readWords, readReport, readFinal, readSaid}
 use Rattle.text.specs.declared.Answer.{Answer}
@@ -22,6 +22,8 @@ use Rattle.sorts.specs.declared.Answer as sorts
 use Rattle.sorts.specs.declared.Answer.the-variants as parsed
 use Rattle.session.specs.Session.{Call, outcome}
 use Rattle.reader.specs.Calls.{sortCall, asSaid}
+use Rattle.reader.specs.Sessions.{Promised}
+use Rattle.reader.specs.declared.Said.{Said}
 use Rattle.reader.specs.declared.Said.the-variants.{Accepted, Refused}
 use Rattle.reader.proofs.Outcomes.{Known, KnownItems, count-read, sort-known, count-sort}
 
@@ -78,3 +80,9 @@ module _ {A : Type 0} (items : A → List Item) (call : Call) (c : ℕ) (f : Fin
       go : (g : Final A) → countedBy items c g ≡ counted.Refused r → (Refused r ≡ asSaid (saidOf (λ a. answer.accepted (length (wordsOf (items a))) 0) g)) × (c ≡ countOf c g)
       go (accepts a m) e = let z : _≡_ {A = ℕ} 0 1 = cc in absurd (omega arith)
       go (refuses q) e = (cc, refl)
+
+-- A reply is promised, by what is known of its call, by what is said with which count, and by what the function below left in the slices.
+pub reply : {A : Type 0} {call : Call} {c : ℕ} {words : A → List ℕ} {numbers : A → answer.Said} {f : Final A} → Known call c words numbers f → {said : Said} {next : ℕ} {tree draft out : List ℕ}
+    → (said ≡ asSaid (outcome call c .said)) × (next ≡ outcome call c .count) → tree ≡ zeros (call .tree) → draft ≡ zeros (call .draft) → out ≡ outputOf words f (call .out)
+    → Promised call c (record { said = said; next = next; tree = tree; draft = draft; out = out })
+reply k q t d o = record { said = q .0; count = q .1; working = t ∙ k .tree; body = d ∙ k .draft; output = o ∙ k .out }

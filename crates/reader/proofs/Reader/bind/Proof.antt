@@ -1,7 +1,7 @@
-use mathlib.Core.Path.{_∙_}
+use mathlib.Core.Path.{refl}
 use Rattle.grammar.specs.Expr.{bindItems}
 use Rattle.reader.proofs.Outcomes.{bind-known}
-use Rattle.reader.proofs.Told.{counted-done, counted-refused}
+use Rattle.reader.proofs.Told.{counted-done, counted-refused, reply}
 use borrow.Author.Needs.{needs}
 use Rattle.reader.proofs.Reader.bind.Statement.{statement}
 use Rattle.reader.proofs.Reader.bind.Tie as tie
@@ -27,7 +27,7 @@ returns c =
     let e = c .before .before .before .before .before .before .before .bind .ensures in
     let k = bind-known (a .text .now) (a .tree .now) (a .out .now) (a .self .next) in
     let q = counted-done bindItems _ _ _ k _ _ _ (c .before .words .given .1) (e .0) in
-    record { said = q .0; count = q .1; working = e .1 .0 ∙ k .tree; body = k .draft; output = e .1 .1 ∙ k .out }
+    reply k q (e .1 .0) refl (e .1 .1)
 
 same-length-3 : tie.Need-same-length-3
 same-length-3 c = search needs
@@ -41,7 +41,7 @@ returns-2 c =
     let e = c .before .before .before .before .before .before .before .bind .ensures in
     let k = bind-known (a .text .now) (a .tree .now) (a .out .now) (a .self .next) in
     let q = counted-refused bindItems _ _ _ k _ _ (c .before .r .given .1) (e .0) in
-    record { said = q .0; count = q .1; working = e .1 .0 ∙ k .tree; body = k .draft; output = e .1 .1 ∙ k .out }
+    reply k q (e .1 .0) refl (e .1 .1)
 
 pub bind-spec : {M : Type 1} → statement M
 bind-spec =

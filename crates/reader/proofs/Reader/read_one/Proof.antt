@@ -1,11 +1,11 @@
-use mathlib.Core.Path.{_∙_}
+use mathlib.Core.Path.{refl}
 use mathlib.Core.Bool.{false}
 use Prim.Native.Nat.{_≤_}
 use native.Mathlib.Omega.{arith}
 use Rattle.reading.specs.Limits.{maxNumber}
 use Rattle.reading.specs.Reading.{readOut}
 use Rattle.reader.proofs.Outcomes.{one-known}
-use Rattle.reader.proofs.Told.{read-accepted, read-refused}
+use Rattle.reader.proofs.Told.{read-accepted, read-refused, reply}
 use borrow.Author.Needs.{needs}
 use Rattle.reader.proofs.Reader.read_one.Statement.{statement}
 use Rattle.reader.proofs.Reader.read_one.Tie as tie
@@ -30,7 +30,7 @@ returns c =
     let small : a .self .next ≤ maxNumber = omega arith in
     let k = one-known (a .text .now) (a .out .now) (a .self .next) small in
     let q = read-accepted false (a .text .now) (a .out .now) _ (a .self .next) small k _ _ _ (c .before .words .given .1) (e .0) in
-    record { said = q .0; count = q .1; working = k .tree; body = k .draft; output = e .1 ∙ k .out }
+    reply k q refl refl (e .1)
 
 same-length-2 : tie.Need-same-length-2
 same-length-2 c = search needs
@@ -43,7 +43,7 @@ returns-2 c =
     let small : a .self .next ≤ maxNumber = omega arith in
     let k = one-known (a .text .now) (a .out .now) (a .self .next) small in
     let q = read-refused false (a .text .now) (a .out .now) _ (a .self .next) small k _ _ (c .before .r .given .1) (e .0) in
-    record { said = q .0; count = q .1; working = k .tree; body = k .draft; output = e .1 ∙ k .out }
+    reply k q refl refl (e .1)
 
 pub read-one-spec : {M : Type 1} → statement M
 read-one-spec =

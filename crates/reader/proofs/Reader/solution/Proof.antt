@@ -1,7 +1,6 @@
-use mathlib.Core.Path.{_∙_}
 use Rattle.flatten.specs.Operations.{flatItems}
 use Rattle.reader.proofs.Outcomes.{solution-known}
-use Rattle.reader.proofs.Told.{counted-done, counted-refused}
+use Rattle.reader.proofs.Told.{counted-done, counted-refused, reply}
 use borrow.Author.Needs.{needs}
 use Rattle.reader.proofs.Reader.solution.Statement.{statement}
 use Rattle.reader.proofs.Reader.solution.Tie as tie
@@ -30,7 +29,7 @@ returns c =
     let e = c .before .before .before .before .before .before .before .before .before .solution .ensures in
     let k = solution-known (a .text .now) (a .tree .now) (a .out .now) (a .self .next) (a .draft .now) in
     let q = counted-done flatItems _ _ _ k _ _ _ (c .before .words .given .1) (e .0) in
-    record { said = q .0; count = q .1; working = e .1 .0 ∙ k .tree; body = e .1 .1 .0 ∙ k .draft; output = e .1 .1 .1 ∙ k .out }
+    reply k q (e .1 .0) (e .1 .1 .0) (e .1 .1 .1)
 
 same-length-4 : tie.Need-same-length-4
 same-length-4 c = search needs
@@ -47,7 +46,7 @@ returns-2 c =
     let e = c .before .before .before .before .before .before .before .before .before .solution .ensures in
     let k = solution-known (a .text .now) (a .tree .now) (a .out .now) (a .self .next) (a .draft .now) in
     let q = counted-refused flatItems _ _ _ k _ _ (c .before .r .given .1) (e .0) in
-    record { said = q .0; count = q .1; working = e .1 .0 ∙ k .tree; body = e .1 .1 .0 ∙ k .draft; output = e .1 .1 .1 ∙ k .out }
+    reply k q (e .1 .0) (e .1 .1 .0) (e .1 .1 .1)
 
 pub solution-spec : {M : Type 1} → statement M
 solution-spec =

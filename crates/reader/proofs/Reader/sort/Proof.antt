@@ -1,9 +1,9 @@
-use mathlib.Core.Path.{_∙_}
+use mathlib.Core.Path.{refl}
 use Prim.Native.Nat.{_≤_}
 use native.Mathlib.Omega.{arith}
 use Rattle.reading.specs.Limits.{maxNumber}
 use Rattle.reader.proofs.Outcomes.{sort-known}
-use Rattle.reader.proofs.Told.{sort-done, sort-refused}
+use Rattle.reader.proofs.Told.{sort-done, sort-refused, reply}
 use borrow.Author.Needs.{needs}
 use Rattle.reader.proofs.Reader.sort.Statement.{statement}
 use Rattle.reader.proofs.Reader.sort.Tie as tie
@@ -30,7 +30,7 @@ returns c =
     let small : a .self .next ≤ maxNumber = omega arith in
     let k = sort-known (a .text .now) (a .out .now) (a .self .next) small (a .tree .now) in
     let q = sort-done (a .text .now) (a .tree .now) (a .out .now) (a .self .next) small _ _ (c .before .size .given .1) (e .0) in
-    record { said = q .0; count = q .1; working = e .1 .0 ∙ k .tree; body = k .draft; output = e .1 .1 ∙ k .out }
+    reply k q (e .1 .0) refl (e .1 .1)
 
 same-length-3 : tie.Need-same-length-3
 same-length-3 c = search needs
@@ -45,7 +45,7 @@ returns-2 c =
     let small : a .self .next ≤ maxNumber = omega arith in
     let k = sort-known (a .text .now) (a .out .now) (a .self .next) small (a .tree .now) in
     let q = sort-refused (a .text .now) (a .tree .now) (a .out .now) (a .self .next) small _ _ (c .before .r .given .1) (e .0) in
-    record { said = q .0; count = q .1; working = e .1 .0 ∙ k .tree; body = k .draft; output = e .1 .1 ∙ k .out }
+    reply k q (e .1 .0) refl (e .1 .1)
 
 pub sort-spec : {M : Type 1} → statement M
 sort-spec =
