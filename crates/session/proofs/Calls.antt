@@ -8,7 +8,7 @@ use lib.Dec.{leb}
 use lib.ListN.{length}
 use Rattle.reading.specs.Limits.{maxNumber}
 use Rattle.reading.specs.Pick.{pick}
-use Rattle.reading.specs.Answer.{Refusal, tooLong, notUtf8, endsEarly, strayClose, unclosed, tooDeep, noRoom, malformed, decimalRead, repeatedName, badLiteral, badFunc, number, numbersSpent, andThen, check, Res, ok, no, Final, accepts, refuses, finish, accepted, refused, zeros, over, saidOf, countOf, outputOf}
+use Rattle.reading.specs.Answer.{Refusal, tooLong, notUtf8, endsEarly, strayClose, unclosed, tooDeep, noRoom, malformed, decimalRead, repeatedName, badLiteral, badFunc, unwritable, unprintable, number, numbersSpent, andThen, check, Res, ok, no, Final, accepts, refuses, finish, accepted, refused, zeros, over, saidOf, countOf, outputOf}
 use Rattle.reading.specs.Reading.{readText, readWords}
 use Rattle.reading.proofs.Finish.{finish-spent, finish-short, finish-long}
 use Rattle.grammar.specs.Item.{wordsOf}
@@ -88,7 +88,7 @@ module _ (call : Call) (c : ℕ) where
   unfolding final
   decides-long m n e h s = ap (finish (roomFor call) c) e ∙ finish-long (roomFor call) c m n h s
 
--- The refusals that are met in a text are neither 0 nor 13.
+-- The refusals that are met are neither 0 nor 13.
 pub not-spent : (r : Refusal) → (0 < number r) × (number r ≡ numbersSpent → ⊥)
 not-spent tooLong = (omega arith, λ e. omega arith)
 not-spent notUtf8 = (omega arith, λ e. omega arith)
@@ -102,6 +102,8 @@ not-spent decimalRead = (omega arith, λ e. omega arith)
 not-spent repeatedName = (omega arith, λ e. omega arith)
 not-spent badLiteral = (omega arith, λ e. omega arith)
 not-spent badFunc = (omega arith, λ e. omega arith)
+not-spent unwritable = (omega arith, λ e. omega arith)
+not-spent unprintable = (omega arith, λ e. omega arith)
 
 -- An accepted call does not report a refusal.
 apart : (a b r : ℕ) → accepted a b ≡ refused r → ⊥
