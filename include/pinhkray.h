@@ -1,8 +1,9 @@
 /* A proved reader of solver solutions: the functions of the static library, libpinhkray.a.
  *
- * Each function returns a refusal's number, 0 (PINHKRAY_ACCEPTED) if it accepts. An accepted call writes its words from
- * the start of `out` and changes no later word. After a refusal all words of tree, draft and out are zero, the reported
- * numbers are 0, and `count_after` is `count`. Tree and draft are working slices, and zero after every call.
+ * Each function but pinhkray_version returns a refusal's number, 0 (PINHKRAY_ACCEPTED) if it accepts. An accepted call
+ * writes its words, or its bytes where `out` is a slice of bytes, from the start of `out` and changes no later one.
+ * After a refusal all of tree, draft and out is zero, the reported numbers are 0, and `count_after` is `count`. Tree and
+ * draft are working slices, and zero after every call.
  *
  * A slice passes as a pointer and a length in elements. A pointer is never NULL, not even for a length of 0, is aligned
  * for its elements, and nothing that is written overlaps anything else that is passed. Nothing more is asked: every
@@ -21,6 +22,10 @@
 extern "C" {
 #endif
 
+/* The version of this header. It rises by 1 with every landing that changes what is declared here or what a function
+ * answers. Compare it with pinhkray_version(): an archive of another version belongs to another header. */
+#define PINHKRAY_VERSION 2
+
 /* The limits: bytes of a text, lists of a text inside one another, expressions in words inside one another. */
 #define PINHKRAY_MAX_BYTES 32768
 #define PINHKRAY_MAX_LISTS 64
@@ -32,6 +37,9 @@ extern "C" {
 #define PINHKRAY_TREE_WORDS 5
 #define PINHKRAY_ANSWER_WORDS 15
 
+/* See pinhkray_smtlib. */
+#define PINHKRAY_TERM_BYTES 12
+
 enum pinhkray_refusal {
     PINHKRAY_ACCEPTED = 0,
     PINHKRAY_TOO_LONG = 1,       /* the text has more than PINHKRAY_MAX_BYTES bytes */
@@ -40,14 +48,16 @@ enum pinhkray_refusal {
     PINHKRAY_STRAY_CLOSE = 4,    /* a ) stands where an expression should start */
     PINHKRAY_UNCLOSED = 5,       /* a string or an @ is not closed */
     PINHKRAY_TOO_DEEP = 6,       /* too many lists or expressions stand inside one another */
-    PINHKRAY_NO_ROOM = 7,        /* a lent slice has fewer words than are needed */
+    PINHKRAY_NO_ROOM = 7,        /* a lent slice has fewer words or bytes than are needed */
     PINHKRAY_MALFORMED = 8,      /* the text does not have the form that was asked for */
     PINHKRAY_DECIMAL = 9,        /* a decimal stands as an expression */
     PINHKRAY_REPEATED_NAME = 10, /* an exists or a solution binds a name twice */
     PINHKRAY_BAD_BITS = 11,      /* the bits of a lit are missing, not binary, or 2^128 and more */
     PINHKRAY_FUNC_NUMBER = 12,   /* the number of a func is outside 0 to 64 */
     PINHKRAY_NUMBERS_SPENT = 13, /* the count would exceed 2^64 - 1 */
-    PINHKRAY_BAD_WORDS = 14      /* the words to be flattened are not those of one expression */
+    PINHKRAY_BAD_WORDS = 14,     /* the words are not those of one expression or solution, or a span is outside the text */
+    PINHKRAY_UNWRITABLE = 15,    /* a part of the solution cannot be written in SMT-LIB */
+    PINHKRAY_UNPRINTABLE = 16    /* a name or string has |, ", a backslash or a byte outside 32 to 126 */
 };
 
 /* The words of an answer. A node is its kind, its fields, and the nodes inside it, in the order that is given below. A
@@ -206,6 +216,16 @@ uint32_t pinhkray_solution(const uint8_t *text, size_t text_len, uint32_t *tree,
 /* Flattens the words of one expression, which are not changed: how many words there are then, never more than before. */
 uint32_t pinhkray_flatten(const uint32_t *words_in, size_t words_in_len, uint32_t *out, size_t out_len,
                           uint64_t *words);
+
+/* Writes the words of one solution, which are not changed, for a reader of SMT-LIB 2.6: the list of sorted variables, a
+ * space, and the term, without a zero byte behind them; how many bytes that is. The text is the one that the words were
+ * read from, which their spans point into. A slice of PINHKRAY_TERM_BYTES bytes for each word, and as many again as the
+ * text has, is long enough for a solution that was read from this text, which is tested and not proved. */
+uint32_t pinhkray_smtlib(const uint32_t *words, size_t words_len, const uint8_t *text, size_t text_len, uint8_t *out,
+                         size_t out_len, uint64_t *bytes);
+
+/* The version of the archive, as PINHKRAY_VERSION is that of the header. An archive of version 1 has no such function. */
+uint32_t pinhkray_version(void);
 
 #ifdef __cplusplus
 }

@@ -132,6 +132,61 @@ static void flattening(void) {
     CHECK(all(out, LENGTH(out), 0));
 }
 
+static uint8_t term[64];
+static uint64_t bytes_out;
+
+static int all_bytes(const uint8_t *slice, size_t len, uint8_t byte) {
+    for (size_t i = 0; i < len; i++)
+        if (slice[i] != byte)
+            return 0;
+    return 1;
+}
+
+static uint32_t smtlib(const uint32_t *solved, size_t len, const char *text, size_t room) {
+    memset(term, 0xff, sizeof term);
+    bytes_out = OLD;
+    uint32_t refusal = pinhkray_smtlib(solved, len, bytes(text), strlen(text), term, room, &bytes_out);
+    if (refusal != PINHKRAY_ACCEPTED)
+        CHECK(all_bytes(term, room, 0) && bytes_out == 0);
+    CHECK(all_bytes(term + room, sizeof term - room, 0xff));
+    return refusal;
+}
+
+/* Whether these bytes were written, reported so many, and no byte of the slice is another new one. */
+static int wrote_term(const char *expected) {
+    size_t len = strlen(expected);
+    return bytes_out == len && memcmp(term, expected, len) == 0 && all_bytes(term + len, sizeof term - len, 0xff);
+}
+
+/* From a text to a term, and each refusal. */
+static void terms(void) {
+    const char *text = "(lambda ((x Int)) (< x 5))";
+    const char *written = "((|v 0| Int)) (< |v 0| 5)";
+    const uint32_t named[] = {0, 37, 0, 1};
+    const uint32_t function[] = {0, 49, PINHKRAY_THY_BVADD};
+    const uint32_t left_over[] = {0, 33, 1, 33};
+    uint32_t deep[1 + PINHKRAY_MAX_EXPRESSIONS + 2];
+    CHECK(solution(text, 0) == PINHKRAY_ACCEPTED);
+    CHECK(smtlib(out, (size_t)words, text, strlen(written)) == PINHKRAY_ACCEPTED);
+    CHECK(wrote_term(written));
+    CHECK(smtlib(out, (size_t)words, text, sizeof term) == PINHKRAY_ACCEPTED);
+    CHECK(wrote_term(written));
+    CHECK(smtlib(out, (size_t)words, text, strlen(written) - 1) == PINHKRAY_NO_ROOM);
+    CHECK(smtlib(out, (size_t)words, text, 0) == PINHKRAY_NO_ROOM);
+    CHECK(smtlib(named, LENGTH(named), "x", sizeof term) == PINHKRAY_ACCEPTED);
+    CHECK(wrote_term("() |n x|"));
+    CHECK(smtlib(named, LENGTH(named), "|", sizeof term) == PINHKRAY_UNPRINTABLE);
+    CHECK(smtlib(named, LENGTH(named), "", sizeof term) == PINHKRAY_BAD_WORDS);
+    CHECK(smtlib(named, 0, "x", sizeof term) == PINHKRAY_BAD_WORDS);
+    CHECK(smtlib(left_over, LENGTH(left_over), "", sizeof term) == PINHKRAY_BAD_WORDS);
+    CHECK(smtlib(function, LENGTH(function), "", 0) == PINHKRAY_UNWRITABLE);
+    fill(deep, LENGTH(deep), PINHKRAY_EXPR_NOT);
+    deep[0] = 0;
+    deep[LENGTH(deep) - 2] = PINHKRAY_EXPR_BOOLEAN;
+    deep[LENGTH(deep) - 1] = 1;
+    CHECK(smtlib(deep, LENGTH(deep), "", sizeof term) == PINHKRAY_TOO_DEEP);
+}
+
 /* A text, and the first words of its answer: a kind, and what is behind it. */
 struct answer {
     const char *text;
@@ -316,11 +371,13 @@ static void decoding(void) {
 }
 
 int main(void) {
+    CHECK(pinhkray_version() == PINHKRAY_VERSION);
     solutions();
     refusals();
     reads();
     parts();
     flattening();
+    terms();
     codes();
     decoding();
     return failures != 0;

@@ -4,7 +4,7 @@
 #include <stdlib.h>
 #include <string.h>
 
-u64 accepted_inputs, refused_inputs[15];
+u64 accepted_inputs, refused_inputs[REFUSALS];
 size_t needed_words, needed_tree;
 
 static u32 kept_words[WORDS_ROOM];
@@ -19,6 +19,11 @@ struct call roomy(enum op op, const u8 *bytes, size_t len)
         c.out = c.tree;
     if (op == FLATTEN)
         c.out = len / 4;
+    // Enough for the words themselves and for names that are mostly short; one name for each word would take more.
+    if (op == SMTLIB)
+        c.out = 20 * (len / 4) + 1024;
+    if (c.out * element(op) > 3 * WORDS_ROOM)
+        c.out = 3 * WORDS_ROOM / element(op);
     return c;
 }
 
@@ -26,7 +31,7 @@ static void same(const struct call *c, const struct reply *first, const struct r
 {
     if (first->refusal != second->refusal || first->a != second->a || first->b != second->b || first->count != second->count)
         fail(c, "another reply %s: %" PRIu32 " %" PRIu64 " %" PRIu64 " %" PRIu64, when, second->refusal, second->a, second->b, second->count);
-    if (memcmp(kept_words, second->words, first->n * 4) != 0)
+    if (memcmp(kept_words, second->words, first->n * element(c->op)) != 0)
         fail(c, "other words %s", when);
 }
 
@@ -106,7 +111,7 @@ static void other_lengths(const struct call *c, const struct reply *r)
     d.out--;
     s = lend_call(&d, 1);
     if (s.refusal != 7)
-        fail(c, "with one word fewer the refusal is %" PRIu32, s.refusal);
+        fail(c, "with one element fewer the refusal is %" PRIu32, s.refusal);
 }
 
 // The operations over a tree refuse first what read one refuses, with the tree as its output.
@@ -125,9 +130,37 @@ static void as_read(const struct call *c, u32 refusal)
 
 static void judged(const struct call *c, u32 refusal)
 {
-    u32 should = walk_expression((const u32 *)(const void *)c->bytes, c->len / 4);
-    if (refusal != should && !(refusal == 7 && should == 0))
+    const u32 *words = (const u32 *)(const void *)c->bytes;
+    int term = c->op == SMTLIB;
+    u32 should = term ? walk_solution(words, c->len / 4, LENT_TEXT) : walk_expression(words, c->len / 4);
+    int later = refusal == 7 || (term && (refusal == 15 || refusal == 16));
+    if (refusal != should && !(later && should == 0))
         fail(c, "the refusal is %" PRIu32 ", and not %" PRIu32, refusal, should);
+}
+
+// A term: a list and an item with one space between, in bytes that may stand there; outside strings and bars no two spaces meet.
+static int is_term(const u8 *bytes, size_t n)
+{
+    size_t open = 0, items = 0;
+    u8 quote = 0;
+    for (size_t i = 0; i < n; i++) {
+        u8 b = bytes[i], before = i ? bytes[i - 1] : ' ';
+        if (b < 32 || b > 126 || b == '\\')
+            return 0;
+        if (quote) {
+            quote = b == quote ? 0 : quote;
+            continue;
+        }
+        items += open == 0 && before == ' ';
+        if (b == '|' || b == '"')
+            quote = b;
+        if (b == ')' && open-- == 0)
+            return 0;
+        open += b == '(';
+        if (b == ' ' && (before == ' ' || before == '('))
+            return 0;
+    }
+    return n > 0 && bytes[0] == '(' && open == 0 && quote == 0 && items == 2;
 }
 
 // Words of an expression: flattening takes them, and makes none more.
@@ -142,7 +175,7 @@ static void can_be_flattened(const struct call *c, size_t n)
 void check_input(const struct call *c)
 {
     struct reply r = lend_call(c, 0);
-    memcpy(kept_words, r.words, r.n * 4);
+    memcpy(kept_words, r.words, r.n * element(c->op));
     struct reply s = lend_call(c, 1);
     same(c, &r, &s, "the second time");
     r.words = kept_words;
@@ -152,9 +185,8 @@ void check_input(const struct call *c)
     if (r.refusal == 0) {
         accepted_inputs++;
         other_lengths(c, &r);
-        u32 wrong = walk_answer(c, &r);
-        if (wrong != 0)
-            fail(c, "the words are no answer of this operation");
+        if (c->op == SMTLIB ? !is_term((const u8 *)kept_words, r.n) : walk_answer(c, &r) != 0)
+            fail(c, "the words or bytes are no answer of this operation");
         if (counts(c->op))
             numbers_bound(c, &r);
     }
@@ -163,7 +195,7 @@ void check_input(const struct call *c)
     side_calls(1);
     if (takes_tree(c->op))
         as_read(c, r.refusal);
-    if (c->op == FLATTEN)
+    if (takes_words(c->op))
         judged(c, r.refusal);
     if (r.refusal == 0 && c->op == SOLUTION)
         flat_already(c, walk_parameters(kept_words, r.n), r.n);

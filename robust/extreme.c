@@ -8,14 +8,29 @@
 #define NODES 128
 #define LONG 20000
 
-struct extreme extremes[200];
+struct extreme extremes[300];
 size_t extreme_count;
 
-static void add(const char *name, u8 *bytes, size_t len, int words)
+static void add(const char *name, u8 *bytes, size_t len, int form)
 {
     if (extreme_count == sizeof extremes / sizeof extremes[0])
         exit(2);
-    extremes[extreme_count++] = (struct extreme){name, bytes, len, words};
+    extremes[extreme_count++] = (struct extreme){name, bytes, len, form};
+}
+
+int extreme_for(const struct extreme *e, enum op op)
+{
+    return e->form == (op == FLATTEN ? EXPRESSION_WORDS : op == SMTLIB ? SOLUTION_WORDS : TEXT);
+}
+
+// The words of an expression, and those of a solution that has it as its body and no parameters.
+static void add_words(const char *name, const u32 *all, size_t n)
+{
+    u32 *solution = malloc((n + 1) * 4);
+    solution[0] = 0;
+    memcpy(solution + 1, all, n * 4);
+    add(name, (u8 *)(solution + 1), n * 4, EXPRESSION_WORDS);
+    add(name, (u8 *)solution, (n + 1) * 4, SOLUTION_WORDS);
 }
 
 static void put(u8 **to, const char *text, size_t times)
@@ -167,7 +182,8 @@ static void words(const char *name, const u32 *link, size_t size, size_t times, 
         memcpy(to, link, size * 4);
     for (; core_times > 0; core_times--, to += core_size)
         memcpy(to, core, core_size * 4);
-    add(name, (u8 *)all, (size_t)(to - all) * 4, 1);
+    add_words(name, all, (size_t)(to - all));
+    free(all);
 }
 
 #define LIST(...) (const u32[]){__VA_ARGS__}, sizeof((const u32[]){__VA_ARGS__}) / 4
@@ -183,7 +199,23 @@ static void sort_words(const char *name, const u32 *link, size_t size, size_t ti
     for (; leaves > 0; leaves--)
         *to++ = 1;
     *to++ = 33, *to++ = 0;
-    add(name, (u8 *)all, n * 4, 1);
+    add_words(name, all, n);
+    free(all);
+}
+
+// A solution with a parameter whose sort nests, words before each sort and behind it.
+static void parameter_words(const char *name, const u32 *link, size_t size, size_t times, u32 behind, size_t behind_times)
+{
+    size_t n = 3 + size * times + 1 + behind_times + 2;
+    u32 *all = malloc(n * 4), *to = all;
+    *to++ = 1, *to++ = 0, *to++ = 0;
+    for (; times > 0; times--, to += size)
+        memcpy(to, link, size * 4);
+    *to++ = 1;
+    for (; behind_times > 0; behind_times--)
+        *to++ = behind;
+    *to++ = 33, *to++ = 0;
+    add(name, (u8 *)all, n * 4, SOLUTION_WORDS);
 }
 
 void make_extremes(void)
@@ -218,4 +250,9 @@ void make_extremes(void)
     sort_words("Abs", LIST(9, 0), LONG, 1);
     sort_words("App", LIST(10, 2, 3, 3, 1), LONG, 1);
     sort_words("App, too few sorts", LIST(10, 0, UINT32_MAX), 100, LONG);
+    words("arguments of names", LIST(38, 0, 1), most, LIST(37, 3, 1), most + 1);
+    words("operands of names", LIST(42, LONG), 1, LIST(37, 3, 1), LONG);
+    parameter_words("a parameter of Data sorts", LIST(10, 2, 3, 3, 1), LONG, 0, 0);
+    parameter_words("a parameter of Maps, keys", LIST(10, 1, 2), LONG / 10, 2, LONG / 10);
+    parameter_words("a parameter of Maps, values", LIST(10, 1, 2, 2), LONG, 0, 0);
 }

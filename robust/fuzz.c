@@ -11,7 +11,7 @@
 
 static struct { u8 *bytes; size_t len; } corpus[MOST];
 static size_t kept;
-static u8 outcomes[15][32];
+static u8 outcomes[REFUSALS][32];
 static u8 input[TEXT_ROOM];
 static u64 inputs;
 
@@ -25,12 +25,12 @@ static void keep(const u8 *bytes, size_t len)
 }
 
 // A refusal with a length of about this was not met before.
-static int new_outcome(u64 before[15], size_t len)
+static int new_outcome(u64 before[REFUSALS], size_t len)
 {
     int size = 0, found = 0;
     while (size < 31 && len >> size)
         size++;
-    for (int r = 0; r < 15; r++)
+    for (int r = 0; r < REFUSALS; r++)
         if (refused_inputs[r] != before[r] && !outcomes[r][size]) {
             outcomes[r][size] = 1;
             found = 1;
@@ -41,7 +41,7 @@ static int new_outcome(u64 before[15], size_t len)
 // The input with slices long enough, then with lengths round what it needs and another count.
 static void try(enum op op, size_t len)
 {
-    u64 before[15], blocks = blocks_seen, shapes = walk_new;
+    u64 before[REFUSALS], blocks = blocks_seen, shapes = walk_new;
     memcpy(before, refused_inputs, sizeof before);
     struct call c = roomy(op, input, len);
     c.count = counts(op) ? grow_count(0) : 0;
@@ -72,9 +72,9 @@ static size_t chosen(void)
 static size_t changed(enum op op)
 {
     size_t e = chosen(), other = chosen();
-    size_t least = op == FLATTEN ? 4 * SHORT : SHORT, room = corpus[e].len > least ? corpus[e].len : least;
+    size_t least = takes_words(op) ? 4 * SHORT : SHORT, room = corpus[e].len > least ? corpus[e].len : least;
     memcpy(input, corpus[e].bytes, corpus[e].len);
-    if (op == FLATTEN)
+    if (takes_words(op))
         return 4 * mutate_words((u32 *)(void *)input, corpus[e].len / 4, room / 4,
                                 (const u32 *)(const void *)corpus[other].bytes, corpus[other].len / 4);
     return mutate_text(input, corpus[e].len, room, corpus[other].bytes, corpus[other].len);
@@ -130,7 +130,7 @@ void mode_fuzz(enum op op, u64 seconds, u64 seed, const char *disassembly)
             first(op, seeds[i].call.bytes, seeds[i].call.len);
     make_extremes();
     for (size_t i = 0; i < extreme_count; i++)
-        if (extremes[i].words == (op == FLATTEN))
+        if (extreme_for(&extremes[i], op))
             first(op, extremes[i].bytes, extremes[i].len);
     u64 seeded = blocks_seen;
     keep(input, 0);
@@ -138,9 +138,9 @@ void mode_fuzz(enum op op, u64 seconds, u64 seed, const char *disassembly)
     while (spent() - start < seconds) {
         for (int i = 0; i < 64; i++) {
             size_t len;
-            if (below(op == FLATTEN ? 4 : 32) == 0)
-                len = op == FLATTEN ? 4 * grow_words((u32 *)(void *)input, SHORT) : grow_text(op, input, SHORT);
-            else if (op != FLATTEN && below(4096) == 0)
+            if (below(takes_words(op) ? 4 : 32) == 0)
+                len = grow_input(op, input, SHORT, SHORT);
+            else if (!takes_words(op) && below(4096) == 0)
                 len = long_text();
             else
                 len = changed(op);
@@ -157,9 +157,9 @@ void mode_fuzz(enum op op, u64 seconds, u64 seed, const char *disassembly)
         }
     }
     blocks_show(op);
-    printf("robust: fuzz %s: %" PRIu64 " s, seed %" PRIu64 ", %" PRIu64 " inputs, %" PRIu64 " calls, kept %zu; refusals 0 to 14:", op_names[op],
+    printf("robust: fuzz %s: %" PRIu64 " s, seed %" PRIu64 ", %" PRIu64 " inputs, %" PRIu64 " calls, kept %zu; refusals 0 to 16:", op_names[op],
            spent() - start, seed, inputs, calls_made, kept);
-    for (int r = 0; r < 15; r++)
+    for (int r = 0; r < REFUSALS; r++)
         printf(" %" PRIu64, refused_inputs[r]);
     printf("\nrobust: fuzz %s: blocks %" PRIu64 " of %" PRIu64 " (%" PRIu64 " by the recorded cases and the extremes; the last new one after %" PRIu64
            " s): no misbehaviour\n", op_names[op], blocks_seen, blocks_all, seeded, last_new);

@@ -116,7 +116,7 @@ static void expand(const char *rule, int depth)
 }
 
 // A text for this operation, sometimes for another one, sometimes several.
-size_t grow_text(enum op op, u8 *to, size_t to_room)
+static size_t grow_text(enum op op, u8 *to, size_t to_room)
 {
     text = to;
     room = to_room;
@@ -237,6 +237,31 @@ size_t grow_words(u32 *to, size_t to_room)
     if (below(16) == 0 && used > 0)
         used = below(used);
     return used;
+}
+
+// Mostly bytes that a name may have, so that words of small numbers are spans that can be written; and each kind of the others.
+const u8 lent_text[LENT_TEXT + 1] = "abcdefghijklmnop qrst(uv)w;x\"yzABCDEFGHIJKLMNO|PQRSTUVWXYZ0123456789 !#$%&'*+,-./:<=>?@[]^_`{}~\\\n\x1f\x7f\x80\xff"
+                              "abcdefghijklmnopqrstuvwxyzabcdefghijklmnopqrstuvwxyz";
+
+size_t grow_input(enum op op, u8 *to, size_t texts, size_t most)
+{
+    u32 *solution = (u32 *)(void *)to;
+    if (!takes_words(op))
+        return grow_text(op, to, texts);
+    if (op == FLATTEN)
+        return 4 * grow_words(solution, most);
+    // A solution: its parameters, and an expression behind them.
+    words = solution;
+    room = most;
+    used = 0;
+    u32 n = (u32)below(3);
+    word(n);
+    while (n-- > 0) {
+        some(2);
+        grow_sort((int)below(3));
+    }
+    size_t header = used;
+    return 4 * (header + grow_words(solution + header, most - header));
 }
 
 // A count for a call that needs so many numbers.

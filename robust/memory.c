@@ -32,23 +32,26 @@ static void defined(const struct call *c, const void *at, size_t size, const cha
         fail(c, "not all of the %s is written", what);
 }
 
-static void all_zero(const struct call *c, const u32 *words, size_t n, const char *what)
+static void all_zero(const struct call *c, const u32 *slice, size_t size, const char *what)
 {
-    defined(c, words, n * 4, what);
-    for (size_t i = 0; i < n; i++)
-        if (words[i] != 0)
+    const u8 *bytes = (const u8 *)slice;
+    defined(c, bytes, size, what);
+    for (size_t i = 0; i < size; i++)
+        if (bytes[i] != 0)
             fail(c, "the %s is not zero", what);
 }
 
-// The answer's words are left in `answer`, of so many words of room.
+// The answer is left in `answer`, of so many words of room.
 static struct reply plain_call(const struct call *c, u32 *answer, size_t room)
 {
-    u8 *input = lent(c->len);
-    u32 *tree = lent(c->tree * 4), *draft = lent(c->draft * 4), *out = lent(c->out * 4);
+    size_t size = element(c->op);
+    u8 *input = lent(c->len), *text = lent(LENT_TEXT);
+    u32 *tree = lent(c->tree * 4), *draft = lent(c->draft * 4), *out = lent(c->out * size);
     u64 *a = lent(8), *b = lent(8), *after = lent(8);
     memcpy(input, c->bytes, c->len);
+    memcpy(text, lent_text, LENT_TEXT);
     unsigned long errors = ERRORS;
-    u32 refusal = raw_call(c, input, tree, draft, out, a, b, after);
+    u32 refusal = raw_call(c, input, text, tree, draft, out, a, b, after);
     if (ERRORS != errors)
         fail(c, "valgrind has found an error");
     defined(c, &refusal, 4, "refusal");
@@ -59,23 +62,23 @@ static struct reply plain_call(const struct call *c, u32 *answer, size_t room)
         defined(c, after, 8, "count");
     struct reply r = {refusal, *a, reports_two(c->op) ? *b : 0, counts(c->op) ? *after : c->count, answer, 0};
     if (takes_tree(c->op))
-        all_zero(c, tree, c->tree, "tree");
+        all_zero(c, tree, c->tree * 4, "tree");
     if (c->op == SOLUTION)
-        all_zero(c, draft, c->draft, "draft");
+        all_zero(c, draft, c->draft * 4, "draft");
     made++;
     if (refusal != 0) {
-        all_zero(c, out, c->out, "output");
+        all_zero(c, out, c->out * size, "output");
     } else {
         accepted++;
         r.n = (size_t)(c->op == READ_ALL ? r.b : r.a);
         if (r.n > c->out || r.n > room)
-            fail(c, "accepted with %zu words", r.n);
-        defined(c, out, r.n * 4, "answer");
-        memcpy(answer, out, r.n * 4);
+            fail(c, "accepted with %zu elements", r.n);
+        defined(c, out, r.n * size, "answer");
+        memcpy(answer, out, r.n * size);
     }
-    if (memcmp(input, c->bytes, c->len) != 0)
+    if (memcmp(input, c->bytes, c->len) != 0 || memcmp(text, lent_text, LENT_TEXT) != 0)
         fail(c, "the input is changed");
-    free(input), free(tree), free(draft), free(out), free(a), free(b), free(after);
+    free(input), free(text), free(tree), free(draft), free(out), free(a), free(b), free(after);
     return r;
 }
 
@@ -92,7 +95,7 @@ void mode_memory(u64 random_calls)
     seed_random(7);
     for (u64 i = 0; i < random_calls; i++) {
         enum op op = (enum op)(i % OPS);
-        size_t len = op == FLATTEN ? 4 * grow_words((u32 *)(void *)input, 1024) : grow_text(op, input, 1024);
+        size_t len = grow_input(op, input, 1024, 1024);
         struct call c = roomy(op, input, len);
         c.count = counts(op) ? grow_count(0) : 0;
         struct reply r = plain_call(&c, answer, WORDS_ROOM);

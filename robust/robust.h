@@ -10,15 +10,16 @@ typedef uint8_t u8;
 typedef uint32_t u32;
 typedef uint64_t u64;
 
-enum op { READ_ONE, READ_ALL, SORT, EXPRESSION, BIND, SOLUTION, FLATTEN, OPS };
+enum op { READ_ONE, READ_ALL, SORT, EXPRESSION, BIND, SOLUTION, FLATTEN, SMTLIB, OPS };
 extern const char *const op_names[OPS];
 extern const char op_letters[OPS + 1];
 
 #define MAX_TEXT PINHKRAY_MAX_BYTES
-#define TEXT_ROOM (4 * WORDS_ROOM) // bytes of the longest input: a text, or the words of an answer to flatten
+#define TEXT_ROOM (4 * WORDS_ROOM) // bytes of the longest input: a text, or words
 #define WORDS_ROOM 786432 // words of the longest slice
 
-// An operation, its input (for flatten the bytes of words), the lengths of the slices in words, and the count of the reader.
+// An operation, its input (for flatten and smtlib the bytes of words), the lengths of the slices in elements, and the count of the reader.
+// Smtlib is lent the same text of LENT_TEXT bytes with all words.
 struct call {
     enum op op;
     const u8 *bytes;
@@ -27,7 +28,7 @@ struct call {
     u64 count;
 };
 
-// What came back; `words` is the answer in the output slice, `n` words of it, until the next call.
+// What came back; `words` is the answer in the output slice, `n` elements of it, until the next call.
 struct reply {
     u32 refusal;
     u64 a, b, count;
@@ -36,8 +37,10 @@ struct reply {
 };
 
 // The call itself, on any slices. Numbers that the operation does not report stay as they are.
-u32 raw_call(const struct call *c, const u8 *input, u32 *tree, u32 *draft, u32 *out, u64 *a, u64 *b, u64 *after);
+u32 raw_call(const struct call *c, const u8 *input, const u8 *text, u32 *tree, u32 *draft, u32 *out, u64 *a, u64 *b, u64 *after);
 int takes_tree(enum op op);
+int takes_words(enum op op);
+size_t element(enum op op); // bytes of an element of the output
 int reports_two(enum op op);
 int counts(enum op op);
 
@@ -60,21 +63,25 @@ extern size_t walk_freshes;
 extern int walk_learning; // whether shapes of answers are noted
 extern u64 walk_new; // those that were met for the first time
 u32 walk_expression(const u32 *words, size_t n);
+u32 walk_solution(const u32 *words, size_t n, u64 text);
 size_t walk_parameters(const u32 *words, size_t n);
 u32 walk_answer(const struct call *c, const struct reply *r);
 
 // check.c: everything that is held against one input.
 void check_input(const struct call *c);
 struct call roomy(enum op op, const u8 *bytes, size_t len);
-extern u64 accepted_inputs, refused_inputs[15];
+#define REFUSALS 17
+extern u64 accepted_inputs, refused_inputs[REFUSALS];
 extern size_t needed_words, needed_tree; // of the last input: its answer's and its tree's words, 0 if refused
 
 // grow.c: random numbers, texts and words.
 void seed_random(u64 seed);
 u64 random_u64(void);
 size_t below(size_t n);
-size_t grow_text(enum op op, u8 *to, size_t room);
 size_t grow_words(u32 *to, size_t room);
+size_t grow_input(enum op op, u8 *to, size_t texts, size_t words); // a text of at most so many bytes, or so many words
+#define LENT_TEXT 153
+extern const u8 lent_text[LENT_TEXT + 1]; // the text that is lent with words
 u64 grow_count(u64 need);
 size_t grow_length(size_t need);
 extern const char *const dictionary[];
@@ -108,8 +115,9 @@ struct extreme {
     const char *name;
     u8 *bytes;
     size_t len;
-    int words;
+    enum { TEXT, EXPRESSION_WORDS, SOLUTION_WORDS } form;
 };
+int extreme_for(const struct extreme *e, enum op op);
 extern struct extreme extremes[];
 extern size_t extreme_count;
 void make_extremes(void);

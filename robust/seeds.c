@@ -125,7 +125,7 @@ static size_t null_slices(void)
             continue;
         u64 a = 0, b = 0, after = c->count;
         current = c;
-        u32 refusal = raw_call(c, c->len ? c->bytes : 0, c->tree ? tree : 0, c->draft ? draft : 0, c->out ? out : 0, &a, &b, &after);
+        u32 refusal = raw_call(c, c->len ? c->bytes : 0, lent_text, c->tree ? tree : 0, c->draft ? draft : 0, c->out ? out : 0, &a, &b, &after);
         current = 0;
         const struct reply *r = &seeds[i].answer;
         if (refusal != r->refusal || a != r->a || b != r->b || after != r->count)

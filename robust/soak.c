@@ -34,7 +34,7 @@ static u64 run(u64 texts, u64 *count, u64 *accepted)
     u64 bound = 0;
     for (u64 i = 0; i < texts; i++) {
         enum op op = i % 4 == 0 ? (enum op)below(OPS) : i % 4 == 1 ? BIND : i % 4 == 2 ? EXPRESSION : SOLUTION;
-        size_t len = op == FLATTEN ? 4 * grow_words((u32 *)(void *)input, 256) : grow_text(op, input, sizeof input);
+        size_t len = grow_input(op, input, sizeof input, 256);
         struct call c = roomy(op, input, len);
         c.count = *count;
         struct reply r = lend_call(&c, (int)below(2));

@@ -22,7 +22,7 @@ static u8 *top;
 static void body(void)
 {
     top = __builtin_frame_address(0);
-    refusal = raw_call(call, call->bytes, tree, draft, out, &numbers[0], &numbers[1], &numbers[2]);
+    refusal = raw_call(call, call->bytes, lent_text, tree, draft, out, &numbers[0], &numbers[1], &numbers[2]);
 }
 
 // How many bytes below the caller's frame are written. What is written is painted again.
@@ -71,13 +71,13 @@ static void search(enum op op, u64 tries, struct deepest *d)
     size_t best_len = 0;
     for (u64 i = 0; i < tries;) {
         const struct extreme *e = &extremes[below(extreme_count)], *other = &extremes[below(extreme_count)];
-        if (e->words != (op == FLATTEN) || other->words != e->words || e->len > 4096 || other->len > 4096)
+        if (!extreme_for(e, op) || !extreme_for(other, op) || e->len > 4096 || other->len > 4096)
             continue;
         i++;
         int on = best_len > 0 && below(2);
         size_t len = on ? best_len : e->len;
         memcpy(input, on ? best : e->bytes, len);
-        if (op == FLATTEN)
+        if (takes_words(op))
             len = 4 * mutate_words((u32 *)(void *)input, len / 4, sizeof input / 4, (u32 *)(void *)other->bytes, other->len / 4);
         else
             len = mutate_text(input, len, sizeof input, other->bytes, other->len);
@@ -109,7 +109,7 @@ void mode_stack(u64 tries)
         size_t runs = 0, accepted = 0, least = STACK;
         for (size_t i = 0; i < extreme_count; i++) {
             const struct extreme *e = &extremes[i];
-            if (e->words != (op == FLATTEN))
+            if (!extreme_for(e, (enum op)op))
                 continue;
             struct call c = roomy((enum op)op, e->bytes, e->len);
             size_t depth = mark(&c);

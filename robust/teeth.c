@@ -30,7 +30,7 @@ static void run_inputs(void)
     static u8 input[2048];
     for (size_t i = 0; i < INPUTS; i++) {
         enum op op = (enum op)(i % OPS);
-        size_t len = op == FLATTEN ? 4 * grow_words((u32 *)(void *)input, 256) : grow_text(op, input, 1024);
+        size_t len = grow_input(op, input, 1024, 256);
         struct call c = roomy(op, input, len);
         c.count = counts(op) ? grow_count(0) : 0;
         check_input(&c);

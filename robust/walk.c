@@ -197,6 +197,16 @@ u32 walk_expression(const u32 *from, size_t n)
     return end();
 }
 
+// What smtlib should say of these words over a text of so many bytes, but for 15, 16 and 7.
+u32 walk_solution(const u32 *from, size_t n, u64 text)
+{
+    begin(from, n, text);
+    binders(0, 127);
+    if (why == 0)
+        expr(0, 0, 0);
+    return end();
+}
+
 // Where a solution's expression begins.
 size_t walk_parameters(const u32 *from, size_t n)
 {

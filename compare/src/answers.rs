@@ -35,7 +35,7 @@ fn parts(text: &str, joined: char) -> impl Iterator<Item = (&str, usize)> {
     })
 }
 
-fn bytes(text: &str) -> Vec<u8> {
+pub fn bytes(text: &str) -> Vec<u8> {
     if text == "-" {
         return Vec::new();
     }
@@ -44,11 +44,22 @@ fn bytes(text: &str) -> Vec<u8> {
     parts(text, '.').flat_map(|(p, n)| part(p).repeat(n)).collect()
 }
 
-fn words(text: &str) -> Vec<u32> {
-    if text == "-" {
-        return Vec::new();
+/// Numbers joined by `,`, each perhaps `*N`: N times; `(A,B)*N` is A and B, N times.
+pub fn words(text: &str) -> Vec<u32> {
+    let number = |n: &str| u32::from_str_radix(n, 16).expect("a hexadecimal number");
+    let mut rest = if text == "-" { "" } else { text };
+    let mut all = Vec::new();
+    while !rest.is_empty() {
+        let (part, behind) = match rest.strip_prefix('(') {
+            Some(group) => group.split_once(')').expect("a group that ends"),
+            None => rest.split_at(rest.find([',', '*']).unwrap_or(rest.len())),
+        };
+        let (times, behind) = behind.split_at(behind.find(',').unwrap_or(behind.len()));
+        let times = times.strip_prefix('*').map_or(1, |n| n.parse().expect("a count behind *"));
+        all.extend(part.split(',').map(number).collect::<Vec<_>>().repeat(times));
+        rest = behind.strip_prefix(',').unwrap_or("");
     }
-    parts(text, ',').flat_map(|(p, n)| vec![u32::from_str_radix(p, 16).expect("a hexadecimal number"); n]).collect()
+    all
 }
 
 fn operation(op: &str) -> Operation {

@@ -1,31 +1,52 @@
-//! One call: the library's reply, and every word of the lent slices after it, against what should be.
+//! One call: the library's reply, and every element of the lent slices after it, against what should be.
 
 use crate::call::{Answer, Call, Refusal};
 use crate::ffi::{self, Reply};
+use std::fmt::LowerHex;
 
-/// So many words behind each slice are not lent, and must stay as they are.
+/// So many elements behind each slice are not lent, and must stay as they are.
 const BEHIND: usize = 4;
 
-/// A word that no answer holds at a place by chance.
-fn pattern(i: usize) -> u32 {
-    0xA5A5_0000 ^ (i as u32).wrapping_mul(2_654_435_761)
+/// What slices are lent of.
+trait Element: Copy + Default + PartialEq + LowerHex {
+    const NAME: &'static str;
+
+    /// One that no answer holds at a place by chance.
+    fn pattern(i: usize) -> Self;
 }
 
-/// A slice of so many words as it is lent, and the words behind it.
-fn filled(len: usize) -> Vec<u32> {
-    (0..len + BEHIND).map(pattern).collect()
+impl Element for u32 {
+    const NAME: &'static str = "word";
+
+    fn pattern(i: usize) -> u32 {
+        0xA5A5_0000 ^ (i as u32).wrapping_mul(2_654_435_761)
+    }
 }
 
-/// The same after a call that wrote these words from its start.
-fn written(words: &[u32], len: usize) -> Vec<u32> {
+impl Element for u8 {
+    const NAME: &'static str = "byte";
+
+    /// Answers in bytes are ASCII.
+    fn pattern(i: usize) -> u8 {
+        0x80 | (u32::pattern(i) >> 24) as u8
+    }
+}
+
+/// A slice of so many elements as it is lent, and those behind it.
+fn filled<T: Element>(len: usize) -> Vec<T> {
+    (0..len + BEHIND).map(T::pattern).collect()
+}
+
+/// The same after a call that wrote these elements from its start.
+fn written<T: Element>(elements: &[T], len: usize) -> Vec<T> {
     let mut slice = filled(len);
-    slice[..words.len()].copy_from_slice(words);
+    slice[..elements.len()].copy_from_slice(elements);
     slice
 }
 
 /// The same after a call that cleared it.
-fn cleared(len: usize) -> Vec<u32> {
-    written(&vec![0; len], len)
+fn cleared<T: Element>(len: usize) -> Vec<T> {
+    written(&vec![T::default(); len], len)
 }
 
 /// What a call at a count should reply, and an output of so many words after it.
@@ -66,6 +87,23 @@ pub fn flatten(words: &[u32], out_len: usize, should: &Result<Answer, Refusal>) 
     held().map_err(|e| format!("{}: {e}", shown_words(words, out_len)))
 }
 
+/// The same of writing a solution as a term, which leaves the words and the text as they are.
+pub fn smtlib(words: &[u32], text: &[u8], out_len: usize, should: &Result<String, Refusal>) -> Result<(), String> {
+    let (mut read, mut names, mut out) = (words.to_vec(), text.to_vec(), filled(out_len));
+    let reply = ffi::smtlib(&mut read, &mut names, &mut out[..out_len]);
+    let (refusal, bytes, out_after) = match should {
+        Ok(term) => (0, term.len(), written(term.as_bytes(), out_len)),
+        Err(refusal) => (*refusal, 0, cleared(out_len)),
+    };
+    let held = || {
+        replied(reply, Reply { refusal, a: bytes as u64, b: 0, count: 0 })?;
+        same("output", &out, &out_after)?;
+        same("words read", &read, words)?;
+        same("text", &names, text)
+    };
+    held().map_err(|e| format!("{}: {e}", shown_solution(words, text, out_len)))
+}
+
 fn replied(reply: Reply, good: Reply) -> Result<(), String> {
     if reply != good {
         return Err(format!("{reply:?}, and not {good:?}"));
@@ -73,9 +111,9 @@ fn replied(reply: Reply, good: Reply) -> Result<(), String> {
     Ok(())
 }
 
-fn same(slice: &str, is: &[u32], should: &[u32]) -> Result<(), String> {
+fn same<T: Element>(slice: &str, is: &[T], should: &[T]) -> Result<(), String> {
     match is.iter().zip(should).position(|(a, b)| a != b) {
-        Some(at) => Err(format!("word {at} of the {slice} is {:x}, and not {:x}", is[at], should[at])),
+        Some(at) => Err(format!("{} {at} of the {slice} is {:x}, and not {:x}", T::NAME, is[at], should[at])),
         None => Ok(()),
     }
 }
@@ -90,7 +128,18 @@ pub fn shown(call: &Call) -> String {
 
 /// The same of flattening.
 pub fn shown_words(words: &[u32], out: usize) -> String {
+    format!("Flatten, output {out}, {}", first(words))
+}
+
+/// The same of writing a solution as a term.
+pub fn shown_solution(words: &[u32], text: &[u8], out: usize) -> String {
+    let end = text.len().min(400);
+    let more = if end < text.len() { ".." } else { "" };
+    format!("Smtlib, output {out}, {}, text \"{}\"{more}", first(words), text[..end].escape_ascii())
+}
+
+fn first(words: &[u32]) -> String {
     let end = words.len().min(200);
     let more = if end < words.len() { ".." } else { "" };
-    format!("Flatten, output {out}, words {:x?}{more}", &words[..end])
+    format!("words {:x?}{more}", &words[..end])
 }

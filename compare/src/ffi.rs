@@ -22,6 +22,9 @@ mod raw {
             count: u64, words: *mut u64, count_after: *mut u64,
         ) -> u32;
         pub fn pinhkray_flatten(words_in: *const u32, words_in_len: usize, out: *mut u32, out_len: usize, words: *mut u64) -> u32;
+        pub fn pinhkray_smtlib(
+            words: *const u32, words_len: usize, text: *const u8, text_len: usize, out: *mut u8, out_len: usize, bytes: *mut u64,
+        ) -> u32;
     }
 }
 
@@ -89,5 +92,14 @@ fn parse(function: Parse, text: &[u8], tree: &mut [u32], out: &mut [u32], count:
 pub fn flatten(words: &mut [u32], out: &mut [u32]) -> Reply {
     let mut a = u64::MAX;
     let refusal = unsafe { raw::pinhkray_flatten(words.as_mut_ptr(), words.len(), out.as_mut_ptr(), out.len(), &mut a) };
+    Reply { refusal, a, b: 0, count: 0 }
+}
+
+/// Writes the solution of these words as a term. Words and text are lent as if they might be changed, so that a change would be seen.
+pub fn smtlib(words: &mut [u32], text: &mut [u8], out: &mut [u8]) -> Reply {
+    let mut a = u64::MAX;
+    let refusal = unsafe {
+        raw::pinhkray_smtlib(words.as_mut_ptr(), words.len(), text.as_mut_ptr(), text.len(), out.as_mut_ptr(), out.len(), &mut a)
+    };
     Reply { refusal, a, b: 0, count: 0 }
 }

@@ -1,8 +1,13 @@
-//! Holds the proved library against document 01 and against the source, by running.
+//! Holds the proved library against documents 01 and 02 and against the source, by running.
 //!
-//!     compare gate [ANSWERS]        the recorded answers, the small stack, and some hundred thousand calls
+//!     compare gate ANSWERS TERMS    the recorded answers of documents 01 and 02, the small stack, and some hundred thousand calls;
+//!                                   a name that is empty stands for no file
 //!     compare long SEED MILLIONS    so many million random calls for parsing, flattening and sessions together, behind all small texts
+//!     compare smtlib SEED MILLIONS  so many million random calls for solutions as SMT-LIB terms, behind all small ones
+//!     compare write                 for each line of standard input, words and a text, what the library writes
+//!     compare script                what `solsmt` should print for standard input
 //!     compare bench-flatten         the time of flattening
+//!     compare bench-smtlib          the time of writing solutions as SMT-LIB terms, beside that of reading them
 //!     compare reading SEED MILLIONS so many million for read one and read all against sexp.rs, behind all short texts
 //!     compare source SEED MILLIONS  so many million for all operations against parser.rs and constraint.rs, behind all small texts
 //!     compare bench TEXT ..         the time of read one against sexp.rs
@@ -25,14 +30,18 @@ mod random;
 mod reading;
 mod recorded;
 mod sessions;
+mod smtlib;
+mod solutions;
 #[cfg(flux_source)]
 mod source;
 mod stack;
 mod tally;
+mod timing;
 
 use paper::Paper;
 use parsing::Small;
 use random::Random;
+use std::io::Read;
 
 /// How far a run goes.
 struct Size {
@@ -49,7 +58,7 @@ const LONG: Small = Small { alone: 6, framed: 5, row: 5 };
 #[cfg(flux_source)]
 const SOURCE: Size = Size { small: Small { alone: 4, framed: 3, row: 2 }, words: 4, random: 80_000 };
 
-fn gate(answers: Option<&str>) -> Result<(), String> {
+fn gate(answers: Option<&str>, terms: Option<&str>) -> Result<(), String> {
     match answers {
         Some(path) => {
             let all = recorded::run(path)?;
@@ -57,9 +66,17 @@ fn gate(answers: Option<&str>) -> Result<(), String> {
         }
         None => println!("compare: recorded answers skipped, for want of them"),
     }
+    match terms {
+        Some(path) => {
+            let all = smtlib::recorded(path)?;
+            println!("compare: {all} recorded answers of C-11: the paper gives them all, and so does the library");
+        }
+        None => println!("compare: recorded answers of C-11 skipped, for want of them"),
+    }
     let (calls, accepted) = stack::run()?;
     println!("compare: {calls} calls on the deepest and longest texts and words, {accepted} accepted, in a stack of {} KiB: no difference", stack::BYTES / 1024);
     against_paper(&GATE, &mut Random::new(1))?;
+    terms_held(4, 200_000, &mut Random::new(1))?;
     against_source(answers)
 }
 
@@ -68,6 +85,13 @@ fn against_paper(size: &Size, r: &mut Random) -> Result<(), String> {
     let flattened = flattening::run("the paper", paper::flatten, size.words, size.random / 4, r)?;
     let sessions = sessions::run(size.random / 4, r)?;
     println!("compare: the paper, these together: {}: no difference", parsed + flattened + sessions);
+    Ok(())
+}
+
+/// Solutions as SMT-LIB terms: all of up to so many nodes, and in so many random calls.
+fn terms_held(nodes: usize, random: u64, r: &mut Random) -> Result<(), String> {
+    let all = smtlib::run(nodes, random, r)?;
+    println!("compare: the paper, Smtlib, these together: {all}: no difference");
     Ok(())
 }
 
@@ -111,14 +135,28 @@ fn number(text: &str) -> Result<u64, String> {
 
 fn run(words: &[&str]) -> Result<(), String> {
     match words {
-        ["gate"] => gate(None),
-        ["gate", path] => gate(Some(path)),
+        ["gate", answers, terms] => {
+            let [answers, terms] = [answers, terms].map(|path| Some(*path).filter(|path| !path.is_empty()));
+            gate(answers, terms)
+        }
         ["long", seed, millions] => {
             let size = Size { small: LONG, words: 6, random: number(millions)? * 1_000_000 };
             against_paper(&size, &mut Random::new(number(seed)?))
         }
+        ["smtlib", seed, millions] => terms_held(5, number(millions)? * 1_000_000, &mut Random::new(number(seed)?)),
+        ["write"] => smtlib::write(),
+        ["script"] => {
+            let mut text = Vec::new();
+            std::io::stdin().read_to_end(&mut text).map_err(|e| e.to_string())?;
+            print!("{}", paper::script(&text));
+            Ok(())
+        }
         ["bench-flatten"] => {
             flattening::bench::run();
+            Ok(())
+        }
+        ["bench-smtlib"] => {
+            smtlib::bench::run();
             Ok(())
         }
         #[cfg(flux_source)]
@@ -140,7 +178,7 @@ fn run(words: &[&str]) -> Result<(), String> {
         }
         #[cfg(not(flux_source))]
         ["reading" | "source" | "bench" | "bench-solution", ..] => Err("built without the source; FLUX_SOURCE names its folder".to_string()),
-        _ => Err("compare gate [ANSWERS] | long SEED MILLIONS | reading SEED MILLIONS | source SEED MILLIONS | bench TEXT .. | bench-solution | bench-flatten".to_string()),
+        _ => Err("compare gate ANSWERS TERMS | long SEED MILLIONS | smtlib SEED MILLIONS | write | script | reading SEED MILLIONS | source SEED MILLIONS | bench TEXT .. | bench-solution | bench-flatten | bench-smtlib".to_string()),
     }
 }
 

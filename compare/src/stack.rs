@@ -5,6 +5,7 @@ use crate::check;
 use crate::extreme;
 use crate::flattening;
 use crate::paper;
+use crate::smtlib::{self, Extreme};
 use std::thread;
 
 /// Half of what a caller must bring.
@@ -25,6 +26,12 @@ fn exact(op: Operation, text: &[u8]) -> (Call<'_>, Should) {
     (call, paper::answer(&call))
 }
 
+/// A slice just long enough for a solution's term, and the term.
+fn term(Extreme { words, text, .. }: &Extreme) -> (usize, Result<String, Refusal>) {
+    let answer = paper::smtlib(words, text, usize::MAX);
+    (answer.as_ref().map_or(8, String::len), answer)
+}
+
 /// Runs in a stack of `BYTES` bytes.
 fn small(all: impl FnOnce() -> Result<(), String> + Send) -> Result<(), String> {
     thread::scope(|scope| {
@@ -40,10 +47,14 @@ pub fn run() -> Result<(usize, usize), String> {
     let calls: Vec<_> = texts.iter().flat_map(|(of, text)| OPERATIONS.into_iter().map(move |op| (of, exact(op, text.as_bytes())))).collect();
     let lists = flattening::extremes();
     let flattenings: Vec<_> = lists.iter().map(|(of, words)| (of, words, paper::flatten(words, words.len()))).collect();
+    let solutions = smtlib::extremes();
+    let terms: Vec<_> = solutions.iter().map(|solution| (solution, term(solution))).collect();
     small(|| {
         calls.iter().try_for_each(|(of, (call, answer))| check::call(call, answer).map(|_| ()).map_err(|e| format!("{of}: {e}")))?;
-        flattenings.iter().try_for_each(|(of, words, answer)| check::flatten(words, words.len(), answer).map_err(|e| format!("{of}: {e}")))
+        flattenings.iter().try_for_each(|(of, words, answer)| check::flatten(words, words.len(), answer).map_err(|e| format!("{of}: {e}")))?;
+        terms.iter().try_for_each(|(Extreme { of, words, text }, (out, answer))| check::smtlib(words, text, *out, answer).map_err(|e| format!("{of}: {e}")))
     })?;
-    let accepted = calls.iter().map(|(_, (_, answer))| answer).chain(flattenings.iter().map(|(_, _, answer)| answer)).filter(|a| a.is_ok()).count();
-    Ok((calls.len() + flattenings.len(), accepted))
+    let words = calls.iter().map(|(_, (_, answer))| answer).chain(flattenings.iter().map(|(_, _, answer)| answer));
+    let accepted = words.filter(|a| a.is_ok()).count() + terms.iter().filter(|(_, (_, answer))| answer.is_ok()).count();
+    Ok((calls.len() + flattenings.len() + terms.len(), accepted))
 }

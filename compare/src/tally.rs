@@ -1,17 +1,17 @@
 //! How many calls were made, and how they ended.
 
-use crate::call::{Answer, Refusal};
+use crate::call::Refusal;
 use std::fmt;
 use std::ops::Add;
 
 #[derive(Default)]
 pub struct Tally {
     accepted: u64,
-    refused: [u64; 15],
+    refused: [u64; 17],
 }
 
 impl Tally {
-    pub fn count(&mut self, answer: &Result<Answer, Refusal>) {
+    pub fn count<T>(&mut self, answer: &Result<T, Refusal>) {
         match answer {
             Ok(_) => self.accepted += 1,
             Err(refusal) => self.refused[*refusal as usize] += 1,

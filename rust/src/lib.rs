@@ -3,7 +3,8 @@
 //! [`Reader`] has the six operations over slices that the caller lends: they write words, and allocate nothing.
 //! Every operation also has an owned form, such as [`Reader::solution_owned`], that answers terms: [`Tree`], [`Sort`],
 //! [`Expr`], [`Bind`], [`Solution`]. [`flatten`] joins applications of applications in words. A term's `encode` gives
-//! its words, and `decode` the term of words.
+//! its words, and `decode` the term of words. [`smtlib`] and [`Solution::smtlib`] write a solution as a term of SMT-LIB
+//! 2.6.
 //!
 //! Terms print in a notation for people, near the solver's and not to be read again: a bound variable is `%` and its
 //! number, and a name is shown as its place in the text, or as it is with `with_text`.
@@ -36,22 +37,26 @@ mod owned;
 mod reader;
 mod refusal;
 mod show;
+mod smtlib;
 mod solution;
 mod sort;
 #[allow(unsafe_code)]
 mod sys;
 mod tree;
+mod version;
 mod words;
 
 pub use bind::{Bind, Predicate};
 pub use codes::{BinOp, Relation, ThyFunc};
 pub use expr::Expr;
-pub use limits::{ANSWER_WORDS, MAX_BYTES, MAX_EXPRESSIONS, MAX_LISTS, TREE_WORDS};
+pub use limits::{ANSWER_WORDS, MAX_BYTES, MAX_EXPRESSIONS, MAX_LISTS, TERM_BYTES, TREE_WORDS};
 pub use owned::flatten_owned;
 pub use reader::{flatten, ReadAll, ReadOne, Reader, Written};
 pub use refusal::Refusal;
 pub use show::WithText;
+pub use smtlib::smtlib;
 pub use solution::{Binder, Fresh, Solution};
 pub use sort::{Sort, SortCtor};
 pub use tree::Tree;
+pub use version::{version, VERSION};
 pub use words::{DecodeError, Span};

@@ -1,4 +1,4 @@
-//! The limits of the operations, and how many words an answer can need.
+//! The limits of the operations, and how many words or bytes an answer can need.
 
 /// A text may have so many bytes; a longer one is refused.
 pub const MAX_BYTES: usize = 32_768;
@@ -29,3 +29,19 @@ pub const TREE_WORDS: usize = 5;
 /// # Ok::<(), pinhkray::Refusal>(())
 /// ```
 pub const ANSWER_WORDS: usize = 15;
+
+/// A slice of so many bytes for each word, and as many again as the text has, is long enough for
+/// [`smtlib`](crate::smtlib) of a solution that was read from this text. Unlike the others this is tested, and not
+/// proved.
+///
+/// ```
+/// use pinhkray::{smtlib, Reader, TERM_BYTES};
+///
+/// let text = b"(lambda ((x Int)) (< x 5))";
+/// let words = Reader::open(0).solution_owned(text)?.encode();
+/// let mut out = vec![0; TERM_BYTES * words.len() + text.len()];
+/// let bytes = smtlib(&words, text, &mut out)?;
+/// assert_eq!(&out[..bytes], b"((|v 0| Int)) (< |v 0| 5)");
+/// # Ok::<(), pinhkray::Refusal>(())
+/// ```
+pub const TERM_BYTES: usize = 12;

@@ -21,7 +21,7 @@ pub enum Refusal {
     /// More than [`MAX_LISTS`](crate::MAX_LISTS) lists nest, or in words more than
     /// [`MAX_EXPRESSIONS`](crate::MAX_EXPRESSIONS) expressions.
     TooDeep = 6,
-    /// A lent slice has fewer words than are needed.
+    /// A lent slice has fewer words or bytes than are needed.
     NoRoom = 7,
     /// What was read is no sort, expression, bind or solution.
     Malformed = 8,
@@ -35,8 +35,16 @@ pub enum Refusal {
     FuncNumber = 12,
     /// The fresh numbers run out: the count would exceed 2^64 - 1.
     NumbersSpent = 13,
-    /// The words to be flattened are not those of one expression.
+    /// The words are not those of one expression to be flattened, or of one solution to be written as a term; or a name
+    /// or string in them is outside the text that is lent with them.
     BadWords = 14,
+    /// A part of the solution cannot be written in SMT-LIB: a Set or function sort, a sort variable, a Map without two
+    /// sorts, a width outside a BitVec, a BitVec without one; a function of sets, strings, maps or conversions, or one of
+    /// bit-vectors without arguments; a width of 0 or a value too large for its width; or a head with arguments that is
+    /// neither a variable nor a bit-vector function.
+    Unwritable = 15,
+    /// A name or string of the solution has `|`, `"`, a backslash or a byte outside 32 to 126.
+    Unprintable = 16,
 }
 
 use Refusal::*;
@@ -58,9 +66,11 @@ impl Refusal {
         FuncNumber,
         NumbersSpent,
         BadWords,
+        Unwritable,
+        Unprintable,
     ];
 
-    /// The refusal's number, 1 to 14.
+    /// The refusal's number, 1 to 16.
     pub fn number(self) -> u32 {
         self as u32
     }
@@ -81,14 +91,16 @@ impl fmt::Display for Refusal {
             StrayClose => "a `)` stands where an expression should start",
             Unclosed => "a string or an `@` is not closed",
             TooDeep => "too many lists or expressions stand inside one another",
-            NoRoom => "a lent slice has fewer words than are needed",
+            NoRoom => "a lent slice has fewer words or bytes than are needed",
             Malformed => "the text does not have the form that was asked for",
             Decimal => "a decimal stands as an expression",
             RepeatedName => "an exists or a solution binds a name twice",
             BadBits => "the bits of a `lit` are missing, not binary, or 2^128 and more",
             FuncNumber => "the number of a `func` is outside 0 to 64",
             NumbersSpent => "the fresh numbers run out",
-            BadWords => "the words are not those of one expression",
+            BadWords => "the words are not those of one expression or solution over the text",
+            Unwritable => "a part of the solution cannot be written in SMT-LIB",
+            Unprintable => "a name or string has a byte that cannot stand in SMT-LIB as it is",
         })
     }
 }

@@ -3,8 +3,8 @@
 //! Every call below is sound for the same reasons. The library's contracts ask nothing of the caller: for every text,
 //! every lent word and every length, also 0, a function ends, reads and writes inside its slices, and keeps no pointer.
 //! A slice passes as its pointer and its length in elements, so it is valid for just that length while it is borrowed.
-//! What is written is borrowed by `&mut`, so no two of the slices and numbers overlap. All bits are a value of `u32`
-//! and `u64`. The library has no state of its own, so calls may be made from several threads.
+//! What is written is borrowed by `&mut`, so no two of the slices and numbers overlap. All bits are a value of `u8`,
+//! `u32` and `u64`. The library has no state of its own, so calls may be made from several threads.
 
 use crate::refusal::Refusal;
 
@@ -83,6 +83,18 @@ mod raw {
             out_len: usize,
             words: *mut u64,
         ) -> u32;
+
+        pub fn pinhkray_smtlib(
+            words: *const u32,
+            words_len: usize,
+            text: *const u8,
+            text_len: usize,
+            out: *mut u8,
+            out_len: usize,
+            bytes: *mut u64,
+        ) -> u32;
+
+        pub fn pinhkray_version() -> u32;
     }
 }
 
@@ -242,4 +254,28 @@ pub fn flatten(words_in: &[u32], out: &mut [u32]) -> Result<u64, Refusal> {
         )
     };
     accepted(number).map(|()| words)
+}
+
+/// Bytes.
+pub fn smtlib(words: &[u32], text: &[u8], out: &mut [u8]) -> Result<u64, Refusal> {
+    let mut bytes = 0;
+    // SAFETY: three slices and a number that are borrowed for the call; words and text are only read. Nothing more is
+    // asked.
+    let number = unsafe {
+        raw::pinhkray_smtlib(
+            words.as_ptr(),
+            words.len(),
+            text.as_ptr(),
+            text.len(),
+            out.as_mut_ptr(),
+            out.len(),
+            &mut bytes,
+        )
+    };
+    accepted(number).map(|()| bytes)
+}
+
+pub fn version() -> u32 {
+    // SAFETY: it takes nothing.
+    unsafe { raw::pinhkray_version() }
 }

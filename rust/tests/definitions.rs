@@ -1,6 +1,8 @@
 //! The constants of this crate and of the C header are those of the definitions, which are read from their files.
 
-use pinhkray::{Refusal, ANSWER_WORDS, MAX_BYTES, MAX_EXPRESSIONS, MAX_LISTS, TREE_WORDS};
+use pinhkray::{
+    Refusal, ANSWER_WORDS, MAX_BYTES, MAX_EXPRESSIONS, MAX_LISTS, TERM_BYTES, TREE_WORDS, VERSION,
+};
 use std::collections::BTreeSet;
 
 fn file(name: &str) -> String {
@@ -91,17 +93,24 @@ fn words_for_each_byte() {
 
 #[test]
 fn refusals() {
-    let definitions = file("crates/refusals/specs/Refusals.antt");
-    let lists = ["ofReading", "ofSort", "ofExpr", "ofFlatten"];
-    let defined: BTreeSet<usize> = lists
-        .iter()
-        .flat_map(|list| numbers(behind(&definitions, &format!("{list} = "))))
-        .collect();
+    let answers = file("crates/reading/specs/Answer.antt");
+    let names = answers.lines().filter(|line| {
+        line.starts_with("number ")
+            || line.starts_with("numbersSpent = ")
+            || line.starts_with("notWords = ")
+    });
+    let defined: BTreeSet<usize> = names.flat_map(numbers).collect();
     let here: BTreeSet<usize> = Refusal::ALL
         .iter()
         .map(|refusal| refusal.number() as usize)
         .collect();
     assert_eq!(defined, here);
+
+    let lists = file("crates/refusals/specs/Refusals.antt");
+    for list in ["ofReading", "ofSort", "ofExpr", "ofFlatten"] {
+        let listed = numbers(behind(&lists, &format!("{list} = ")));
+        assert!(listed.iter().all(|number| here.contains(number)), "{list}");
+    }
 
     let header = file("include/pinhkray.h");
     let list = header
@@ -112,4 +121,14 @@ fn refusals() {
     let named = list.lines().filter_map(|line| line.split_once(" = "));
     let there: BTreeSet<usize> = named.map(|(_, rest)| numbers(rest)[0]).collect();
     assert_eq!(there, here.iter().copied().chain([0]).collect());
+}
+
+#[test]
+fn the_header_is_of_this_version() {
+    let header = file("include/pinhkray.h");
+    assert_eq!(number(&header, "#define PINHKRAY_TERM_BYTES "), TERM_BYTES);
+    assert_eq!(
+        number(&header, "#define PINHKRAY_VERSION "),
+        VERSION as usize
+    );
 }

@@ -126,12 +126,12 @@ fn limits_of_texts() {
 
 #[test]
 fn every_number_has_its_refusal() {
-    assert_eq!(Refusal::ALL.len(), 14);
+    assert_eq!(Refusal::ALL.len(), 16);
     for (refusal, number) in Refusal::ALL.iter().zip(1..) {
         assert_eq!(refusal.number(), number);
         assert_eq!(Refusal::from_number(number), Some(*refusal));
     }
-    for none in [0, 15, u32::MAX] {
+    for none in [0, 17, u32::MAX] {
         assert_eq!(Refusal::from_number(none), None);
     }
 }
@@ -146,7 +146,7 @@ fn every_refusal_is_an_error_with_a_sentence_of_its_own() {
     );
     sentences.sort();
     sentences.dedup();
-    assert_eq!(sentences.len(), 14);
+    assert_eq!(sentences.len(), 16);
 }
 
 #[test]

@@ -12,7 +12,9 @@ use crate::paper;
 use crate::parsing;
 use crate::random::Random;
 use crate::tally::Tally;
+pub use damage::damaged;
 pub use extreme::words as extremes;
+pub use grower::{any, any_word};
 use grower::Grower;
 
 /// Words that begin, fill and end expressions, for lists of all their orders.
@@ -73,11 +75,11 @@ pub fn words_held(model: Model, words: &[u32], r: &mut Random, tally: &mut Tally
 fn words(r: &mut Random) -> Vec<u32> {
     match r.below(20) {
         0..=7 => grown(r),
-        8..=12 => damage::damaged(grown(r), r),
+        8..=12 => damaged(grown(r), r),
         13..=15 => grower::chain(r),
-        16 => damage::damaged(grower::chain(r), r),
+        16 => damaged(grower::chain(r), r),
         17 => parsed(r),
-        _ => grower::any(r),
+        _ => any(r),
     }
 }
 

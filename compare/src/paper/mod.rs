@@ -1,12 +1,15 @@
-//! What document 01 answers, written from the paper, and from the source where the paper leaves it to the source; never from the
+//! What documents 01 and 02 answer, written from the papers, and from the source where they leave it to the source; never from the
 //! library's code or definitions, with which it is compared.
 
 mod bind;
 mod expr;
 mod flatten;
+mod judge;
 mod number;
 mod read;
 mod refusal;
+mod script;
+mod smtlib;
 mod solution;
 mod sort;
 pub mod theory;
@@ -15,10 +18,13 @@ mod words;
 use crate::call::{Answer, Call, Operation, Refusal};
 use crate::model::Model;
 use expr::Parser;
-pub use flatten::{flatten, MAX_NODES};
+pub use flatten::flatten;
+pub use judge::MAX_NODES;
 use read::Tree;
 pub use read::{MAX_BYTES, MAX_LISTS};
 use refusal::*;
+pub use script::script;
+pub use smtlib::smtlib;
 pub use words::Fresh;
 use words::Words;
 

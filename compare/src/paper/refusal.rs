@@ -16,5 +16,9 @@ pub const REPEATED_NAME: Refusal = 10;
 pub const NO_BITS: Refusal = 11;
 pub const FUNC_NUMBER: Refusal = 12;
 pub const NUMBERS_SPENT: Refusal = 13;
-/// Words to flatten that end early, are left over, or are outside their code.
+/// Words that end early, are left over, or are outside their code, or a span that is outside the text lent with them.
 pub const NO_WORDS: Refusal = 14;
+/// A part of a solution that SMT-LIB has no form for.
+pub const UNWRITABLE: Refusal = 15;
+/// A byte of a name or string that SMT-LIB does not take as it is.
+pub const UNPRINTABLE: Refusal = 16;

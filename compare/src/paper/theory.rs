@@ -21,3 +21,8 @@ pub fn function(name: &str) -> Option<u32> {
 pub fn names() -> impl Iterator<Item = &'static str> {
     NAMES.into_iter().chain(ALIASES.into_iter().map(|(alias, _)| alias))
 }
+
+/// The name of a bit-vector function, by its number; SMT-LIB has the same.
+pub fn bit_vector(function: u32) -> Option<&'static str> {
+    NAMES.get(function as usize).copied().filter(|_| (9..=31).contains(&function))
+}

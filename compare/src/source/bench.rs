@@ -6,18 +6,18 @@
 
 use super::answer::Source;
 use super::reader;
-use super::solutions;
 use crate::call::{Call, Operation};
 use crate::check;
 use crate::ffi;
 use crate::model::Model;
 use crate::random::Random;
+use crate::solutions::{self, SOLVED};
+use crate::timing::{micros, round_by_round, turns};
 use std::hint::black_box;
 use std::time::{Duration, Instant};
 use upstream::sexp::Parser;
 
 const SEED: u64 = 2026;
-const TURNS: usize = 5;
 /// Bytes of a text, how many such texts are read in turn, so that the computer does not know one by heart, and how often each.
 const SIZES: [(usize, usize, usize); 4] = [(200, 400, 40), (2048, 40, 40), (8192, 10, 40), (32_768, 4, 40)];
 /// Words of tree, draft and output that are enough for every text.
@@ -25,11 +25,6 @@ const LONG: [usize; 3] = [5 * 32_768, 15 * 32_768, 15 * 32_768];
 /// Texts of a build: bytes, and how many.
 const BUILD: [(usize, usize); 4] = [(200, 240), (2048, 120), (8192, 36), (32_768, 4)];
 const BUILD_ROUNDS: usize = 20;
-
-fn median(mut times: Vec<Duration>) -> Duration {
-    times.sort();
-    times[times.len() / 2]
-}
 
 /// A text, and slices for it.
 struct Case {
@@ -74,21 +69,6 @@ fn ours(text: &str, [tree, draft, out]: [&mut [u32]; 3]) -> Duration {
     began.elapsed()
 }
 
-/// The medians of the turns; the two go turn by turn, so that both see the same computer, and the first turn warms up.
-fn turns(mut turn: impl FnMut() -> (Duration, Duration)) -> (Duration, Duration) {
-    let turns: Vec<_> = (0..=TURNS).map(|_| turn()).skip(1).collect();
-    (median(turns.iter().map(|t| t.0).collect()), median(turns.iter().map(|t| t.1).collect()))
-}
-
-/// The texts' times together, each the median of the rounds; a round goes through all of them.
-fn round_by_round(cases: &mut [Case], rounds: usize, mut once: impl FnMut(&mut Case) -> Duration) -> Duration {
-    let mut of_each = vec![Vec::with_capacity(rounds); cases.len()];
-    for _ in 0..rounds {
-        cases.iter_mut().zip(&mut of_each).for_each(|(case, of_this)| of_this.push(once(case)));
-    }
-    of_each.into_iter().map(median).sum()
-}
-
 fn times(cases: &mut [Case], rounds: usize) -> (Duration, Duration) {
     turns(|| (round_by_round(cases, rounds, Case::ours), round_by_round(cases, rounds, Case::source)))
 }
@@ -101,12 +81,12 @@ fn times_in_long_slices(cases: &mut [Case], rounds: usize) -> (Duration, Duratio
 }
 
 fn row(name: &str, bytes: usize, (ours, source): (Duration, Duration), texts: usize) {
-    let micros = |d: Duration| d.as_nanos() as f64 / 1e3 / texts as f64;
-    println!("| {name} | {bytes} | {:.1} µs | {:.1} µs | {:.2} |", micros(ours), micros(source), ours.as_secs_f64() / source.as_secs_f64());
+    let each = |d: Duration| micros(d) / texts as f64;
+    println!("| {name} | {bytes} | {:.1} µs | {:.1} µs | {:.2} |", each(ours), each(source), ours.as_secs_f64() / source.as_secs_f64());
 }
 
 fn cases(bytes: usize, n: usize, r: &mut Random) -> Vec<Case> {
-    (0..n).map(|_| Case::new(solutions::text(bytes, r))).collect()
+    (0..n).map(|_| Case::new(solutions::text(bytes, &SOLVED, r))).collect()
 }
 
 fn bytes_of(cases: &[Case]) -> usize {

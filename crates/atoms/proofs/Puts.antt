@@ -1,23 +1,12 @@
--- Words laid and put one after the other.
+-- Words put one after the other.
 use Prim.Native.Nat.{ℕ, _+_}
-use mathlib.Core.Path.{_≡_, refl, sym, ap, _∙_}
+use mathlib.Core.Path.{_≡_, refl, sym, _∙_}
 use mathlib.Core.List.{List, [], _∷_, _++_}
 use native.Mathlib.Omega.{arith}
-use native.Mathlib.Nat.{add-zero}
-use lib.ListN.{length, set, length-set, length-append}
-use Rattle.atoms.specs.Laid.{laid, Put}
-
--- Words laid behind words.
-pub laid-append : (a b o : List ℕ) (w : ℕ) → laid o w (a ++ b) ≡ laid (laid o w a) (w + length a) b
-unfolding laid
-laid-append [] b o w = rw (add-zero w)
-laid-append (x ∷ a) b o w =
-    laid-append a b (set o w x) (w + 1) ∙ ap (λ (k : ℕ). laid (laid (set o w x) (w + 1) a) k b) (omega arith)
-
-pub length-laid : (ws o : List ℕ) (w : ℕ) → length (laid o w ws) ≡ length o
-unfolding laid
-length-laid [] o w = refl
-length-laid (x ∷ ws) o w = length-laid ws (set o w x) (w + 1) ∙ length-set o w x
+use lib.ListN.{set, length-append}
+use Rattle.writing.specs.Laid.{laid}
+use Rattle.writing.proofs.Laid.{laid-append}
+use Rattle.atoms.specs.Outcome.{Put}
 
 -- Words put behind words.
 pub put-append : (a b : List ℕ) {o o₁ o₂ : List ℕ} {w u v : ℕ} → Put o w a o₁ u → Put o₁ u b o₂ v → Put o w (a ++ b) o₂ v

@@ -12,37 +12,14 @@ use Rattle.grammar.specs.Sort.{Sort, sortWords}
 use Rattle.grammar.specs.ParseSort.{parseSort}
 use Rattle.sorts.specs.Outcome.{Outcome, wrote, refused}
 use Rattle.atoms.specs.Spot.{Spot}
-use Rattle.atoms.specs.Laid.{laid, Put, OutcomeAt, wroteAt, refusedAt}
+use Rattle.writing.specs.Laid.{laid}
+use Rattle.writing.proofs.Laid.{laid-over}
+use Rattle.atoms.specs.Outcome.{Put, OutcomeAt, wroteAt, refusedAt}
 use Rattle.sorts.specs.declared.Answer.{Answer}
 use Rattle.sorts.specs.declared.Answer.the-variants.{Done, Refused}
 use Rattle.grammar.proofs.Post.{Every}
 use Rattle.grammar.proofs.SortOf.{SortOf, sort-of}
 use Rattle.sorts.proofs.Lend.{lent-rest}
-
--- ---- words laid over the rest of an output
-
-laid-empty : (ws : List ℕ) (w : ℕ) → laid [] w ws ≡ []
-unfolding laid
-laid-empty [] w = refl
-laid-empty (x ∷ ws) w = laid-empty ws (w + 1)
-
-laid-later : (ws o : List ℕ) (x w : ℕ) → laid (x ∷ o) (suc w) ws ≡ x ∷ laid o w ws
-unfolding laid
-laid-later [] o x w = refl
-laid-later (a ∷ ws) o x w =
-    let e : suc w + 1 ≡ suc (w + 1) = omega arith in
-    ap (λ (k : ℕ). laid (x ∷ set o w a) k ws) e ∙ laid-later ws (set o w a) x (w + 1)
-
--- Words laid from a place on are laid over the rest from there.
-pub laid-over : (ws o : List ℕ) (w : ℕ) → take w o ++ over ws (drop w o) ≡ laid o w ws
-unfolding laid over
-laid-over [] [] zero = refl
-laid-over [] [] (suc w) = refl
-laid-over (a ∷ ws) [] zero = sym (laid-empty ws 1)
-laid-over (a ∷ ws) [] (suc w) = sym (laid-empty ws (suc w + 1))
-laid-over [] (x ∷ o) zero = refl
-laid-over (a ∷ ws) (x ∷ o) zero = ap (λ (l : List ℕ). a ∷ l) (laid-over ws o zero) ∙ sym (laid-later ws o a 0)
-laid-over ws (x ∷ o) (suc w) = ap (λ (l : List ℕ). x ∷ l) (laid-over ws o w) ∙ sym (laid-later ws o x w)
 
 -- ---- what an outcome says
 

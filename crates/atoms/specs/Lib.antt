@@ -1,4 +1,4 @@
 pub mod Spot
 pub mod Scopes
-pub mod Laid
+pub mod Outcome
 pub mod FormNames

@@ -4,7 +4,7 @@ ghost use Prim.Native.Nat.{ℕ, _+_, _≤_};
 ghost use Rattle.lexing.specs.Quads.{asWide};
 ghost use Rattle.grammar.specs.ParseExpr.{numeral as numeralOf};
 ghost use Rattle.grammar.specs.Written.{exprWords};
-ghost use Rattle.atoms.specs.Laid.{bound, Put};
+ghost use Rattle.atoms.specs.Outcome.{bound, Put};
 use lexing::quad::Quad;
 use lexing::quad::negate;
 use lexing::words::put;

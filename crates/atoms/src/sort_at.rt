@@ -3,7 +3,7 @@ ghost use Prim.Native.Nat.{_≤_};
 ghost use Rattle.grammar.specs.Sort.{sortWords};
 ghost use Rattle.grammar.specs.ParseSort.{parseSort};
 ghost use Rattle.atoms.specs.Spot.{Small};
-ghost use Rattle.atoms.specs.Laid.{bound, OutcomeAt};
+ghost use Rattle.atoms.specs.Outcome.{bound, OutcomeAt};
 use crate::place::words_at;
 use sorts::Answer;
 use sorts::number::least;

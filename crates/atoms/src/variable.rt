@@ -4,7 +4,7 @@ ghost use Rattle.reading.specs.Bytes.{Span};
 ghost use Rattle.grammar.specs.Scope.{symbolExpr};
 ghost use Rattle.grammar.specs.Written.{exprWords};
 ghost use Rattle.atoms.specs.Scopes.{OpenScopes};
-ghost use Rattle.atoms.specs.Laid.{bound, Put};
+ghost use Rattle.atoms.specs.Outcome.{bound, Put};
 use crate::expr_words::FRESH;
 use crate::expr_words::NAMED;
 use crate::expr_words::THEORY;

@@ -20,7 +20,7 @@ use Rattle.grammar.specs.ParseExpr.{isApply, isApplyAtom, childAt, nestedAt}
 use Rattle.grammar.specs.Written.{W, told, ahead, after, operandsW, Last, noLast, seenLast, endW}
 use Rattle.atoms.specs.Spot.{Spot, Small}
 use Rattle.atoms.specs.Scopes.{inner}
-use Rattle.atoms.specs.Laid.{bound, Put}
+use Rattle.atoms.specs.Outcome.{bound, Put}
 use Rattle.exprs.specs.Plans.{Parsed, refused, Listed, PlannedList, EndsAt, endNesting, endSize, factor, most}
 use Rattle.exprs.specs.declared.expr.Progress.the-variants.{Refused}
 use Rattle.exprs.specs.declared.plan.Plan.the-variants.{Go}

@@ -20,7 +20,8 @@ use Rattle.grammar.specs.ParseExpr.{nameOf, sortIn, Binders, binders}
 use Rattle.sorts.specs.Rows.{isGot}
 use Rattle.atoms.specs.Spot.{Spot, Small}
 use Rattle.atoms.specs.Scopes.{Named, none, more}
-use Rattle.atoms.specs.Laid.{laid, bound, Put, OutcomeAt, wroteAt, refusedAt}
+use Rattle.writing.specs.Laid.{laid}
+use Rattle.atoms.specs.Outcome.{bound, Put, OutcomeAt, wroteAt, refusedAt}
 use Rattle.exprs.specs.Plans.{factor}
 use Rattle.exprs.specs.BinderWords.{BinderRow, bindersWords}
 use Rattle.sorts.specs.declared.Answer.{Answer}

@@ -22,7 +22,7 @@ use Rattle.grammar.specs.ParseExpr.{Binders, binders, childAt, nestedAt}
 use Rattle.grammar.specs.Written.{W, kindWords, told, ahead, after, operandsW, noLast, endW}
 use Rattle.atoms.specs.Spot.{Spot}
 use Rattle.atoms.specs.Scopes.{inner}
-use Rattle.atoms.specs.Laid.{bound, Put}
+use Rattle.atoms.specs.Outcome.{bound, Put}
 use Rattle.exprs.specs.Plans.{Parsed, refused, Listed, PlannedList, factor, most}
 use Rattle.exprs.specs.BinderWords.{BinderRow, bindersWords}
 use Rattle.exprs.specs.declared.expr.Progress.the-variants.{Refused}

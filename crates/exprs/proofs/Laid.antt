@@ -7,8 +7,8 @@ use native.Mathlib.Nat.{add-zero}
 use lib.ListN.{length, length-append}
 use Rattle.reading.specs.Answer.{ok}
 use Rattle.grammar.specs.Written.{W, ahead, after}
-use Rattle.atoms.specs.Laid.{laid}
-use Rattle.atoms.proofs.Puts.{laid-append}
+use Rattle.writing.specs.Laid.{laid}
+use Rattle.writing.proofs.Laid.{laid-append}
 use Rattle.exprs.specs.Plans.{Wrote, Parsed, wrote, refused}
 use Rattle.exprs.specs.declared.expr.Progress.{Progress}
 use Rattle.exprs.specs.declared.expr.Progress.the-variants.{Done, Refused}

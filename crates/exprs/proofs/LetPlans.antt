@@ -19,7 +19,7 @@ use Rattle.grammar.specs.ParseExpr.{childAt, nestedAt, letForm, atomChild, thro
 use Rattle.grammar.specs.Written.{W, told, ahead, after, operandsW, endW, Last, noLast, seenLast}
 use Rattle.atoms.specs.Spot.{Seen}
 use Rattle.atoms.specs.Scopes.{inner}
-use Rattle.atoms.specs.Laid.{Put}
+use Rattle.atoms.specs.Outcome.{Put}
 use Rattle.exprs.specs.Plans.{Parsed, Listed, PlannedList, EndsAt, endNesting, endSize, most}
 use Rattle.exprs.specs.declared.plan.Plan.the-variants.{Go}
 use Rattle.exprs.specs.declared.plan.Run.{Run}

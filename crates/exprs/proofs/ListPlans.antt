@@ -23,7 +23,7 @@ use Rattle.grammar.specs.ParseExpr.{childAt, nodeForm}
 use Rattle.grammar.specs.Written.{W, kindWords, told, ahead, after, operandsW, endW, noLast, plainLast}
 use Rattle.atoms.specs.Spot.{Spot}
 use Rattle.atoms.specs.Scopes.{Bound, inner}
-use Rattle.atoms.specs.Laid.{Put}
+use Rattle.atoms.specs.Outcome.{Put}
 use Rattle.exprs.specs.Plans.{Parsed, refused, Listed, Filled, Headed, PlannedList, factor, most}
 use Rattle.exprs.specs.declared.plan.Plan.{Plan}
 use Rattle.exprs.specs.declared.plan.Plan.the-variants.{Stop, Go}

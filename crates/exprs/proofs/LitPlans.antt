@@ -22,7 +22,7 @@ use Rattle.grammar.specs.ParseExpr.{childAt, atomChild, quotedIn, bitsOf}
 use Rattle.grammar.specs.Written.{told}
 use Rattle.sorts.specs.SortNames.{widthIn}
 use Rattle.atoms.specs.Spot.{Spot}
-use Rattle.atoms.specs.Laid.{Put}
+use Rattle.atoms.specs.Outcome.{Put}
 use Rattle.exprs.specs.Plans.{Listed, PlannedList}
 use Rattle.exprs.specs.declared.plan.Plan.the-variants.{Leaf}
 use Rattle.grammar.proofs.TreeHead.{no-list, no-symbol}

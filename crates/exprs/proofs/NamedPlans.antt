@@ -20,7 +20,8 @@ use Rattle.grammar.specs.ParseSort.{inList}
 use Rattle.grammar.specs.ParseExpr
 use Rattle.grammar.specs.ParseExpr.{orElseForm, childAt, plainAt, minusForm, isCtorForm}
 use Rattle.grammar.specs.Written.{W, told, ahead}
-use Rattle.atoms.specs.Laid.{laid, Put}
+use Rattle.writing.specs.Laid.{laid}
+use Rattle.atoms.specs.Outcome.{Put}
 use Rattle.exprs.specs.Plans.{refused, Listed, PlannedList}
 use Rattle.atoms.specs.FormNames.{IsOne, IsTwo, IsMany, FormIs}
 use Rattle.atoms.specs.declared.keywords.Form.{Form as Code}

@@ -19,7 +19,7 @@ use Rattle.grammar.specs.ParseExpr.{child}
 use Rattle.grammar.specs.Written.{W, told, operandsW, endW, Last, noLast, seenLast, plainLast}
 use Rattle.atoms.specs.Spot.{Spot, Seen}
 use Rattle.atoms.specs.Scopes.{IsScope, Bound, Opened, blank, pushed, inner}
-use Rattle.atoms.specs.Laid.{laid}
+use Rattle.writing.specs.Laid.{laid}
 use Rattle.exprs.specs.Plans.{Parsed, refused, Here, Row, Running, Planned, EndsAt, EndSpot, endSize, endNesting, factor, most}
 use Rattle.exprs.specs.declared.expr.Progress.{Progress}
 use Rattle.exprs.specs.declared.expr.Progress.the-variants.{Done, Refused}

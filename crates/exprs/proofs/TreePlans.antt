@@ -16,7 +16,7 @@ use Rattle.grammar.specs.ParseExpr.{numeral}
 use Rattle.grammar.specs.Written.{exprWords, told}
 use Rattle.atoms.specs.Spot.{Spot}
 use Rattle.atoms.specs.Scopes.{OpenScopes}
-use Rattle.atoms.specs.Laid.{bound, Put}
+use Rattle.atoms.specs.Outcome.{bound, Put}
 use Rattle.exprs.specs.Plans.{Wrote, Parsed, wrote, refused, Here, Listed, SomeList, Plans, Planned, PlannedList, most}
 use Rattle.atoms.specs.declared.scopes.Entries.{Entries}
 use Rattle.exprs.specs.declared.expr.Progress.the-variants.{Done, Refused}

@@ -8,7 +8,7 @@ use Rattle.grammar.specs.Item.{raise, wordsOf}
 use Rattle.grammar.specs.Expr.{binderItems}
 use Rattle.grammar.specs.Scope.{numbered}
 use Rattle.grammar.specs.ParseExpr.{Binders}
-use Rattle.atoms.specs.Laid.{bound}
+use Rattle.atoms.specs.Outcome.{bound}
 use Rattle.exprs.specs.Plans.{factor}
 
 -- So many trees, one after the other, and room for the words of as many binders.

@@ -13,7 +13,8 @@ use Rattle.grammar.specs.ParseExpr.{child}
 use Rattle.grammar.specs.Written.{W, told, after, operandsW, endW, Last, noLast, seenLast, plainLast}
 use Rattle.atoms.specs.Spot.{Spot}
 use Rattle.atoms.specs.Scopes.{Bound, Opened, inner}
-use Rattle.atoms.specs.Laid.{laid, bound}
+use Rattle.writing.specs.Laid.{laid}
+use Rattle.atoms.specs.Outcome.{bound}
 use Rattle.atoms.specs.declared.scopes.Entries.{Entries}
 use Rattle.exprs.specs.declared.expr.Progress.{Progress}
 use Rattle.exprs.specs.declared.expr.Progress.the-variants.{Done, Refused}

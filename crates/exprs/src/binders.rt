@@ -4,7 +4,7 @@ ghost use Prim.Native.Nat.{ℕ, _+_, _%_, _^_};
 ghost use Rattle.grammar.specs.ParseExpr.{nameOf, binders};
 ghost use Rattle.sorts.specs.Rows.{isGot};
 ghost use Rattle.atoms.specs.Spot.{Spot};
-ghost use Rattle.atoms.specs.Laid.{OutcomeAt};
+ghost use Rattle.atoms.specs.Outcome.{OutcomeAt};
 ghost use Rattle.exprs.specs.BinderWords.{BinderRow, bindersWords};
 use atoms::expr_words::put2;
 use atoms::place::words_at;

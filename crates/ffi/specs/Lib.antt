@@ -1,2 +1,4 @@
 pub mod Reply
 pub mod Sessions
+pub mod Smtlib
+pub mod Version

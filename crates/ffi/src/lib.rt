@@ -1,10 +1,13 @@
-// The library's functions for C and Rust, each but the last a call on a reader that is opened at a count. Each returns the refusal's number, 0 if
+// The library's functions for C and Rust, each but the last three a call on a reader that is opened at a count. Each returns the refusal's number, 0 if
 // accepted; a slice passes as a pointer and a length in elements. After a refusal the reported numbers are 0, and the count is as it was.
-// The contracts are `Promised` and, of flattening, `Flattened` (specs/Reply.antt): the reply is the outcome of the call. Such replies are a
-// session of which demand 3 is proved (proofs/Sessions.antt).
+// The contracts are `Promised`, of flattening `Flattened` (specs/Reply.antt) and of SMT-LIB `Spoken` (specs/Smtlib.antt): the reply is the
+// outcome of the call. Replies of calls on a reader are a session of which demand 3 is proved (proofs/Sessions.antt).
 ghost use mathlib.Core.List.{[]};
 ghost use Rattle.reader.specs.Calls.{oneCall, allCall, sortCall, exprCall, bindCall, solutionCall};
 ghost use Rattle.ffi.specs.Reply.{uncounted, counted, Promised, flat, Flattened};
+ghost use mathlib.Core.Path.{_≡_};
+ghost use Rattle.ffi.specs.Smtlib.{spoken, Spoken};
+ghost use Rattle.ffi.specs.Version.{version};
 use reader::Reader;
 use reader::Said;
 
@@ -182,4 +185,35 @@ pub extern "C" fn pinhkray_flatten(words_in: &[u32], out: &mut [u32], words: &mu
             why
         }
     }
+}
+
+// Writes the words of a solution as SMT-LIB's list of sorted variables, a space and one term: how many bytes there are. The spans of the words
+// point into the text. It takes no reader, and changes neither the words nor the text.
+#[no_mangle]
+pub extern "C" fn pinhkray_smtlib(
+    words: &[u32],
+    text: &[u8],
+    out: &mut [u8],
+    bytes: &mut u64,
+) -> u32
+    ensures { λ r. ⌜ Spoken (now (words .entry)) (now (text .entry)) (now (out .entry)) (spoken r (now (bytes .exit)) (now (out .exit))) ⌝ }
+{
+    match smtlib::smtlib(words, text, out) {
+        smtlib::Answer::Done(n) => {
+            *bytes = n as u64;
+            0
+        }
+        smtlib::Answer::Refused(r) => {
+            *bytes = 0;
+            r
+        }
+    }
+}
+
+// The version of the interface.
+#[no_mangle]
+pub extern "C" fn pinhkray_version() -> u32
+    ensures { λ r. ⌜ r ≡ version ⌝ }
+{
+    2
 }

@@ -21,9 +21,9 @@ use Rattle.grammar.specs.Operations.{makeSolution, draftFinal}
 use Rattle.grammar.proofs.Items.{words-append}
 use Rattle.grammar.proofs.Lengths.{size-solution}
 use Rattle.grammar.proofs.Raise.{raise-append, words-raise, items-raise}
-use Rattle.atoms.specs.Laid.{laid}
+use Rattle.writing.specs.Laid.{laid}
 use Rattle.parse.specs.Answers.{Attempted, AttemptedAt, raisedWords, paramItems, bodyItems, draftSaid}
-use Rattle.parse.proofs.Ended.{over-start}
+use Rattle.writing.proofs.Laid.{over-start}
 use Rattle.parse.specs.declared.Counted.the-variants as counted
 use Rattle.parse.specs.declared.Drafted.the-variants as drafted
 use Rattle.sorts.specs.declared.Answer.the-variants as answer
@@ -31,7 +31,8 @@ use Rattle.flatten.specs.Uncurry.{uncurry, mostOperands}
 use Rattle.judge.specs.Judge.{reads, fails, exprDeep, exprAt, atEnd, judgeExpr}
 use Rattle.judge.specs.Ends.{endOf}
 use Rattle.flatten.specs.Operations.{exprWords, noText, flatFits, flattenBy, flattenFinal, flatItems, solutionFits, solutionFinal}
-use Rattle.flatten.specs.Writing.{mostCount, Wrote, WroteExpr}
+use Rattle.writing.specs.Wrote.{mostCount, Wrote}
+use Rattle.flatten.specs.Writing.{WroteExpr}
 use Rattle.judge.specs.declared.expr_words.End.the-variants as end
 use Rattle.flatten.specs.declared.write.Places.{Places}
 use Rattle.judge.proofs.ReadExpr.{ends-at, ends-no}
@@ -40,7 +41,7 @@ use Rattle.flatten.proofs.Uncurry.{shorter}
 use Rattle.flatten.proofs.FewOperands.{most-size}
 use Rattle.flatten.proofs.Parsed.{ParsedSolution, parsed-solution}
 use Rattle.judge.proofs.Taken.{first-read, never-reads}
-use Rattle.flatten.proofs.Wrote.{either, wrote-laid, wrote-seq, wrote-as}
+use Rattle.writing.proofs.Wrote.{either, wrote-laid, wrote-seq, wrote-as}
 
 -- Words that are judged as an expression are read as it.
 judged-read : (limit : ℕ) (ws : List ℕ) {e : Expr} {n : ℕ} → judgeExpr limit ws ≡ reads e n → exprDeep limit maxNodes ws 0 ≡ reads e n

@@ -15,10 +15,11 @@ use Rattle.grammar.proofs.Items.{words-append}
 use Rattle.flatten.specs.Uncurry.{join, uncurry, uncurryAll, mostOperands, mostOperandsAll}
 use Rattle.flatten.specs.Flat.{gathered, spine}
 use Rattle.judge.specs.Judge.{Judged, reads, operandsOf, argumentsOf, sortIf, header, exprDeep}
-use Rattle.judge.specs.Ends.{endOf, headOf}
+use Rattle.judge.specs.Ends.{behindOf, endOf, headOf}
 use Rattle.flatten.specs.Operations.{noText}
 use Rattle.judge.specs.Spelled.{Spelled}
-use Rattle.flatten.specs.Writing.{mostCount, Wrote, WroteExpr, WroteExprs, Patched, Chained, behindOf}
+use Rattle.writing.specs.Wrote.{mostCount, Wrote}
+use Rattle.flatten.specs.Writing.{WroteExpr, WroteExprs, Patched, Chained}
 use Rattle.judge.specs.declared.expr_words.End.{End}
 use Rattle.judge.specs.declared.expr_words.Header.the-variants as head
 use Rattle.flatten.specs.declared.write.Places.{Places}
@@ -29,7 +30,8 @@ use Rattle.judge.proofs.Spell.{Low, spelled-inside}
 use Rattle.judge.proofs.SpellKind.{operands-spelled, arguments-spelled}
 use Rattle.judge.proofs.SpellExpr.{out-spelled, several-count, exprs-spelled}
 use Rattle.judge.proofs.Taken.{read-no-room, read-no-header, read-operands, read-arguments, read-none, read-more}
-use Rattle.flatten.proofs.Wrote.{wrote-none, wrote-seq, wrote-more, wrote-as, wrote-first, wrote-full, wrote-patched}
+use Rattle.writing.proofs.Wrote.{wrote-none, wrote-seq, wrote-more, wrote-as, wrote-first, wrote-full}
+use Rattle.flatten.proofs.Patched.{wrote-patched}
 
 -- The words of flattened expressions, and their largest count.
 abbrev flatWords : Exprs → List ℕ

@@ -11,10 +11,12 @@ ghost use Rattle.flatten.specs.Flat.{gathered, spine};
 ghost use Rattle.judge.specs.Judge.{reads, several, sortIf, exprDeep};
 ghost use Rattle.flatten.specs.Operations.{noText};
 ghost use Rattle.judge.specs.Spelled.{Spelled};
-ghost use Rattle.flatten.specs.Writing.{Wrote, WroteExpr, WroteExprs, Patched, Chained, behindOf, mostCount};
+ghost use Rattle.writing.specs.Wrote.{Wrote, mostCount};
+ghost use Rattle.flatten.specs.Writing.{WroteExpr, WroteExprs, Patched, Chained};
 use judge::expr_words::End;
 use judge::expr_words::Header;
 use judge::expr_words::NO_TEXT;
+use judge::expr_words::behind;
 use judge::expr_words::exprs_end;
 use judge::expr_words::head;
 use judge::expr_words::out_sort;
@@ -58,16 +60,6 @@ fn copy(words: &[u32], from: usize, to: usize, out: &mut [u32], place: usize) ->
         i += 1;
     }
     p
-}
-
-// The place behind what was judged before.
-fn behind(end: End, at: usize) -> usize
-    ensures { λ r. ⌜ r ≡ behindOf end at ⌝ }
-{
-    match end {
-        End::At(n) => n,
-        End::No(_) => at,
-    }
 }
 
 // So many arguments more; no count grows past one that is too large.

@@ -12,3 +12,5 @@ pub mod SpellSort
 pub mod SpellKind
 pub mod SpellExpr
 pub mod Taken
+pub mod NodeAt
+pub mod SolutionParts

@@ -1,5 +1,5 @@
 -- What the walk of an expression answers, step by step: each lemma is one way through the code.
-use Prim.Native.Nat.{ℕ, zero, suc, _-_, _≤_, _<_}
+use Prim.Native.Nat.{ℕ, zero, suc, _+_, _-_, _≤_, _<_}
 use mathlib.Core.Bool.{Bool, true, false}
 use mathlib.Core.Path.{_≡_, refl, sym, _∙_}
 use mathlib.Core.List.{List}
@@ -12,7 +12,7 @@ use Rattle.grammar.specs.Expr.{Kind, Exprs, node, app, enil, econs}
 use Rattle.judge.specs.declared.expr_words.End.{End}
 use Rattle.judge.specs.declared.expr_words.End.the-variants.{At, No}
 use Rattle.judge.specs.declared.expr_words.Header.the-variants as head
-use Rattle.judge.specs.Judge.{Judged, reads, fails, Reader, Plan, operandsOf, argumentsOf, several, sortAt, sortIf, kinds, header, planned, exprDeep, atEnd, exprAt, judgeExpr}
+use Rattle.judge.specs.Judge.{Judged, reads, fails, Reader, Plan, operandsOf, argumentsOf, several, sortAt, sortIf, kinds, header, planned, exprDeep, atEnd, exprAt, judgeExpr, judgeSolution, word, bindersAt}
 use Rattle.judge.specs.Ends.{endOf, headOf}
 use Rattle.judge.proofs.ReadFields.{ends-ret, word-in, word-out}
 
@@ -153,3 +153,37 @@ module _ (limit : ℕ) (ws : List ℕ) where
   pub whole-no : {r : ℕ} → No r ≡ endOf (exprDeep limit 128 ws 0) → No r ≡ endOf (judgeExpr limit ws)
   unfolding judgeExpr exprAt
   whole-no {r} e = let m : exprDeep limit 128 ws 0 ≡ fails r = ends-no (exprDeep limit 128 ws 0) e in rw m refl
+
+  -- A solution: the number of its parameters, these, the body, and nothing more.
+  pub solution-none : length ws ≡ 0 → No 14 ≡ endOf (judgeSolution limit ws)
+  unfolding judgeSolution
+  solution-none h = rw (word-out ws 0 (omega (arith, h))) refl
+
+  module _ (some : length ws ≡ 0 → ⊥) where
+    first-word : word ws 0 ≡ reads (getD ws 0 0) (0 + 1)
+    first-word = word-in ws 0 (omega (arith, some))
+
+    pub solution-params : {r : ℕ} → No r ≡ endOf (bindersAt limit (getD ws 0 0) ws 1) → No r ≡ endOf (judgeSolution limit ws)
+    unfolding judgeSolution
+    solution-params e = rw (first-word, ends-no (bindersAt limit (getD ws 0 0) ws 1) e) refl
+
+    module _ {a : ℕ} (e : At a ≡ endOf (bindersAt limit (getD ws 0 0) ws 1)) where
+      pub solution-body : {r : ℕ} → No r ≡ endOf (exprDeep limit 128 ws a) → No r ≡ endOf (judgeSolution limit ws)
+      unfolding judgeSolution exprAt
+      solution-body f =
+          let b = ends-at (bindersAt limit (getD ws 0 0) ws 1) e in
+          rw (first-word, b .1, ends-no (exprDeep limit 128 ws a) f) refl
+
+      pub solution-left : {n : ℕ} → At n ≡ endOf (exprDeep limit 128 ws a) → (n ≡ length ws → ⊥) → No 14 ≡ endOf (judgeSolution limit ws)
+      unfolding judgeSolution exprAt atEnd pick
+      solution-left {n} f l =
+          let b = ends-at (bindersAt limit (getD ws 0 0) ws 1) e in
+          let x = ends-at (exprDeep limit 128 ws a) f in
+          rw (first-word, b .1, x .1, ne-eqb n (length ws) l) refl
+
+      pub solution-all : {n : ℕ} → At n ≡ endOf (exprDeep limit 128 ws a) → n ≡ length ws → At n ≡ endOf (judgeSolution limit ws)
+      unfolding judgeSolution exprAt atEnd pick
+      solution-all {n} f l =
+          let b = ends-at (bindersAt limit (getD ws 0 0) ws 1) e in
+          let x = ends-at (exprDeep limit 128 ws a) f in
+          rw (first-word, b .1, x .1, eq-eqb n (length ws) l) refl

@@ -4,8 +4,8 @@ ghost use mathlib.Core.List.{[], _∷_};
 ghost use Prim.Native.Nat.{_≤_};
 ghost use lib.ListN.{length};
 ghost use Rattle.grammar.specs.Expr.{enil, econs};
-ghost use Rattle.judge.specs.Judge.{word, wordBelow, choose, kinds, header, sortIf, exprDeep, several, judgeExpr};
-ghost use Rattle.judge.specs.Ends.{endOf, headOf, operandsAt};
+ghost use Rattle.judge.specs.Judge.{word, wordBelow, choose, kinds, header, sortIf, exprDeep, several, judgeExpr, judgeSolution};
+ghost use Rattle.judge.specs.Ends.{endOf, headOf, operandsAt, behindOf};
 use crate::sort_words::binders_end;
 use crate::sort_words::sort_end;
 use crate::sort_words::span_end;
@@ -214,5 +214,37 @@ pub fn judge(words: &[u32], limit: u64) -> End
             }
         }
         End::No(r) => End::No(r),
+    }
+}
+
+// Words that are one solution and no more: how many parameters, these, and the body.
+pub fn solution(words: &[u32], limit: u64) -> End
+    ensures { λ r. ⌜ r ≡ endOf (judgeSolution limit (now (words .entry))) ⌝ }
+{
+    if words.len() == 0 {
+        return End::No(14);
+    }
+    match binders_end(words, 1, words[0], limit) {
+        End::At(a) => match expr_end(words, a, limit, MAX_NODES) {
+            End::At(n) => {
+                if n == words.len() {
+                    End::At(n)
+                } else {
+                    End::No(14)
+                }
+            }
+            End::No(r) => End::No(r),
+        },
+        End::No(r) => End::No(r),
+    }
+}
+
+// The place behind what was judged before, or the place before it.
+pub fn behind(end: End, at: usize) -> usize
+    ensures { λ r. ⌜ r ≡ behindOf end at ⌝ }
+{
+    match end {
+        End::At(n) => n,
+        End::No(_) => at,
     }
 }

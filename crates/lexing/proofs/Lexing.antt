@@ -7,4 +7,3 @@ pub mod Mags
 pub mod Signs
 pub mod Decimals
 pub mod Leaves
-pub mod Zeros

@@ -18,7 +18,7 @@ use Rattle.grammar.specs.ParseExpr.{child}
 use Rattle.grammar.specs.ParseBind.{parseBind}
 use Rattle.grammar.specs.Written.{toldOf, ahead}
 use Rattle.atoms.specs.Spot.{Spot, Small}
-use Rattle.atoms.specs.Laid.{bound, Put}
+use Rattle.atoms.specs.Outcome.{bound, Put}
 use Rattle.exprs.specs.Plans.{Parsed, refused}
 use Rattle.parse.specs.PredWords.{Whole, PredHere, countedPreds}
 use Rattle.exprs.specs.declared.expr.Progress.{Progress}

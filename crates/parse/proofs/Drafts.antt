@@ -23,7 +23,7 @@ use Rattle.parse.specs.declared.Drafted.the-variants.{Done, Refused}
 use Rattle.parse.specs.declared.draft.Parts.{Parts}
 use Rattle.grammar.proofs.Raise.{words-raise}
 use Rattle.parse.proofs.ReadTree.{NoTree}
-use Rattle.parse.proofs.Ended.{over-start}
+use Rattle.writing.proofs.Laid.{over-start}
 
 module _ (c : ℕ) (d d′ o o′ : List ℕ) (m : c ≤ maxNumber) where
   abbrev fits : Solution → Bool

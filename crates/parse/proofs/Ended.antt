@@ -19,7 +19,7 @@ use Rattle.grammar.specs.ParseExpr
 use Rattle.grammar.specs.ParseBind.{parseBind}
 use Rattle.grammar.specs.Written.{toldOf}
 use Rattle.grammar.specs.Operations.{theTree, makeExpr, exprFinal, makeBind, bindFinal}
-use Rattle.atoms.specs.Laid.{laid}
+use Rattle.writing.specs.Laid.{laid}
 use Rattle.exprs.specs.Plans.{Parsed, wrote, refused, Here}
 use Rattle.parse.specs.PredWords.{Whole}
 use Rattle.parse.specs.Answers.{Laid, AttemptedAt, countedBy, finishedBy, closedBy, raisedWords}
@@ -28,12 +28,8 @@ use Rattle.parse.specs.declared.Counted.{Counted}
 use Rattle.parse.specs.declared.Counted.the-variants.{Done, Refused}
 use Rattle.exprs.specs.declared.expr.Progress.{Progress}
 use Rattle.grammar.proofs.Raise.{words-raise}
-use Rattle.atoms.proofs.SortPlace.{laid-over}
+use Rattle.writing.proofs.Laid.{over-start}
 use Rattle.parse.proofs.ReadTree.{TreeIn, NoTree}
-
--- Words laid from the start are laid over the output.
-pub over-start : (ws o : List ℕ) → laid o 0 ws ≡ over ws o
-over-start ws o = sym (laid-over ws o 0)
 
 -- ---- the end of an operation
 

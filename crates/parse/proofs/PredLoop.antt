@@ -14,7 +14,8 @@ use Rattle.grammar.specs.Expr.{Pred, predItems, predsItems}
 use Rattle.grammar.specs.ParseExpr.{child, children, eachPred}
 use Rattle.grammar.specs.Written.{toldOf}
 use Rattle.atoms.specs.Spot.{Spot}
-use Rattle.atoms.specs.Laid.{laid, bound}
+use Rattle.writing.specs.Laid.{laid}
+use Rattle.atoms.specs.Outcome.{bound}
 use Rattle.exprs.specs.Plans.{Wrote, Parsed, wrote, refused}
 use Rattle.parse.specs.PredWords.{PredHere, ReadPred, IsAnd, Stepped, stepRead, stepInto, stepRefused, countedPreds}
 use Rattle.exprs.specs.declared.expr.Progress.the-variants.{Done, Refused}
@@ -22,7 +23,7 @@ use Rattle.parse.specs.declared.preds.Step.{Step}
 use Rattle.parse.specs.declared.preds.Step.the-variants as step
 use Rattle.exprs.proofs.Steps.{More}
 use Rattle.grammar.proofs.FormsWritten.{raised-append}
-use Rattle.atoms.proofs.Puts.{laid-append}
+use Rattle.writing.proofs.Laid.{laid-append}
 use Rattle.grammar.proofs.TreeHead.{tree-two, no-trees}
 use Rattle.atoms.proofs.Places.Inside.{items-there, first-there, others-there, trees-size}
 

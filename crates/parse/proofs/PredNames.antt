@@ -17,7 +17,8 @@ use Rattle.grammar.specs.Expr.{VarName, Pred, kvar, nameItems, predItems}
 use Rattle.grammar.specs.Scope.{varOf}
 use Rattle.grammar.specs.ParseExpr.{child, children, symbols, kvarForm, atomChild}
 use Rattle.atoms.specs.Spot.{Spot}
-use Rattle.atoms.specs.Laid.{laid, bound, Put, OutcomeAt, wroteAt, refusedAt}
+use Rattle.writing.specs.Laid.{laid}
+use Rattle.atoms.specs.Outcome.{bound, Put, OutcomeAt, wroteAt, refusedAt}
 use Rattle.parse.specs.PredWords.{KvarHere, ReadPred, Stepped, stepRead, stepRefused, NameRow, namesWords}
 use Rattle.sorts.specs.declared.Answer.{Answer}
 use Rattle.sorts.specs.declared.Answer.the-variants.{Done, Refused}

@@ -17,7 +17,8 @@ use Rattle.grammar.specs.ParseExpr.{child, children, childAt, eachPred, kvarFor
 use Rattle.grammar.specs.Written.{exprWords, told}
 use Rattle.atoms.specs.Spot.{Seen}
 use Rattle.atoms.specs.Scopes.{Opened}
-use Rattle.atoms.specs.Laid.{laid, bound, Put}
+use Rattle.writing.specs.Laid.{laid}
+use Rattle.atoms.specs.Outcome.{bound, Put}
 use Rattle.exprs.specs.Plans.{Parsed, wrote, refused, Here, most}
 use Rattle.parse.specs.PredWords.{PredHere, KvarHere, ReadPred, Stepped, stepRead, stepInto, stepRefused}
 use Rattle.atoms.specs.declared.scopes.Entries.{Entries}

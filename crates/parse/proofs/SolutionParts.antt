@@ -20,7 +20,8 @@ use Rattle.grammar.specs.ParseExpr.{Binders, binders}
 use Rattle.grammar.specs.ParseSolution.{allNames, allSorts, parseSolution}
 use Rattle.sorts.specs.Rows.{isGot}
 use Rattle.atoms.specs.Spot.{Spot}
-use Rattle.atoms.specs.Laid.{laid, Put}
+use Rattle.writing.specs.Laid.{laid}
+use Rattle.atoms.specs.Outcome.{Put}
 use Rattle.parse.specs.Answers.{raisedWords, paramItems}
 use Rattle.exprs.specs.BinderWords.{BinderRow, bindersWords}
 use Rattle.parse.specs.PredWords.{Whole}

@@ -14,7 +14,8 @@ use Rattle.grammar.specs.Scope.{distinct}
 use Rattle.grammar.specs.ParseExpr.{child}
 use Rattle.atoms.specs.Spot.{Spot}
 use Rattle.atoms.specs.Scopes.{NameList}
-use Rattle.atoms.specs.Laid.{laid, bound}
+use Rattle.writing.specs.Laid.{laid}
+use Rattle.atoms.specs.Outcome.{bound}
 use Rattle.exprs.specs.Plans.{factor}
 use Rattle.parse.specs.Answers.{Laid, draftSaid, raisedWords, paramItems, bodyItems}
 use Rattle.parse.specs.declared.Drafted.{Drafted}

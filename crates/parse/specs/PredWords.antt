@@ -11,7 +11,8 @@ use Rattle.grammar.specs.Item.{Item, plain, raise, wordsOf}
 use Rattle.grammar.specs.Expr.{VarName, Pred, predItems, predsItems, nameItems}
 use Rattle.grammar.specs.ParseExpr.{child, children, eachPred, kvarForm}
 use Rattle.atoms.specs.Spot.{Spot}
-use Rattle.atoms.specs.Laid.{laid, bound}
+use Rattle.writing.specs.Laid.{laid}
+use Rattle.atoms.specs.Outcome.{bound}
 use Rattle.parse.specs.declared.preds.Step.{Step}
 use Rattle.parse.specs.declared.preds.Step.the-variants.{On, Refused}
 

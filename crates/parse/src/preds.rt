@@ -6,7 +6,7 @@ ghost use Rattle.grammar.specs.Expr.{bindItems};
 ghost use Rattle.grammar.specs.ParseExpr.{child, children, symbols};
 ghost use Rattle.grammar.specs.ParseBind.{parseBind};
 ghost use Rattle.grammar.specs.Written.{toldOf};
-ghost use Rattle.atoms.specs.Laid.{bound, Put, OutcomeAt};
+ghost use Rattle.atoms.specs.Outcome.{bound, Put, OutcomeAt};
 ghost use Rattle.exprs.specs.Plans.{Parsed};
 ghost use Rattle.parse.specs.PredWords.{Whole, PredHere, KvarHere, countedPreds, Stepped, NameRow, namesWords};
 use crate::ending::no_scopes;

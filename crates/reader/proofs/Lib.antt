@@ -5,3 +5,4 @@ pub mod Replying
 pub mod Whole
 pub mod Meetable
 pub mod RuledOut
+pub mod Solved

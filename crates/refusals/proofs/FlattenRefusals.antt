@@ -1,13 +1,13 @@
 -- The refusals of flattening, proved.
 use Prim.Native.Nat.{ℕ, _≤_, _<_, _^_}
-use mathlib.Core.Bool.{Bool, true, false}
-use mathlib.Core.Path.{_≡_, refl, ap}
+use mathlib.Core.Bool.{true, false≢true}
+use mathlib.Core.Path.{_≡_, refl, sym, ap, _∙_}
 use mathlib.Core.List.{List}
 use native.Mathlib.Omega.{arith}
 use lib.ListN.{length}
 use borrow.Author.Tests.{lt-ltb, le-leb}
 use Rattle.reading.specs.Pick.{pick}
-use Rattle.reading.specs.Answer.{number, noRoom, accepts, refuses, Said, accepted, refused, saidOf}
+use Rattle.reading.specs.Answer.{number, noRoom, Said, accepted, refused, saidOf}
 use Rattle.grammar.specs.Expr.{Expr}
 use Rattle.judge.specs.Judge.{Judged, reads, fails, judgeExpr}
 use Rattle.judge.proofs.Spell.{Low}
@@ -18,9 +18,13 @@ use Rattle.flatten.proofs.Uncurry.{shorter}
 use Rattle.flatten.proofs.FewOperands.{most-size}
 use Rattle.refusals.specs.Refusals.{isAmong, ofFlatten, FlattenRefusals}
 use Rattle.refusals.proofs.JudgeRefusals.{Fails, judge-fails}
+use Rattle.refusals.proofs.Said.{same-number, lacking-room}
+
+abbrev size : Expr → ℕ
+size e = length (exprWords e)
 
 abbrev reported : Expr → Said
-reported e = accepted (length (exprWords e)) 0
+reported e = accepted (size e) 0
 
 -- Among its refusals, and not 7.
 abbrev Among : ℕ → Type 0
@@ -39,12 +43,8 @@ module _ (words out : List ℕ) where
 
   among : (r : ℕ) (x : Judged Expr) → Fails Among x → saidOf reported (flattenBy out x) ≡ refused r → Among r
   unfolding flattenBy saidOf isAmong pick
-  among r (fails s) h q = let e : s ≡ r = cc in rw e at h
-  among r (reads x n) h q = go (flatFits out (uncurry x)) q
-    where
-      go : (t : Bool) → saidOf reported (pick t (accepts (uncurry x) 0) (refuses (number noRoom))) ≡ refused r → Among r
-      go true q = let z : _≡_ {A = ℕ} 0 1 = cc in absurd (omega arith)
-      go false q = let e : 7 ≡ r = cc in rw (← e) refl
+  among r (fails s) h q = rw (← same-number s q) h
+  among r (reads x n) h q = rw (← lacking-room size (uncurry x) (flatFits out (uncurry x)) q .1) refl
 
   -- The flattened words are no more than the words, and no count is larger.
   fits : Low words → length words < 2 ^ 32 → length words ≤ length out → (x : Expr) (n : ℕ) → judgeExpr noText words ≡ reads x n → flatFits out (uncurry x) ≡ true
@@ -54,13 +54,9 @@ module _ (words out : List ℕ) where
       rw (lt-ltb (mostOperands (uncurry x)) (2 ^ 32) (omega (arith, most-size (uncurry x), shorter x, same)), le-leb (length (exprWords (uncurry x))) (length out) (omega (arith, shorter x, same))) refl
 
   no-seven : Low words → length words < 2 ^ 32 → length words ≤ length out → (x : Judged Expr) → judgeExpr noText words ≡ x → Fails NotSeven x → saidOf reported (flattenBy out x) ≡ refused (number noRoom) → ⊥
-  unfolding flattenBy saidOf pick
-  no-seven low few room (fails s) j h q = h cc
-  no-seven low few room (reads x n) j h q = go (flatFits out (uncurry x)) (fits low few room x n j) q
-    where
-      go : (t : Bool) → t ≡ true → saidOf reported (pick t (accepts (uncurry x) 0) (refuses (number noRoom))) ≡ refused (number noRoom) → ⊥
-      go true e q = let z : _≡_ {A = ℕ} 0 1 = cc in omega arith
-      go false e q = let z : _≡_ {A = ℕ} 0 1 = cc in omega arith
+  unfolding flattenBy saidOf
+  no-seven low few room (fails s) j h q = h (same-number s q)
+  no-seven low few room (reads x n) j h q = false≢true (sym (lacking-room size (uncurry x) (flatFits out (uncurry x)) q .0) ∙ fits low few room x n j)
 
 -- All words and every output.
 pub flatten-refusals : (words out : List ℕ) → FlattenRefusals words out

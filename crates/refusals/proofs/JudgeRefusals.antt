@@ -9,7 +9,7 @@ use Rattle.reading.specs.Pick.{pick}
 use Rattle.reading.specs.Answer.{notWords, number, tooDeep}
 use Rattle.grammar.specs.Sort.{Sort}
 use Rattle.grammar.specs.Expr.{Expr, enil, econs}
-use Rattle.judge.specs.Judge.{Judged, reads, fails, Reader, goOn, _>>=_, ret, fail, word, wordBelow, among, orFail, choose, twoWords, fourWords, several, Plan, operandsOf, argumentsOf, spanWithin, nameWithin, ctors, sortKinds, sortDeep, sortAt, binderAt, bindersAt, kinds, header, sortIf, planned, exprDeep, atEnd, exprAt, judgeExpr}
+use Rattle.judge.specs.Judge.{Judged, reads, fails, Reader, goOn, _>>=_, ret, fail, word, wordBelow, among, orFail, choose, twoWords, fourWords, several, Plan, operandsOf, argumentsOf, spanWithin, nameWithin, ctors, sortKinds, sortDeep, sortAt, binderAt, bindersAt, kinds, header, sortIf, planned, exprDeep, atEnd, exprAt, judgeExpr, judgeSolution}
 
 -- What holds of a refusal.
 abbrev pub Fails : {A : Type 0} → (ℕ → Type 0) → Judged A → Type 0
@@ -188,3 +188,8 @@ module _ (Q : ℕ → Type 0) (six : Q (number tooDeep)) (fourteen : Q notWords)
     pub judge-fails : (ws : List ℕ) → Fails Q (judgeExpr limit ws)
     unfolding judgeExpr exprAt
     judge-fails ws = then (exprDeep limit maxNodes) (an-expr maxNodes) at-end .only ws 0
+
+    pub solution-fails : (ws : List ℕ) → Fails Q (judgeSolution limit ws)
+    unfolding judgeSolution exprAt
+    solution-fails ws =
+        then word a-word (λ n. then (bindersAt limit n) (some-binders n) λ bs. then (exprDeep limit maxNodes) (an-expr maxNodes) λ e. at-end _) .only ws 0

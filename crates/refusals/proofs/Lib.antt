@@ -1,4 +1,6 @@
+pub mod Said
 pub mod Refusals
 pub mod JudgeRefusals
 pub mod FlattenRefusals
+pub mod SmtlibRefusals
 pub mod Roomy

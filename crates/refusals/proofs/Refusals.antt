@@ -38,6 +38,7 @@ use Rattle.session.specs.Session.{Op, readOne, readAll, sort, expression, bind,
 use Rattle.session.specs.Compared.{readsOrSorts}
 use Rattle.refusals.specs.Refusals.{isAmong, ofReading, ofSort, ofExpr, refusalsOf, perByte, Roomy, RefusalsOf}
 use Rattle.session.proofs.Made.{Fine, make-fine}
+use Rattle.refusals.proofs.Said.{same-number}
 use Rattle.session.proofs.Calls.{when-refused, when-accepted, decides-early, decides-spent, decides-short, decides-long, no-refusal}
 
 -- An answer that takes no number.
@@ -98,9 +99,6 @@ data Why (call : Call) (c r : ℕ) : Type 0 where
   short : (m : Term) (n : ℕ) → made call ≡ ok m n → roomFor call m ≡ false → number noRoom ≡ r → Why call c r
 
 module _ (call : Call) (c r : ℕ) where
-  same-number : (k : ℕ) → refused k ≡ refused r → k ≡ r
-  same-number k e = cc
-
   why : outcome call c .said ≡ refused r → Why call c r
   why q = go (made call) refl
     where

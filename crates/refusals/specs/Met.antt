@@ -10,9 +10,11 @@ use Rattle.reading.specs.Pick.{pick}
 use Rattle.reading.specs.Bytes.{ascii}
 use Rattle.reading.specs.Answer.{Said, accepted, refused}
 use Rattle.flatten.specs.Operations.{flattenSaid}
+use Rattle.smt.specs.Operation.{smtlibSaid}
+use Rattle.smt.specs.Compute.{smtComputes}
 use Rattle.session.specs.Session.{Op, readOne, readAll, sort, expression, bind, solution, Call, outcome}
 use Rattle.session.specs.Compute.{readerComputes}
-use Rattle.refusals.specs.Refusals.{isAmong, refusalsOf, ofFlatten, roomyCall}
+use Rattle.refusals.specs.Refusals.{isAmong, refusalsOf, ofFlatten, ofSmtlib, roomyCall}
 
 -- A call on a reader at a count.
 pub record Asked : Type 0 where
@@ -105,6 +107,10 @@ pub not-among-flatten : isAmong 1 ofFlatten ≡ false
 unfolding isAmong pick
 not-among-flatten = refl
 
+pub not-among-smtlib : isAmong 1 ofSmtlib ≡ false
+unfolding isAmong pick
+not-among-smtlib = refl
+
 -- Words to flatten, and the length of the output.
 pub record Flat : Type 0 where
   pub input : List ℕ
@@ -126,3 +132,28 @@ metByFlatten = map (λ f. refusalIn (flattenSaid (f .input) (replicate (f .out) 
 pub met-flatten : metByFlatten ≡ ofFlatten
 unfolding metByFlatten
 met-flatten = refl
+
+-- Words of a solution, their text, and the length of the output in bytes.
+pub record Smt : Type 0 where
+  pub input : List ℕ
+  pub text : String
+  pub out : ℕ
+
+-- 129 times `not`; `true`, which is written as the seven bytes `() true`, with six of output; no words; the theory function 0; a string of one bar.
+abbrev pub smts : List Smt
+smts =
+    record { input = 0 ∷ replicate 129 44; text = ""; out = 0 }
+    ∷ record { input = 0 ∷ 33 ∷ 1 ∷ []; text = ""; out = 6 }
+    ∷ record { input = []; text = ""; out = 0 }
+    ∷ record { input = 0 ∷ 49 ∷ 0 ∷ []; text = ""; out = 0 }
+    ∷ record { input = 0 ∷ 34 ∷ 0 ∷ 1 ∷ []; text = "|"; out = 0 }
+    ∷ []
+
+-- The refusals that they meet are all that the operation has.
+unfoldable pub metBySmtlib : List ℕ
+unfolding smtComputes refusalIn
+metBySmtlib = map (λ s. refusalIn (smtlibSaid (s .input) (ascii (s .text)) (replicate (s .out) 0))) smts
+
+pub met-smtlib : metBySmtlib ≡ ofSmtlib
+unfolding metBySmtlib
+met-smtlib = refl

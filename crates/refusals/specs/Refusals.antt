@@ -8,6 +8,7 @@ use lib.ListN.{length, getD, replicate}
 use Rattle.reading.specs.Pick.{pick}
 use Rattle.reading.specs.Answer.{number, noRoom, refused}
 use Rattle.flatten.specs.Operations.{flattenSaid}
+use Rattle.smt.specs.Operation.{smtlibSaid}
 use Rattle.session.specs.Session.{Op, readOne, readAll, sort, expression, bind, solution, Call, outcome}
 
 -- A number stands in a list.
@@ -37,6 +38,10 @@ refusalsOf solution = ofReading ++ ofExpr
 -- Those of flattening, which takes words.
 abbrev pub ofFlatten : List ℕ
 ofFlatten = 6 ∷ 7 ∷ 14 ∷ []
+
+-- Those of the operation smtlib, which takes words and their text, by request C-11.
+abbrev pub ofSmtlib : List ℕ
+ofSmtlib = 6 ∷ 7 ∷ 14 ∷ 15 ∷ 16 ∷ []
 
 -- Words of the slices for each byte of the text.
 pub record PerByte : Type 0 where
@@ -81,3 +86,7 @@ pub record RefusalsOf (call : Call) (c : ℕ) : Type 0 where
 pub record FlattenRefusals (words out : List ℕ) : Type 0 where
   pub among : (r : ℕ) → flattenSaid words out ≡ refused r → isAmong r ofFlatten ≡ true
   pub noSeven : ((i : ℕ) → i < length words → getD words i 0 < 2 ^ 32) → length words < 2 ^ 32 → length words ≤ length out → flattenSaid words out ≡ refused (number noRoom) → ⊥
+
+-- The operation smtlib has no others, whatever the words, the text and the output.
+pub record SmtlibRefusals (words text out : List ℕ) : Type 0 where
+  pub among : (r : ℕ) → smtlibSaid words text out ≡ refused r → isAmong r ofSmtlib ≡ true

@@ -9,7 +9,7 @@ use lib.Dec.{eqb}
 use lib.ListN.{length, take, drop, getD, length-drop}
 use lib.Seq.{sets, length-sets, length-take-le, drop-cons}
 use Rattle.reading.specs.Pick.{pick}
-use Rattle.show.specs.Hex.{eightDigits}
+use Rattle.writing.specs.Digits.{eightDigits}
 use Rattle.show.specs.Lines.{separator, line}
 use Rattle.show.proofs.Stores.{sets-append}
 

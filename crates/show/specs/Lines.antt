@@ -4,7 +4,7 @@ use mathlib.Core.List.{List, [], _∷_, _++_}
 use Rattle.grammar.specs.Sort.{two, sortWords}
 use Rattle.grammar.specs.Item.{wordsOf}
 use Rattle.grammar.specs.Expr.{Binder, exprItems, Solution}
-use Rattle.show.specs.Hex.{twoDigits, eightDigits}
+use Rattle.writing.specs.Digits.{twoDigits, eightDigits}
 
 -- What stands behind a word: a space, or a line feed if no word follows.
 abbrev pub separator : List ℕ → ℕ

@@ -8,27 +8,15 @@ ghost use lib.ListN.{length, take, drop};
 ghost use lib.Seq.{sets};
 ghost use Rattle.reading.specs.Pick.{pick};
 ghost use Rattle.reading.specs.Bytes.{just};
-ghost use Rattle.reading.specs.Answer.{zeros};
-ghost use Rattle.show.specs.Hex.{digit as digitOf, eightDigits};
+ghost use Rattle.writing.specs.Digits.{eightDigits};
 ghost use Rattle.show.specs.Lines.{line as lineOf, refusalText};
 ghost use Rattle.show.specs.Shown.{wordsText, hasRoom, shown};
 use judge::expr_words::End;
-use judge::expr_words::MAX_NODES;
 use judge::expr_words::NO_TEXT;
-use judge::expr_words::expr_end;
-use judge::sort_words::binders_end;
+use judge::expr_words::solution as solution_end;
 use judge::sort_words::sort_end;
-
-// A digit as a byte.
-fn digit(d: u32) -> u8
-    requires { ⌜ d < 16 ⌝ }
-    ensures { λ r. ⌜ r ≡ digitOf d ⌝ }
-{
-    if d < 10 {
-        return (48 + d) as u8;
-    }
-    (87 + d) as u8
-}
+use writing::clear;
+use writing::digit;
 
 // What stands behind the word in front of a place, in a line of words up to another place.
 fn separator(next: usize, to: usize) -> u8
@@ -71,17 +59,6 @@ fn line(words: &[u32], from: usize, to: usize, out: &mut [u8], at: usize) -> usi
     a
 }
 
-// Zeros throughout.
-fn clear(out: &mut [u8])
-    ensures { λ _. ⌜ now (out .exit) ≡ zeros (now (out .entry)) ⌝ }
-{
-    let mut i = 0;
-    while i < out.len() {
-        out[i] = 0;
-        i += 1;
-    }
-}
-
 // The text of a refusal, at the start of the output; answers its length. An output without room for its three bytes is cleared, and the
 // answer is 0.
 pub fn refusal(n: u32, out: &mut [u8]) -> usize
@@ -115,19 +92,8 @@ fn long_enough(words: usize, room: usize) -> bool
 fn fits(words: &[u32], room: usize) -> bool
     ensures { λ r. ⌜ r ≡ hasRoom (wordsText (now (words .entry))) room ⌝ }
 {
-    if words.len() == 0 {
-        return false;
-    }
-    match binders_end(words, 1, words[0], NO_TEXT) {
-        End::At(a) => match expr_end(words, a, NO_TEXT, MAX_NODES) {
-            End::At(n) => {
-                if n == words.len() {
-                    return long_enough(n, room);
-                }
-                false
-            }
-            End::No(_) => false,
-        },
+    match solution_end(words, NO_TEXT) {
+        End::At(_) => long_enough(words.len(), room),
         End::No(_) => false,
     }
 }

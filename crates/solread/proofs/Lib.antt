@@ -1,4 +1,1 @@
-pub mod Back
-pub mod Decided
-pub mod Told
 pub mod Shown

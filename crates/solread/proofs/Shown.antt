@@ -9,16 +9,20 @@ use lib.Seq.{take-at}
 use Rattle.reading.specs.Pick.{pick}
 use Rattle.reading.specs.Bytes.{Maybe, just}
 use Rattle.reading.proofs.Over.{over-length, over-fits}
+use Rattle.grammar.specs.Expr.{Solution}
+use Rattle.judge.specs.Judge.{judgeSolution}
+use Rattle.flatten.specs.Uncurry.{flattened}
+use Rattle.flatten.specs.Operations.{noText}
 use Rattle.session.specs.Session.{final}
 use Rattle.show.specs.Lines.{refusalText, solutionText}
-use Rattle.show.specs.Shown.{wordsText, shown}
+use Rattle.show.specs.Shown.{textOf, wordsText, shown}
+use Rattle.show.proofs.Params.{text-length}
 use Rattle.show.proofs.Showing.{answering, reveals}
 use Rattle.reader.specs.declared.Said.{Said}
 use Rattle.reader.specs.declared.Said.the-variants.{Accepted, Refused}
 use Rattle.reader.specs.Calls.{solutionCall}
 use Rattle.solread.specs.Printed.{finalText, slice, printed}
-use Rattle.solread.proofs.Decided.{call-accepted, call-refused}
-use Rattle.solread.proofs.Told.{Told, told-accepted, told-refused}
+use Rattle.reader.proofs.Solved.{ToldSolution, solved, not-solved}
 
 -- So many bytes of the output are what is printed for the text.
 abbrev pub Shown : List ℕ → List ℕ → ℕ → Type 0
@@ -51,20 +55,21 @@ module _ (text out₀ : List ℕ) {out : List ℕ} {r : ℕ} (room : 36864 ≤ l
   unfolding printed pick
   shown-long h d = refusing 1 d (rw (lt-ltb 8192 (length text) h) refl)
 
-  module _ {c : ℕ} {said : Said} {words : List ℕ} (t : Told text c said words) (h : length text ≤ 8192) where
+  module _ {c : ℕ} {said : Said} {words : List ℕ} (t : ToldSolution text slice slice slice c said words) (h : length text ≤ 8192) where
     -- A text that is refused.
     pub shown-refused : {n : ℕ} → said ≡ Refused n → answering r out ≡ shown (just (refusalText n)) out₀ → Shown text out r
-    shown-refused {n} e d = refusing n d (by-call text h ∙ call-refused text slice slice slice c (t .new) (told-refused t e))
+    unfolding finalText
+    shown-refused {n} e d = refusing n d (by-call text h ∙ ap finalText (not-solved t e))
 
     -- A text that is accepted.
     pub shown-accepted : {k j : ℕ} → said ≡ Accepted k j → answering r out ≡ shown (wordsText (take k words)) out₀ → Shown text out r
-    shown-accepted e d =
-        let a = call-accepted text slice slice slice c (t .new) (told-accepted t e) (t .leaves) in
-        let l = laid (solutionText (a .solution)) out₀ (a .tells) (omega (arith, a .fits, a .inside, slice-long, room)) d in
-        (l .0, l .1 ∙ sym (by-call text h ∙ a .is))
+    unfolding finalText wordsText
+    shown-accepted {k} e d =
+        let a = solved t e in
+        let s : Solution = flattened (a .before) in
+        let l = laid (solutionText s) out₀ (ap (λ (l : List ℕ). textOf (judgeSolution noText l)) (a .first) ∙ ap textOf (a .back noText (omega (arith, h)))) (omega (arith, text-length s, a .size, a .inside, slice-long, room)) d in
+        (l .0, l .1 ∙ sym (by-call text h ∙ ap finalText (a .is)))
 
 -- The words that are counted lie in the output.
-pub words-inside : {text : List ℕ} {c : ℕ} {said : Said} {words : List ℕ} → Told text c said words → {k j : ℕ} → said ≡ Accepted k j → k ≤ length words
-words-inside {text} {c} t e =
-    let a = call-accepted text slice slice slice c (t .new) (told-accepted t e) (t .leaves) in
-    omega (arith, a .long, a .inside)
+pub words-inside : {text : List ℕ} {c : ℕ} {said : Said} {words : List ℕ} → ToldSolution text slice slice slice c said words → {k j : ℕ} → said ≡ Accepted k j → k ≤ length words
+words-inside t e = let a = solved t e in omega (arith, a .long, a .inside)

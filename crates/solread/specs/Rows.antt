@@ -6,7 +6,7 @@ use Prim.Native.String.{String}
 use lib.ListN.{replicate}
 use Rattle.reading.specs.Bytes.{ascii}
 use Rattle.session.specs.Compute.{readerComputes}
-use Rattle.show.specs.Hex.{digit}
+use Rattle.writing.specs.Digits.{digit}
 use Rattle.show.specs.Lines.{line, refusalText, paramLines, solutionText}
 use Rattle.solread.specs.Printed.{finalText, slice, printed}
 

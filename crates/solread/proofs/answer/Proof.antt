@@ -1,14 +1,14 @@
 use mathlib.Core.Path.{sym}
 use lib.Seq.{length-take-le}
 use Rattle.solread.specs.Printed.{slice}
-use Rattle.solread.proofs.Told.{Told}
+use Rattle.reader.proofs.Solved.{ToldSolution}
 use Rattle.solread.proofs.Shown.{shown-long, shown-refused, shown-accepted, words-inside}
 use borrow.Author.Needs.{needs}
 use Rattle.solread.proofs.answer.Statement.{statement}
 use Rattle.solread.proofs.answer.Tie as tie
 
 -- What the call tells: the only place that reads the contract of the method.
-told : (c : tie.After-solution) → Told (c .before .before .before .before .before .before .before .before .args .text .now) (c .before .before .before .before .«open» .result .next) (c .solution .result .said) (c .solution .last .1 .1 .1 .1 .0)
+told : (c : tie.After-solution) → ToldSolution (c .before .before .before .before .before .before .before .before .args .text .now) slice slice slice (c .before .before .before .before .«open» .result .next) (c .solution .result .said) (c .solution .last .1 .1 .1 .1 .0)
 unfolding slice
 told c = record { new = c .before .before .before .before .«open» .ensures; says = c .solution .ensures .said; leaves = c .solution .ensures .output }
 

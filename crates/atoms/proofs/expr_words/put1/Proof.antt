@@ -1,5 +1,5 @@
 use mathlib.Core.Path.{refl}
-use Rattle.atoms.specs.Laid.{laid}
+use Rattle.writing.specs.Laid.{laid}
 use borrow.Author.Needs.{needs}
 use Rattle.atoms.proofs.expr_words.put1.Statement.{statement}
 use Rattle.atoms.proofs.expr_words.put1.Tie as tie

@@ -26,7 +26,7 @@ use Rattle.judge.proofs.expr_words.exprs_end.Reads as exprs-end-reads
 use Rattle.judge.proofs.expr_words.head.Reads as head-reads
 use Rattle.judge.proofs.expr_words.out_sort.Reads as out-sort-reads
 use Rattle.flatten.proofs.write.added.Reads as added-reads
-use Rattle.flatten.proofs.write.behind.Reads as behind-reads
+use Rattle.judge.proofs.expr_words.behind.Reads as behind-reads
 use Rattle.flatten.proofs.write.copy.Reads as copy-reads
 use Rattle.flatten.proofs.write.lone.Reads as lone-reads
 use Rattle.flatten.proofs.write.patch.Reads as patch-reads

@@ -2,7 +2,7 @@ use Prim.Native.Nat.{_-_, zero-le}
 use mathlib.Core.Path.{refl}
 use native.Mathlib.Omega.{arith}
 use lib.ListN.{length}
-use Rattle.lexing.proofs.Lexing.Zeros.{Cleared, clear-more, clear-all}
+use Rattle.reading.proofs.Zeros.{Cleared, clear-more, clear-all}
 use Rattle.lexing.proofs.words.clear.Statement.{statement}
 use Rattle.lexing.proofs.words.clear.Tie as tie
 

@@ -1,0 +1,12 @@
+pub mod Tests
+pub mod Tables
+pub mod Figures
+pub mod Lexing
+pub mod Reading
+pub mod Clean
+pub mod Names
+pub mod Shaped
+pub mod Judged
+pub mod Why
+pub mod HoldsNone
+pub mod Text

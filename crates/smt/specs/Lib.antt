@@ -1,0 +1,14 @@
+pub mod Sexp
+pub mod SexpBack
+pub mod Term
+pub mod TermBack
+pub mod Vocabulary
+pub mod Writer
+pub mod Meant
+pub mod Meaning
+pub mod Shape
+pub mod Unwritable
+pub mod Unprintable
+pub mod Claims
+pub mod Operation
+pub mod Compute

@@ -1,0 +1,26 @@
+-- Bit-vector functions by their numbers.
+use Prim.Native.Nat.{ℕ, _≤_, _<_, _-_}
+use mathlib.Core.Path.{_≡_, refl, ap, _∙_}
+use mathlib.Core.List.{List}
+use native.Mathlib.Omega.{arith}
+use Rattle.reading.specs.Answer.{got}
+use Rattle.writing.specs.Wrote.{WroteBytes}
+use Rattle.writing.proofs.Wrote.{either}
+use Rattle.smt.specs.Vocabulary.{bitVectors}
+use Rattle.smt.specs.Writer.{spelledAt}
+use Rattle.smtfronts.specs.Fronts.{functionText}
+use Rattle.smtvars.specs.Written.{tells, keeps, TellsPiece}
+use Rattle.smtvars.specs.declared.answers.Written.the-variants as written
+use Rattle.smtfronts.proofs.FrontsSymbols.{function-named, function-low, function-high}
+
+module _ {l l′ : List ℕ} {place : ℕ} where
+  -- A number that has a name.
+  pub function-told : (k : ℕ) {n p : ℕ} → n ≡ k → 9 ≤ k → k < 32 → WroteBytes l place (spelledAt bitVectors (k - 9)) l′ p → TellsPiece (functionText n) l place l′ (written.To p)
+  function-told k e low high w = rw (e, function-named k low high) (tells w refl)
+
+-- A number that has none.
+pub function-none : {l : List ℕ} {place : ℕ} (n : ℕ) → (9 ≤ n → n < 32 → ⊥) → TellsPiece (functionText n) l place l (written.No 15)
+function-none n none =
+    either n 9
+    (λ low. rw (function-low n low) (keeps refl refl))
+    λ low. either n 32 (λ high. absurd (none low high)) λ high. rw (function-high n high) (keeps refl refl)

@@ -1,0 +1,11 @@
+pub mod FrontsTerm
+pub mod FrontsFormed
+pub mod FrontsSymbols
+pub mod FrontsNode
+pub mod FrontsSeams
+pub mod FrontsTells
+pub mod FrontsRest
+pub mod FrontsWidth
+pub mod FrontsExists
+pub mod FrontsFunctions
+pub mod FrontsSteps

@@ -1,0 +1,297 @@
+// What stands in front of the operands of an expression, between them and behind them.
+ghost use mathlib.Core.Path.{_≡_};
+ghost use mathlib.Core.List.{List, [], _∷_};
+ghost use Prim.Native.Nat.{ℕ, _<_, _^_};
+ghost use Rattle.grammar.specs.Expr.{Binder, Kind};
+ghost use Rattle.judge.specs.Judge.{reads, operandsOf, bindersAt, header};
+ghost use Rattle.judge.specs.Node.{nodeOf};
+ghost use Rattle.judge.specs.declared.kind.Node.the-variants as told;
+ghost use Rattle.writing.specs.Wrote.{WroteBytes};
+ghost use Rattle.writing.specs.Quads.{asWide};
+ghost use Rattle.smt.specs.Vocabulary.{operators, relations};
+ghost use Rattle.smt.specs.Writer.{spelledAt, fitsWidth};
+ghost use Rattle.smtfronts.specs.Fronts.{operatorText, seamOf, closeText, frontText, foldedText, bitsText, boolText, existsText, Numbered, nodeText, nodeLets, nodeCloses};
+ghost use Rattle.smtvars.specs.Written.{TellsPiece};
+use judge::kind::Node;
+use smtvars::answers::Walked;
+use smtvars::answers::Written;
+use smtvars::names::fresh;
+use smtvars::names::name;
+use smtvars::names::string;
+use smtvars::vars::vars;
+use writing::Quad;
+use writing::byte;
+use writing::bytes;
+use writing::decimal;
+use writing::decimal_word;
+
+// An operator by its number, behind a parenthesis.
+fn operator(op: u32, out: &mut [u8], place: usize) -> usize
+    ensures { λ r. ⌜ (op < 5 → WroteBytes (now (out .entry)) place (operatorText (spelledAt operators op)) (now (out .exit)) r) ⌝ }
+{
+    match op {
+        0 => bytes(b"(+ ", out, place),
+        1 => bytes(b"(- ", out, place),
+        2 => bytes(b"(* ", out, place),
+        3 => bytes(b"(div ", out, place),
+        _ => bytes(b"(mod ", out, place),
+    }
+}
+
+// A relation by its number, behind a parenthesis.
+fn relation(r: u32, out: &mut [u8], place: usize) -> usize
+    ensures { λ q. ⌜ (r < 6 → WroteBytes (now (out .entry)) place (operatorText (spelledAt relations r)) (now (out .exit)) q) ⌝ }
+{
+    match r {
+        0 => bytes(b"(= ", out, place),
+        1 => bytes(b"(distinct ", out, place),
+        2 => bytes(b"(> ", out, place),
+        3 => bytes(b"(>= ", out, place),
+        4 => bytes(b"(< ", out, place),
+        _ => bytes(b"(<= ", out, place),
+    }
+}
+
+// And and Or: what stands for no operand, nothing for one, and the operator for more.
+fn folded(unit: &[u8], name: &[u8], n: u32, out: &mut [u8], place: usize) -> usize
+    ensures { λ r. ⌜ WroteBytes (now (out .entry)) place (foldedText (now (unit .entry)) (now (name .entry)) n) (now (out .exit)) r ⌝ }
+{
+    if n == 0 {
+        return bytes(unit, out, place);
+    }
+    if n == 1 {
+        return place;
+    }
+    let a = byte(out, place, 40);
+    let b = bytes(name, out, a);
+    byte(out, b, 32)
+}
+
+// A let of a name, up to its value.
+fn let_front(text: &[u8], start: u32, len: u32, out: &mut [u8], place: usize) -> Written
+    ensures { λ r. ⌜ TellsPiece (nodeText (now (text .entry)) (told.Let start len) 2) (now (out .entry)) place (now (out .exit)) r ⌝ }
+{
+    let a = bytes(b"(let ((", out, place);
+    match name(110, text, start, len, out, a) {
+        Written::To(p) => Written::To(byte(out, p, 32)),
+        Written::No(r) => Written::No(r),
+    }
+}
+
+// A constructor test, up to its operand.
+fn test_front(text: &[u8], start: u32, len: u32, out: &mut [u8], place: usize) -> Written
+    ensures { λ r. ⌜ TellsPiece (nodeText (now (text .entry)) (told.IsCtor start len) 1) (now (out .entry)) place (now (out .exit)) r ⌝ }
+{
+    let a = bytes(b"((_ is ", out, place);
+    match name(110, text, start, len, out, a) {
+        Written::To(p) => Written::To(bytes(b") ", out, p)),
+        Written::No(r) => Written::No(r),
+    }
+}
+
+// A power of two, below 2^32.
+fn power(e: u32) -> u32
+    requires { ⌜ e < 32 ⌝ }
+    ensures { λ r. ⌜ r ≡ 2 ^ e ⌝ }
+{
+    let mut p: u32 = 1;
+    let mut i = e;
+    while 0 < i {
+        p *= 2;
+        i -= 1;
+    }
+    p
+}
+
+// A number is a value of a width.
+fn fits(q: Quad, width: u32) -> bool
+    ensures { λ r. ⌜ r ≡ fitsWidth (asWide q) width ⌝ }
+{
+    if width == 0 {
+        return false;
+    }
+    if 128 <= width {
+        return true;
+    }
+    if 96 <= width {
+        return q.d < power(width - 96);
+    }
+    if q.d != 0 {
+        return false;
+    }
+    if 64 <= width {
+        return q.c < power(width - 64);
+    }
+    if q.c != 0 {
+        return false;
+    }
+    if 32 <= width {
+        return q.b < power(width - 32);
+    }
+    if q.b != 0 {
+        return false;
+    }
+    q.a < power(width)
+}
+
+// A value of a width.
+fn bits(q: Quad, width: u32, out: &mut [u8], place: usize) -> Written
+    ensures { λ r. ⌜ TellsPiece (bitsText (asWide q) width) (now (out .entry)) place (now (out .exit)) r ⌝ }
+{
+    if !fits(q, width) {
+        return Written::No(15);
+    }
+    let a = bytes(b"(_ bv", out, place);
+    let b = decimal(q, out, a);
+    let c = byte(out, b, 32);
+    let d = decimal_word(width, out, c);
+    Written::To(byte(out, d, 41))
+}
+
+// True or false.
+fn boolean(b: bool, out: &mut [u8], place: usize) -> usize
+    ensures { λ r. ⌜ WroteBytes (now (out .entry)) place (boolText b) (now (out .exit)) r ⌝ }
+{
+    if b {
+        return bytes(b"true", out, place);
+    }
+    bytes(b"false", out, place)
+}
+
+// In front of so many operands, of every kind but an exists.
+fn plain_front(node: Node, n: u32, text: &[u8], out: &mut [u8], place: usize) -> Written
+    ensures { λ r. ⌜ (Numbered node → TellsPiece (nodeText (now (text .entry)) node n) (now (out .entry)) place (now (out .exit)) r) ⌝ }
+{
+    match node {
+        Node::Num(a, b, c, d) => {
+            let q = Quad {
+                a: a,
+                b: b,
+                c: c,
+                d: d,
+            };
+            Written::To(decimal(q, out, place))
+        }
+        Node::Bool(b) => Written::To(boolean(b, out, place)),
+        Node::Str(start, len) => string(text, start, len, out, place),
+        Node::BitVec(a, b, c, d, width) => {
+            let q = Quad {
+                a: a,
+                b: b,
+                c: c,
+                d: d,
+            };
+            bits(q, width, out, place)
+        }
+        Node::Fresh(k) => Written::To(fresh(k, out, place)),
+        Node::Named(start, len) => name(110, text, start, len, out, place),
+        Node::Neg => Written::To(bytes(b"(- ", out, place)),
+        Node::Bin(op) => Written::To(operator(op, out, place)),
+        Node::If => Written::To(bytes(b"(ite ", out, place)),
+        Node::And => Written::To(folded(b"true", b"and", n, out, place)),
+        Node::Or => Written::To(folded(b"false", b"or", n, out, place)),
+        Node::Not => Written::To(bytes(b"(not ", out, place)),
+        Node::Imp => Written::To(bytes(b"(=> ", out, place)),
+        Node::Iff => Written::To(bytes(b"(= ", out, place)),
+        Node::Atom(r) => Written::To(relation(r, out, place)),
+        Node::Let(start, len) => let_front(text, start, len, out, place),
+        Node::Theory(_) => Written::No(15),
+        Node::IsCtor(start, len) => test_front(text, start, len, out, place),
+        Node::Exists(_) => Written::No(15),
+        Node::Other => Written::No(15),
+    }
+}
+
+// An exists with so many binders, whose words begin at a place, up to its body.
+fn exists_front(
+    words: &[u32],
+    at: usize,
+    n: u32,
+    text: &[u8],
+    out: &mut [u8],
+    place: usize,
+) -> Written
+    ensures { λ r. ⌜ ((limit : ℕ) (bs : List Binder) (m : ℕ) → bindersAt limit n (now (words .entry)) at ≡ reads bs m → TellsPiece (existsText (now (text .entry)) bs) (now (out .entry)) place (now (out .exit)) r) ⌝ }
+{
+    if n == 0 {
+        return Written::To(place);
+    }
+    let a = bytes(b"(exists ", out, place);
+    match vars(words, at, n, text, out, a) {
+        Walked::At(_, p) => Written::To(byte(out, p, 32)),
+        Walked::No(r) => Written::No(r),
+    }
+}
+
+// In front of the operands of the expression at a place, which was judged.
+pub fn front(
+    words: &[u32],
+    at: usize,
+    node: Node,
+    n: u32,
+    text: &[u8],
+    out: &mut [u8],
+    place: usize,
+) -> Written
+    ensures { λ r. ⌜ ((limit : ℕ) (k : Kind) (a : ℕ) → header limit (now (words .entry)) at ≡ reads (operandsOf k n) a → node ≡ nodeOf k → TellsPiece (frontText (now (text .entry)) k n) (now (out .entry)) place (now (out .exit)) r) ⌝ }
+{
+    match node {
+        Node::Exists(m) => {
+            if words.len() <= at {
+                return Written::No(14);
+            }
+            exists_front(words, at + 2, m, text, out, place)
+        }
+        _ => plain_front(node, n, text, out, place),
+    }
+}
+
+// A let's value and body stand apart otherwise than other operands.
+pub fn lets(node: Node) -> bool
+    ensures { λ r. ⌜ r ≡ nodeLets node ⌝ }
+{
+    match node {
+        Node::Let(_, _) => true,
+        _ => false,
+    }
+}
+
+// A parenthesis stands behind the operands.
+pub fn closes(node: Node, n: u32) -> bool
+    ensures { λ r. ⌜ r ≡ nodeCloses node n ⌝ }
+{
+    match node {
+        Node::Num(_, _, _, _) => false,
+        Node::Bool(_) => false,
+        Node::Str(_, _) => false,
+        Node::BitVec(_, _, _, _, _) => false,
+        Node::Fresh(_) => false,
+        Node::Named(_, _) => false,
+        Node::And => 2 <= n,
+        Node::Or => 2 <= n,
+        Node::Theory(_) => false,
+        Node::Exists(m) => 0 < m,
+        Node::Other => false,
+        _ => true,
+    }
+}
+
+// Between two operands.
+pub fn seam(in_let: bool, out: &mut [u8], place: usize) -> usize
+    ensures { λ r. ⌜ WroteBytes (now (out .entry)) place (seamOf in_let) (now (out .exit)) r ⌝ }
+{
+    if in_let {
+        return bytes(b")) ", out, place);
+    }
+    byte(out, place, 32)
+}
+
+// Behind the operands.
+pub fn close(closed: bool, out: &mut [u8], place: usize) -> usize
+    ensures { λ r. ⌜ WroteBytes (now (out .entry)) place (closeText closed) (now (out .exit)) r ⌝ }
+{
+    if closed {
+        return byte(out, place, 41);
+    }
+    place
+}

@@ -1,0 +1,13 @@
+pub mod Joined
+pub mod Tells
+pub mod NamePieces
+pub mod SortNodes
+pub mod Endings
+pub mod SortLevels
+pub mod SortTexts
+pub mod SortViews
+pub mod SortStack
+pub mod WordsRead
+pub mod SortLoop
+pub mod VarTexts
+pub mod VarLoop
