@@ -5,7 +5,7 @@ use mathlib.Core.Path.{_≡_, refl, sym, ap, _∙_}
 use mathlib.Core.List.{List, [], _∷_}
 use native.Mathlib.Omega.{arith}
 use lib.Dec.{eqb, ltb}
-use lib.ListN.{length, set, getD}
+use lib.ListN.{length, set, getD, length-set}
 use lib.Seq.{getD-set-same, getD-set-other}
 use borrow.Author.Tests.{eqb-true, eqb-false}
 use Rattle.reading.specs.Pick.{pick}
@@ -37,6 +37,36 @@ known-kept : (bases : List ℕ) (i x k : ℕ) (cs : List ℕ) → k ≤ i → Kn
 known-kept bases i x zero cs h o = tt
 known-kept bases i x (suc k) [] h o = o
 known-kept bases i x (suc k) (c ∷ cs) h o = (getD-set-other bases i k x 0 (λ e. omega (arith, h, e)) ∙ o .0, known-kept bases i x k cs (omega (arith, h)) (o .1))
+
+-- The inner half moves to the front of the array, so many of it.
+pub record Moved (l₀ l : List ℕ) (i : ℕ) : Type 0 where
+  pub long : length l ≡ length l₀
+  pub front : (j : ℕ) → j < i → getD l j 0 ≡ getD l₀ (j + 32) 0
+  pub still : (j : ℕ) → i ≤ j → getD l j 0 ≡ getD l₀ j 0
+
+pub moved-none : (l : List ℕ) → Moved l l 0
+moved-none l = record { long = refl; front = λ j h. absurd (omega (arith, h)); still = λ j h. refl }
+
+pub moved-one : (l₀ l : List ℕ) (i : ℕ) → i < length l → Moved l₀ l i → Moved l₀ (set l i (getD l (i + 32) 0)) (i + 1)
+moved-one l₀ l i h m =
+    record {
+      long = length-set l i _ ∙ m .long;
+      front = λ j g. go j g (eqb j i) refl;
+      still = λ j g. getD-set-other l i j _ 0 (λ e. omega (arith, g, e)) ∙ m .still j (omega (arith, g));
+    }
+  where
+    go : (j : ℕ) → j < i + 1 → (t : Bool) → eqb j i ≡ t → getD (set l i (getD l (i + 32) 0)) j 0 ≡ getD l₀ (j + 32) 0
+    go j g true e = rw (eqb-true j i e) (getD-set-same l i _ 0 h ∙ m .still (i + 32) (omega arith))
+    go j g false e = getD-set-other l i j _ 0 (eqb-false j i e) ∙ m .front j (omega (arith, g, eqb-false j i e))
+
+-- The lists that stand there are known as before.
+pub moved-known : (l₀ l : List ℕ) (k n : ℕ) (cs : List ℕ) → Moved l₀ l 32 → n ≡ k + 32 → k ≤ 32 → Known l₀ n cs → Known l k cs
+moved-known l₀ l zero n cs m e h o = tt
+moved-known l₀ l (suc k) zero cs m e h o = absurd (omega (arith, e))
+moved-known l₀ l (suc k) (suc n) [] m e h o = absurd o
+moved-known l₀ l (suc k) (suc n) (c ∷ cs) m e h o =
+    let f : k + 32 ≡ n = omega (arith, e) in
+    (m .front k (omega (arith, h)) ∙ ap (λ j. getD l₀ j 0) f ∙ o .0, moved-known l₀ l k n cs m (sym f) (omega (arith, h)) (o .1))
 
 -- One list more.
 pub known-more : (bases : List ℕ) (k c : ℕ) (cs : List ℕ) {base : ℕ} → k < length bases → base ≡ total cs → Known bases k cs → Known (set bases k base) (k + 1) (c ∷ cs)

@@ -3,6 +3,7 @@
 ghost use mathlib.Core.Path.{_≡_};
 ghost use mathlib.Core.List.{List, _∷_};
 ghost use Prim.Native.Nat.{ℕ, suc, _≤_, _<_};
+ghost use lib.ListN.{length};
 ghost use Rattle.reading.specs.Limits.{maxLists};
 ghost use Rattle.smtvars.specs.SortWalk.{total, settled};
 ghost use Rattle.smtvars.specs.SortLevels.{Within, Known, standing, below};
@@ -23,16 +24,21 @@ pub fn standing(bases: &[u64; 64], known: usize, left: u64) -> usize
     0
 }
 
-// How many known lists stay known beside one more: all of them, or none where there is no room.
-fn beside(known: usize) -> usize
-    requires { ⌜ known ≤ maxLists ⌝ }
-    ensures room { λ r. ⌜ r < maxLists ⌝ }
-    ensures lists { λ r. ⌜ ((bases cs : List ℕ) → Known bases known cs → Known bases r cs) ⌝ }
+// Room for one list more: where there is none, the outer half of the known lists is forgotten.
+fn halved(bases: &mut [u64; 64], known: usize) -> usize
+    requires { ⌜ Within (now bases) known ⌝ }
+    ensures room { λ r. ⌜ (length (now (bases .exit)) ≡ maxLists) × (r < maxLists) ⌝ }
+    ensures lists { λ r. ⌜ ((cs : List ℕ) → Known (now (bases .entry)) known cs → Known (now (bases .exit)) r cs) ⌝ }
 {
-    if known == 64 {
-        return 0;
+    if known < 64 {
+        return known;
     }
-    known
+    let mut i: usize = 0;
+    while i < 32 {
+        bases[i] = bases[i + 32];
+        i += 1;
+    }
+    32
 }
 
 // One list more is known, with so many sorts to come when it ends.
@@ -41,12 +47,12 @@ pub fn entered(bases: &mut [u64; 64], known: usize, base: u64) -> usize
     ensures room { λ r. ⌜ Within (now (bases .exit)) r ⌝ }
     ensures lists { λ r. ⌜ ((c : ℕ) (cs : List ℕ) → base ≡ total cs → Known (now (bases .entry)) known cs → Known (now (bases .exit)) r (c ∷ cs)) ⌝ }
 {
-    let k = beside(known);
+    let k = halved(bases, known);
     bases[k] = base;
     k + 1
 }
 
-// The same, if only those lists are known that end where fewer than so many sorts are to come.
+// How many of the known lists do not end, where only lists are known that end with fewer sorts to come than so many.
 pub fn standing_below(bases: &[u64; 64], known: usize, pending: u64, left: u64) -> usize
     requires { ⌜ known ≤ maxLists ⌝ }
     ensures few { λ r. ⌜ r ≤ known ⌝ }
@@ -58,6 +64,7 @@ pub fn standing_below(bases: &[u64; 64], known: usize, pending: u64, left: u64) 
     known
 }
 
+// One list more is known, unless it ends with so many sorts to come or more.
 pub fn entered_below(bases: &mut [u64; 64], known: usize, base: u64, left: u64) -> usize
     requires { ⌜ Within (now bases) known ⌝ }
     ensures room { λ r. ⌜ Within (now (bases .exit)) r ⌝ }

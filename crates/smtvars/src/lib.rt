@@ -2,7 +2,7 @@
 // judged before, into a slice of bytes that the caller lends.
 
 pub mod answers;
-pub mod levels;
+mod levels;
 pub mod names;
 pub mod sort;
 pub mod sort_node;

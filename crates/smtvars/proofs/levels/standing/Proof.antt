@@ -1,5 +1,5 @@
 use Prim.Native.Nat.{_≤_}
-use mathlib.Core.Path.{_≡_, refl, sym, _∙_}
+use mathlib.Core.Path.{_≡_, refl, _∙_}
 use native.Mathlib.Omega.{arith}
 use Rattle.smtvars.specs.SortLevels.{standing}
 use Rattle.smtvars.proofs.SortLevels.{standing-on, standing-here, standing-none}
