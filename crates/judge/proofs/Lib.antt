@@ -13,4 +13,5 @@ pub mod SpellKind
 pub mod SpellExpr
 pub mod Taken
 pub mod NodeAt
+pub mod ExistsAt
 pub mod SolutionParts

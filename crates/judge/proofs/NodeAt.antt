@@ -6,19 +6,19 @@ use mathlib.Core.List.{List, [], _∷_}
 use native.Mathlib.Omega.{arith}
 use lib.Dec.{eqb, ltb, leb}
 use lib.ListN.{length, getD}
-use borrow.Author.Tests.{ltb-true, ltb-false, lt-ltb, le-ltb}
+use borrow.Author.Tests.{lt-ltb, le-ltb}
 use Rattle.reading.specs.Pick.{pick}
-use Rattle.reading.specs.Bytes.{Span, Maybe, nothing, just}
+use Rattle.reading.specs.Bytes.{Span, nothing}
 use Rattle.reading.specs.Number.{Wide}
 use Rattle.reading.specs.Answer.{notWords}
-use Rattle.grammar.specs.Expr.{VarName, Binder, opAdd, opSub, opMul, opDiv, opMod, relEq, relNe, relGt, relGe, relLt, relLe, Kind, kNum, kBool, kStr, kBitVec, kFresh, kNamed, kBin, kAtom, kLet, kTheory, kIsCtor, kExists}
+use Rattle.grammar.specs.Expr.{VarName, opAdd, opSub, opMul, opDiv, opMod, relEq, relNe, relGt, relGe, relLt, relLe, Kind, kNum, kBool, kStr, kBitVec, kFresh, kNamed, kBin, kAtom, kLet, kTheory, kIsCtor, kExists}
 use Rattle.grammar.specs.Scope.{varOf}
-use Rattle.judge.specs.Judge.{Judged, reads, fails, Reader, goOn, _>>=_, ret, fail, word, wordBelow, among, orFail, choose, twoWords, fourWords, several, Plan, operandsOf, argumentsOf, plan, spanWithin, nameWithin, binderAt, bindersAt, kinds, header}
+use Rattle.judge.specs.Judge.{reads, Reader, _>>=_, ret, fail, word, wordBelow, among, orFail, choose, twoWords, fourWords, Plan, operandsOf, argumentsOf, plan, spanWithin, nameWithin, bindersAt, kinds, header}
 use Rattle.judge.specs.Node.{nodeOf, nodesAt, orOther, nodeAt}
 use Rattle.judge.specs.declared.kind.Node.{Node}
 use Rattle.judge.specs.declared.kind.Node.the-variants as told
-use Rattle.judge.proofs.Spell.{post-reads, counted}
-use Rattle.judge.proofs.Taken.{never-reads, first-read, same-value, same-end}
+use Rattle.judge.proofs.SpellKind.{binders-count}
+use Rattle.judge.proofs.Taken.{never-reads, first-read, same-value, same-end, word-read}
 
 -- Behind the end there is nothing to be found.
 pub behind-end : (ws : List ℕ) (i : ℕ) → length ws ≤ i → getD ws i 0 ≡ 0
@@ -55,22 +55,13 @@ kept false a ws at e = never-reads e
 
 -- What the readers of fields say of the words.
 module _ (ws : List ℕ) (at : ℕ) where
-  word-is : {w n : ℕ} → word ws at ≡ reads w n → (w ≡ getD ws at 0) × (n ≡ at + 1)
-  unfolding word pick
-  word-is {w} {n} e = go (ltb at (length ws)) e
-    where
-      go : (t : Bool) → pick t (reads (getD ws at 0) (at + 1)) (fails notWords) ≡ reads w n → (w ≡ getD ws at 0) × (n ≡ at + 1)
-      go true f = (sym (same-value f), cc)
-      go false f = never-reads f
-
-module _ (ws : List ℕ) (at : ℕ) where
   two-is : {k n : ℕ} → twoWords ws at ≡ reads k n → k ≡ getD ws at 0 + getD ws (at + 1) 0 * 2 ^ 32
   unfolding twoWords
   two-is e =
       first-read (word ws at) _ ws e λ a m x y.
       first-read (word ws m) _ ws y λ b l u v.
-      let p = word-is ws at x in
-      let q = word-is ws m u in
+      let p = word-read ws at x in
+      let q = word-read ws m u in
       sym (same-value v) ∙ rw (p .0, q .0, p .1)
 
   four-is : {v : Wide} {n : ℕ} → fourWords ws at ≡ reads v n → (v ≡ record { a = getD ws at 0; b = getD ws (at + 1) 0; c = getD ws (at + 2) 0; d = getD ws (at + 3) 0 }) × (n ≡ at + 4)
@@ -80,10 +71,10 @@ module _ (ws : List ℕ) (at : ℕ) where
       first-read (word ws i) _ ws y λ b j z w.
       first-read (word ws j) _ ws w λ c k u t.
       first-read (word ws k) _ ws t λ d l s r.
-      let p = word-is ws at x in
-      let q = word-is ws i z in
-      let g = word-is ws j u in
-      let h = word-is ws k s in
+      let p = word-read ws at x in
+      let q = word-read ws i z in
+      let g = word-read ws j u in
+      let h = word-read ws k s in
       let one : i ≡ at + 1 = p .1 in
       let two : j ≡ at + 2 = omega (arith, one, q .1) in
       let three : k ≡ at + 3 = omega (arith, two, g .1) in
@@ -95,8 +86,8 @@ module _ (ws : List ℕ) (at : ℕ) where
   span-is limit e =
       first-read (word ws at) _ ws e λ a m x y.
       first-read (word ws m) _ ws y λ b l u v.
-      let p = word-is ws at x in
-      let q = word-is ws m u in
+      let p = word-read ws at x in
+      let q = word-read ws m u in
       kept (leb (a + b) limit) (record { start = a; len = b }) ws l v ∙ rw (p .0, q .0, p .1)
 
   name-is : (limit : ℕ) {x : VarName} {n : ℕ} → nameWithin limit ws at ≡ reads x n → x ≡ varOf (record { start = getD ws at 0; len = getD ws (at + 1) 0 })
@@ -109,7 +100,7 @@ module _ (ws : List ℕ) (at : ℕ) where
   unfolding wordBelow
   below-is bound e =
       first-read (word ws at) _ ws e λ a m x y.
-      kept (ltb a bound) a ws m y ∙ word-is ws at x .0
+      kept (ltb a bound) a ws m y ∙ word-read ws at x .0
 
 -- A reader of fields reads what is told of them.
 abbrev Tells : List ℕ → ℕ → Reader Plan → Node → Type 0
@@ -152,7 +143,8 @@ abbrev NumberedFrom : ℕ → (ℕ → Node) → List Kind → Type 0
 NumberedFrom i f [] = Unit {0}
 NumberedFrom i f (l ∷ ls) = (f i ≡ nodeOf l) × NumberedFrom (suc i) f ls
 
-abbrev plansOf : ℕ → List Kind → List (Reader Plan)
+-- Kinds that have no fields.
+abbrev pub plansOf : ℕ → List Kind → List (Reader Plan)
 plansOf m [] = []
 plansOf m (l ∷ ls) = plan l m ∷ plansOf m ls
 
@@ -172,26 +164,20 @@ by-number ws at m f ls h k n b e =
     let z : w - 0 ≡ w = omega arith in
     let q : orFail (among (plansOf m ls) w) ws i ≡ reads (operandsOf k n) b = rw (le-ltb w 0 (omega arith), z) at y in
     let o : 0 + w ≡ w = omega arith in
-    ap f (sym (word-is ws at x .0)) ∙ (ap f (sym o) ∙ numbered-tells ws i m 0 f ls h w k n b q)
-
--- How many binders are read.
-binders-count : (limit : ℕ) (ws : List ℕ) (at n : ℕ) {bs : List Binder} {b : ℕ} → bindersAt limit n ws at ≡ reads bs b → length bs ≡ n
-unfolding bindersAt
-binders-count limit ws at n e =
-    post-reads (several (binderAt limit) [] (λ (x : Binder) xs. x ∷ xs) n ws at) (λ bs m. length bs ≡ n) (counted ws (binderAt limit) [] (λ x xs. x ∷ xs) length refl (λ x xs. refl) n at) e
+    ap f (sym (word-read ws at x .0)) ∙ (ap f (sym o) ∙ numbered-tells ws i m 0 f ls h w k n b q)
 
 by-binders : (limit : ℕ) (ws : List ℕ) (at : ℕ) → Tells ws at (word >>= λ m. bindersAt limit m >>= λ bs. plan (kExists bs) 1) (told.Exists (getD ws at 0))
 by-binders limit ws at k n b e =
     first-read (word ws at) _ ws e λ m i x y.
     first-read (bindersAt limit m ws i) _ ws y λ bs j u v.
-    ap told.Exists (sym (word-is ws at x .0) ∙ sym (binders-count limit ws i m u)) ∙ ap nodeOf (plan-kind v)
+    ap told.Exists (sym (word-read ws at x .0) ∙ sym (binders-count limit ws i m u)) ∙ ap nodeOf (plan-kind v)
 
 by-bits : (ws : List ℕ) (at : ℕ) → Tells ws at (fourWords >>= λ v. word >>= λ width. plan (kBitVec v width) 0) (told.BitVec (getD ws at 0) (getD ws (at + 1) 0) (getD ws (at + 2) 0) (getD ws (at + 3) 0) (getD ws (at + 4) 0))
 by-bits ws at k n b e =
     first-read (fourWords ws at) _ ws e λ v i x y.
     first-read (word ws i) _ ws y λ width j u w.
     let p = four-is ws at x in
-    let q = word-is ws i u in
+    let q = word-read ws i u in
     let z : getD ws (at + 4) 0 ≡ width = sym (q .0 ∙ ap (λ (m : ℕ). getD ws m 0) (p .1)) in
     rw (z) (ap (λ (o : Wide). told.BitVec (o .a) (o .b) (o .c) (o .d) width) (sym (p .0)) ∙ ap nodeOf (plan-kind w))
 
@@ -272,5 +258,5 @@ pub node-told : (limit : ℕ) (ws : List ℕ) (at : ℕ) {k : Kind} {n a : ℕ} 
 unfolding header choose nodeAt
 node-told limit ws at {k} {n} {a} e =
     first-read (word ws at) _ ws e λ w m x y.
-    let p = word-is ws at x in
+    let p = word-read ws at x in
     rw (← p .0, ← p .1) (kind-picked limit ws m w (ltb w 32) y)

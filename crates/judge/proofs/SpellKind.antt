@@ -6,7 +6,7 @@ use mathlib.Core.List.{List, [], _∷_}
 use lib.ListN.{length}
 use Rattle.reading.specs.Tree.{bit}
 use Rattle.grammar.specs.Item.{wordsOf}
-use Rattle.grammar.specs.Expr.{Kind, kExists, kindItems}
+use Rattle.grammar.specs.Expr.{Binder, Kind, kExists, kindItems}
 use Rattle.judge.specs.Spelled.{Spelled}
 use Rattle.judge.specs.Judge.{_>>=_, reads, plan, word, wordBelow, choose, twoWords, fourWords, Plan, operandsOf, argumentsOf, spanWithin, nameWithin, binderAt, bindersAt, kinds, header}
 use Rattle.judge.proofs.Spell.{Low, Post, Behind, Each, last, _&_, chain-post, post-reads, done, step, step-with, word-post, a-word, a-below, a-flag, a-four, a-two, chosen, counted}
@@ -17,17 +17,20 @@ abbrev pub planWords : Plan → List ℕ
 planWords (operandsOf k n) = wordsOf (kindItems k n)
 planWords (argumentsOf f n) = 38 ∷ bit f ∷ n ∷ []
 
-module _ (limit : ℕ) (ws : List ℕ) (low : Low ws) where
-  -- How many binders are read.
-  binders-count : (n at : ℕ) → Post (bindersAt limit n ws at) (λ bs m. length bs ≡ n)
-  unfolding bindersAt
-  binders-count n at = counted ws (binderAt limit) [] (λ b bs. b ∷ bs) length refl (λ b bs. refl) n at
+-- How many binders are read.
+several-binders : (limit : ℕ) (ws : List ℕ) (n at : ℕ) → Post (bindersAt limit n ws at) (λ bs m. length bs ≡ n)
+unfolding bindersAt
+several-binders limit ws n at = counted ws (binderAt limit) [] (λ b bs. b ∷ bs) length refl (λ b bs. refl) n at
 
+pub binders-count : (limit : ℕ) (ws : List ℕ) (at n : ℕ) {bs : List Binder} {m : ℕ} → bindersAt limit n ws at ≡ reads bs m → length bs ≡ n
+binders-count limit ws at n e = post-reads (bindersAt limit n ws at) (λ bs m. length bs ≡ n) (several-binders limit ws n at) e
+
+module _ (limit : ℕ) (ws : List ℕ) (low : Low ws) where
   -- So many binders.
   an-exists : (n : ℕ) → Behind ws (51 ∷ n ∷ []) (bindersAt limit n >>= λ bs. plan (kExists bs) 1) planWords
   unfolding kindItems wordsOf
   an-exists n =
-      step-with (bindersAt limit n) (λ bs. length bs ≡ n) (binders-behind limit low n) (binders-count n) λ bs e. done _ (rw e refl)
+      step-with (bindersAt limit n) (λ bs. length bs ≡ n) (binders-behind limit low n) (several-binders limit ws n) λ bs e. done _ (rw e refl)
 
   -- Each kind.
   each-kind : Each ws [] planWords (kinds limit) 32

@@ -20,6 +20,7 @@ use Rattle.smt.specs.Sexp.{Sx, reserved, Sxs, xnil, xcons, between, ever
 use Rattle.smt.specs.SexpBack.{runSx}
 use Rattle.smt.specs.Term.{Ident, plainIdent, SmtSort, SmtSorts, Var, Term, Terms, tnil, tcons, terms, identSx, parametricSx, sortSx, sortSxs, varSx, varSxs, termSx, termSxs, Closed, closedBytes}
 use Rattle.smt.specs.TermBack.{readClosed}
+use Rattle.grammar.specs.Names.{theory}
 use Rattle.smt.specs.Vocabulary.{operators, relations, bitVectors}
 use Rattle.smt.specs.Writer.{plainly, freshSymbol, bitsIdent, fitsWidth, functionOf, widthOf, Form, alone, operator, folded, letting, some, applying, folding, quantified, formed, application, writable, allWritable, bytesOf, symbolOf, sortOf, sortsOf, varsOf, fieldsOf, headKind, headOf, termOf, termsOf, solutionTerm}
 use Rattle.smt.proofs.Tests.{and-both, or-left, or-right, every-append, all-every, pick-and, pick-unless, pick-known}
@@ -114,7 +115,7 @@ unfolding relations quotable white printable
 relations-fine = refl
 
 functions-fine : eachName (every quotable) bitVectors ≡ true
-unfolding bitVectors quotable white printable
+unfolding bitVectors theory quotable white printable
 functions-fine = refl
 
 function-clean : (k : ℕ) → Every (functionOf k) CleanIdent

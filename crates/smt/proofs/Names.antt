@@ -12,6 +12,7 @@ use Rattle.grammar.specs.Expr.{BinOp, opAdd, opSub, opMul, opDiv, opMod, Relati
 use Rattle.grammar.proofs.Post.{Every}
 use Rattle.smt.specs.SexpBack.{then}
 use Rattle.smt.specs.Term.{bySymbol, Ident, plainIdent}
+use Rattle.grammar.specs.Names.{theory}
 use Rattle.smt.specs.Vocabulary.{operators, relations, bitVectors}
 use Rattle.smt.specs.Writer.{plainly, spelledAt, freshSymbol, bitsIdent, functionOf}
 use Rattle.smt.specs.Meant.{MeantKind, mBool, mBitVec, mFresh, mNamed, mNeg, mBin, mIf, mAnd, mOr, mNot, mImp, mAtom, mTheory, mIsCtor, Meant, says, calls, Meants, mnil, mcons, meants}
@@ -29,11 +30,11 @@ unfolding ownOf lettered pick
 name-own w = refl
 
 pub fresh-sense : (k : ℕ) → sense (plainIdent (freshSymbol k)) ≡ just (variable (mFresh k))
-unfolding sense plainSense words operators relations bitVectors lookup sameBytes pick ownOf lettered freshSymbol
+unfolding sense plainSense words operators relations bitVectors theory lookup sameBytes pick ownOf lettered freshSymbol
 fresh-sense k = rw (natural-decimal k) refl
 
 pub name-sense : (w : List ℕ) → sense (plainIdent (ascii "n " ++ w)) ≡ just (variable (mNamed w))
-unfolding sense plainSense words operators relations bitVectors lookup sameBytes pick ownOf lettered
+unfolding sense plainSense words operators relations bitVectors theory lookup sameBytes pick ownOf lettered
 name-sense w = refl
 
 -- Identifiers with an index.
@@ -134,7 +135,7 @@ Numbered [] k = Unit {0}
 Numbered (named s n ∷ rows) k = (plainSense (ascii s) ≡ just (function k)) × Numbered rows (suc k)
 
 functions-numbered : Numbered bitVectors 9
-unfolding plainSense words operators relations bitVectors lookup sameBytes pick
+unfolding plainSense words operators relations bitVectors theory lookup sameBytes pick
 functions-numbered = (refl, (refl, (refl, (refl, (refl, (refl, (refl, (refl, (refl, (refl, (refl, (refl, (refl, (refl, (refl, (refl, (refl, (refl, (refl, (refl, (refl, (refl, (refl, tt)))))))))))))))))))))))
 
 spelled-numbered : (rows : List (Named ℕ)) (from k : ℕ) → Numbered rows from → k < length rows → plainSense (spelledAt rows k) ≡ just (function (from + k))
@@ -151,7 +152,7 @@ abbrev pub Calls : Meant → Ident → Type 0
 Calls h i = (es : Meants) → Says i es (calls es h)
 
 function-sense : (k : ℕ) → 9 ≤ k → k < 32 → sense (plainIdent (spelledAt bitVectors (k - 9))) ≡ just (function k)
-unfolding sense bitVectors
+unfolding sense bitVectors theory
 function-sense k h l =
     let e : 9 + (k - 9) ≡ k = omega arith in
     rw e at (spelled-numbered bitVectors 9 (k - 9) functions-numbered (omega arith))

@@ -1,4 +1,4 @@
--- The bytes that are printed of identifiers, sorts, variables and terms, in pieces that stand one behind the other.
+-- The bytes that are printed of symbols, identifiers, variables and terms, in pieces that stand one behind the other.
 use Prim.Native.Nat.{ℕ, _<_}
 use mathlib.Core.Path.{_≡_, refl, sym, ap, _∙_}
 use mathlib.Core.Bool.{Bool, true, false, _&&_}
@@ -8,9 +8,10 @@ use lib.ListN.{length}
 use Rattle.reading.specs.Pick.{pick}
 use Rattle.reading.specs.Bytes.{ascii, sameBytes, Named}
 use Rattle.reading.specs.Number.{isDigit}
+use Rattle.grammar.specs.Names.{theory}
 use Rattle.writing.specs.Digits.{decimal}
 use Rattle.smt.specs.Sexp.{list, symbolByte, reservedWords, isReserved, simple, symbolText, print, inside}
-use Rattle.smt.specs.Term.{byNumber, bySymbol, Ident, SmtSort, SmtSorts, srt, rnil, rcons, Var, Term, Terms, tapp, tlet, texists, tcons, bnil, identSx, sortSx, sortSxs, varSx, varSxs, termSx, termSxs, Closed, closedBytes}
+use Rattle.smt.specs.Term.{byNumber, bySymbol, Ident, Var, Term, Terms, tapp, tlet, texists, tcons, bnil, identSx, sortSx, varSx, varSxs, termSx, termSxs}
 use Rattle.smt.specs.Vocabulary.{operators, relations, bitVectors}
 use Rattle.smt.specs.Writer.{spelledAt, freshSymbol, bitsIdent}
 use Rattle.smt.proofs.Tables.{eachName, name-passes}
@@ -51,7 +52,7 @@ unfolding relations simple symbolByte isDigit isReserved reservedWords sameBytes
 relation-text k l = spelled-text relations k refl l
 
 pub function-text : (k : ℕ) → k < 23 → symbolText (spelledAt bitVectors k) ≡ spelledAt bitVectors k
-unfolding bitVectors simple symbolByte isDigit isReserved reservedWords sameBytes pick
+unfolding bitVectors theory simple symbolByte isDigit isReserved reservedWords sameBytes pick
 function-text k l = spelled-text bitVectors k refl l
 
 -- Identifiers with an index: a bit-vector value, a constructor test, the sort of bit vectors.
@@ -78,15 +79,6 @@ width-text n =
 -- A list of which the first item is x.
 first-item : (x ys : List ℕ) → (40 ∷ (x ++ (32 ∷ ys)) ++ (41 ∷ [])) ≡ (40 ∷ x ++ (32 ∷ [])) ++ (ys ++ (41 ∷ []))
 first-item x ys = ap (λ (l : List ℕ). 40 ∷ l) (append-assoc x (32 ∷ ys) (41 ∷ []) ∙ sym (append-assoc x (32 ∷ []) (ys ++ (41 ∷ []))))
-
--- A sort by itself, and one in front of its sorts.
-pub sort-text : (i : Ident) → print (sortSx (srt i rnil)) ≡ print (identSx i)
-unfolding sortSx
-sort-text i = refl
-
-pub sorts-text : (i : Ident) (s : SmtSort) (ss : SmtSorts) → print (sortSx (srt i (rcons s ss))) ≡ (40 ∷ print (identSx i) ++ (32 ∷ [])) ++ (inside (sortSxs (rcons s ss)) ++ (41 ∷ []))
-unfolding print sortSx
-sorts-text i s ss = first-item (print (identSx i)) (inside (sortSxs (rcons s ss)))
 
 -- A sorted variable.
 pub var-text : (v : Var) → print (varSx v) ≡ (40 ∷ symbolText (v .name) ++ (32 ∷ [])) ++ (print (sortSx (v .sort)) ++ (41 ∷ []))
@@ -120,8 +112,3 @@ let-text x t u = ap (λ (l : List ℕ). ascii "(let " ++ l) (let-pieces (symbolT
 pub exists-text : (v : Var) (vs : List Var) (t : Term) → print (termSx (texists v vs t)) ≡ (ascii "(exists " ++ (print (list (varSxs (v ∷ vs))) ++ (32 ∷ []))) ++ (print (termSx t) ++ (41 ∷ []))
 unfolding print termSx varSxs
 exists-text v vs t = simp (append-assoc, append-nil)
-
--- The list of variables, a space, the term.
-pub closed-text : (c : Closed) → closedBytes c ≡ print (list (varSxs (c .vars))) ++ (32 ∷ print (termSx (c .term)))
-unfolding closedBytes
-closed-text c = refl

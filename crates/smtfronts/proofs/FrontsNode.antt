@@ -2,26 +2,25 @@
 use Prim.Native.Nat.{ℕ, zero, suc, _<_}
 use mathlib.Core.Bool.{Bool, true, false}
 use mathlib.Core.Path.{_≡_, refl, sym, ap, _∙_}
-use mathlib.Core.List.{List, [], _∷_, _++_, append-nil, append-assoc}
+use mathlib.Core.List.{List, [], _∷_, _++_, append-assoc}
 use native.Mathlib.Omega.{arith}
-use lib.Dec.{ltb, leb}
 use lib.ListN.{length}
-use borrow.Author.Tests.{lt-ltb}
 use Rattle.reading.specs.Pick.{pick}
 use Rattle.reading.specs.Bytes.{ascii, Span}
 use Rattle.reading.specs.Number.{Wide, valueOf}
-use Rattle.reading.specs.Answer.{Refusal, Ans, got, bad, andThen, unwritable}
+use Rattle.reading.specs.Answer.{Ans, got, bad, andThen, unwritable}
 use Rattle.grammar.specs.Expr.{BinOp, opNumber, opAdd, opSub, opMul, opDiv, opMod, Relation, relNumber, relEq, relNe, relGt, relGe, relLt, relLe, Binder, Kind, kNum, kBool, kStr, kBitVec, kFresh, kNamed, kNeg, kBin, kIf, kAnd, kOr, kNot, kImp, kIff, kAtom, kLet, kTheory, kIsCtor, kExists}
 use Rattle.judge.specs.Node.{nodeOf}
 use Rattle.judge.specs.declared.kind.Node.the-variants as told
 use Rattle.writing.specs.Digits.{decimal}
 use Rattle.smt.specs.Sexp.{symbolText, list, print}
-use Rattle.smt.specs.Term.{bySymbol, Ident, plainIdent, SmtSort, Var, tstr, tid, identSx, varSxs, termSx}
+use Rattle.smt.specs.Term.{bySymbol, plainIdent, SmtSort, Var, tstr, tid, identSx, varSxs, termSx}
 use Rattle.smt.specs.Vocabulary.{operators, relations}
-use Rattle.smt.specs.Writer.{spelledAt, plainly, bitsIdent, fitsWidth, freshSymbol, Form, alone, operator, folded, letting, some, bytesOf, symbolOf, varsOf, fieldsOf, sortOf}
+use Rattle.smt.specs.Writer.{spelledAt, bitsIdent, fitsWidth, freshSymbol, Form, alone, operator, folded, letting, some, bytesOf, symbolOf, varsOf, fieldsOf, sortOf}
+use Rattle.smt.proofs.Text.{barred-text, fresh-text, operator-text, relation-text, bits-text, test-text}
 use Rattle.smtvars.specs.Pieces.{joined, nameText, freshText, stringText, varsText}
-use Rattle.smtfronts.specs.Fronts.{operatorText, frontOf, frontText, foldedText, bitsText, boolText, nodeText, Numbered, existsText}
-use Rattle.smtfronts.proofs.FrontsSymbols.{own-bare, operator-bare, relation-bare, name-barred, fresh-barred, bits-bare}
+use Rattle.smtfronts.specs.Fronts.{operatorText, frontOf, frontText, foldedText, bitsText, nodeText, Numbered, existsText}
+use Rattle.smtfronts.proofs.FrontsSymbols.{own-bare}
 
 -- Operators and relations have numbers in their tables.
 op-small : (op : BinOp) → opNumber op < 5
@@ -60,27 +59,11 @@ node-numbered (kTheory k) = tt
 node-numbered (kIsCtor x) = tt
 node-numbered (kExists bs) = tt
 
--- The same bytes, otherwise grouped.
-ended : (h x : List ℕ) → (h ++ (32 ∷ x ++ [])) ++ (41 ∷ []) ≡ h ++ (32 ∷ x ++ (41 ∷ []))
-ended h x = simp (append-nil, append-assoc)
-
-tested : (x : List ℕ) → ((x ++ []) ++ (41 ∷ [])) ++ (32 ∷ []) ≡ x ++ (41 ∷ 32 ∷ [])
-tested x = simp (append-nil, append-assoc)
-
--- A value of a width.
-bits-print : (v width : ℕ) → ascii "(_ bv" ++ (decimal v ++ (32 ∷ decimal width ++ (41 ∷ []))) ≡ print (identSx (bitsIdent v width))
-unfolding bitsIdent print
-bits-print v width =
-    ap (λ l. ascii "(_ " ++ (l ++ (32 ∷ decimal width ++ (41 ∷ [])))) (sym (bits-bare v))
-    ∙ ap (λ l. ascii "(_ " ++ l) (sym (ended (symbolText (ascii "bv" ++ decimal v)) (decimal width)))
-
 -- A constructor test.
 test-print : (name : List ℕ) → ascii "((_ is " ++ ((124 ∷ 110 ∷ 32 ∷ name ++ (124 ∷ [])) ++ ascii ") ") ≡ operatorText (print (identSx (record { name = ascii "is"; indices = bySymbol (ascii "n " ++ name) ∷ [] })))
-unfolding print
 test-print name =
-    ap (λ l. ascii "((_ is " ++ (l ++ ascii ") ")) (sym (name-barred name))
-    ∙ ap (λ l. ascii "((_ is " ++ l) (sym (tested (symbolText (ascii "n " ++ name))))
-    ∙ ap (λ l. ascii "((_ " ++ (((l ++ (32 ∷ symbolText (ascii "n " ++ name) ++ [])) ++ (41 ∷ [])) ++ (32 ∷ []))) (sym (own-bare .tester))
+    ap (λ l. ascii "((_ is " ++ l) (sym (append-assoc (124 ∷ 110 ∷ 32 ∷ name ++ (124 ∷ [])) (41 ∷ []) (32 ∷ [])))
+    ∙ ap operatorText (sym (test-text name))
 
 -- The front of a form that may be refused.
 abbrev frontsOf : Ans Form → ℕ → Ans (List ℕ)
@@ -112,7 +95,7 @@ module _ (n : ℕ) where
   value-front text v width = go (fitsWidth v width)
     where
       go : (b : Bool) → pick b (got (ascii "(_ bv" ++ (decimal (valueOf v) ++ (32 ∷ decimal width ++ (41 ∷ []))))) (bad unwritable) ≡ frontsOf (pick b (got (alone (tid (bitsIdent (valueOf v) width)))) (bad unwritable)) n
-      go true = ap got (bits-print (valueOf v) width)
+      go true = ap got (sym (bits-text (valueOf v) width))
       go false = refl
 
   name-front : (text : List ℕ) (s : Span) → nameText text 110 s ≡ frontsOf (andThen (symbolOf text "n " s) λ name. got (alone (tid (plainIdent name)))) n
@@ -120,7 +103,7 @@ module _ (n : ℕ) where
   name-front text s = go (bytesOf text s)
     where
       go : (x : Ans (List ℕ)) → andThen x (λ name. got (124 ∷ 110 ∷ 32 ∷ name ++ (124 ∷ []))) ≡ frontsOf (andThen (andThen x λ name. got (ascii "n " ++ name)) λ name. got (alone (tid (plainIdent name)))) n
-      go (got name) = ap got (sym (name-barred name))
+      go (got name) = ap got (sym (barred-text 110 name))
       go (bad r) = refl
 
   let-front : (text : List ℕ) (s : Span) → joined (got (ascii "(let ((")) (joined (nameText text 110 s) (got (ascii " "))) ≡ frontsOf (andThen (symbolOf text "n " s) λ name. got (letting name)) n
@@ -128,7 +111,7 @@ module _ (n : ℕ) where
   let-front text s = go (bytesOf text s)
     where
       go : (x : Ans (List ℕ)) → joined (got (ascii "(let ((")) (joined (andThen x (λ name. got (124 ∷ 110 ∷ 32 ∷ name ++ (124 ∷ [])))) (got (ascii " "))) ≡ frontsOf (andThen (andThen x λ name. got (ascii "n " ++ name)) λ name. got (letting name)) n
-      go (got name) = ap (λ l. got (ascii "(let ((" ++ (l ++ (32 ∷ [])))) (sym (name-barred name))
+      go (got name) = ap (λ l. got (ascii "(let ((" ++ (l ++ (32 ∷ [])))) (sym (barred-text 110 name))
       go (bad r) = refl
 
   test-front : (text : List ℕ) (s : Span) → joined (got (ascii "((_ is ")) (joined (nameText text 110 s) (got (ascii ") "))) ≡ frontsOf (andThen (symbolOf text "n " s) λ name. got (operator (record { name = ascii "is"; indices = bySymbol name ∷ [] }) 1)) n
@@ -158,23 +141,23 @@ exists-front text (b ∷ bs) n = go (sortOf text (b .sort)) (varsOf text bs)
 
 -- Every other kind.
 pub node-front : (text : List ℕ) (k : Kind) (n : ℕ) → ((m : ℕ) → nodeOf k ≡ told.Exists m → ⊥) → nodeText text (nodeOf k) n ≡ frontText text k n
-unfolding frontText fieldsOf frontOf print termSx
+unfolding frontText fieldsOf frontOf freshText print termSx
 node-front text (kNum v) n h = refl
 node-front text (kBool true) n h = ap got (sym (own-bare .yes))
 node-front text (kBool false) n h = ap got (sym (own-bare .no))
 node-front text (kStr s) n h = string-front n text s
 node-front text (kBitVec v width) n h = value-front n text v width
-node-front text (kFresh k) n h = ap got (sym (fresh-barred k))
+node-front text (kFresh k) n h = ap got (sym (fresh-text k))
 node-front text (kNamed x) n h = name-front n text (x .span)
 node-front text kNeg n h = operator-front n (ascii "-") 1 (own-bare .minus)
-node-front text (kBin op) n h = operator-front n (spelledAt operators (opNumber op)) 2 (operator-bare (opNumber op) (op-small op))
+node-front text (kBin op) n h = operator-front n (spelledAt operators (opNumber op)) 2 (operator-text (opNumber op) (op-small op))
 node-front text kIf n h = operator-front n (ascii "ite") 3 (own-bare .choice)
 node-front text kAnd n h = folded-front (ascii "true") (ascii "and") (own-bare .yes) (own-bare .both) n
 node-front text kOr n h = folded-front (ascii "false") (ascii "or") (own-bare .no) (own-bare .either) n
 node-front text kNot n h = operator-front n (ascii "not") 1 (own-bare .negated)
 node-front text kImp n h = operator-front n (ascii "=>") 2 (own-bare .implied)
 node-front text kIff n h = operator-front n (ascii "=") 2 (own-bare .same)
-node-front text (kAtom r) n h = operator-front n (spelledAt relations (relNumber r)) 2 (relation-bare (relNumber r) (rel-small r))
+node-front text (kAtom r) n h = operator-front n (spelledAt relations (relNumber r)) 2 (relation-text (relNumber r) (rel-small r))
 node-front text (kLet x) n h = let-front n text (x .span)
 node-front text (kTheory k) n h = refl
 node-front text (kIsCtor x) n h = test-front n text (x .span)

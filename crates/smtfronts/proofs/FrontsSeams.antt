@@ -1,10 +1,9 @@
 -- What is told of a kind says what stands between its operands and behind them, and names it as a head.
-use Prim.Native.Nat.{ℕ, suc, _<_}
-use mathlib.Core.Bool.{Bool, true, false}
-use mathlib.Core.Path.{_≡_, refl, sym, ap, _∙_}
+use Prim.Native.Nat.{ℕ, suc}
+use mathlib.Core.Bool.{true, false}
+use mathlib.Core.Path.{_≡_, refl, ap}
 use mathlib.Core.List.{List, [], _∷_, _++_}
 use native.Mathlib.Omega.{arith}
-use lib.Dec.{ltb}
 use lib.ListN.{length}
 use borrow.Author.Tests.{lt-ltb}
 use Rattle.reading.specs.Bytes.{ascii, Span}
@@ -17,9 +16,9 @@ use Rattle.judge.specs.Node.{nodeOf}
 use Rattle.smt.specs.Sexp.{print}
 use Rattle.smt.specs.Term.{plainIdent, SmtSort, Var, tid}
 use Rattle.smt.specs.Writer.{freshSymbol, bitsIdent, fitsWidth, Form, alone, some, bytesOf, symbolOf, sortOf, varsOf, fieldsOf, headKind}
-use Rattle.smtvars.specs.Pieces.{identText, nameText}
+use Rattle.smt.proofs.Text.{barred-text, fresh-text}
+use Rattle.smtvars.specs.Pieces.{identText, nameText, freshText}
 use Rattle.smtfronts.specs.Fronts.{formLets, formCloses, nodeLets, nodeCloses, functionText, calleeText}
-use Rattle.smtfronts.proofs.FrontsSymbols.{name-barred, fresh-barred}
 use Rattle.smtfronts.proofs.FrontsFormed.{every-got}
 
 -- A form with the same bytes between its operands and behind them.
@@ -71,16 +70,16 @@ unfolding identText symbolOf nameText print
 name-callee text s = go (bytesOf text s)
   where
     go : (x : Ans (List ℕ)) → identText (andThen (andThen x λ name. got (ascii "n " ++ name)) λ name. got (plainIdent name)) ≡ andThen x (λ name. got (124 ∷ 110 ∷ 32 ∷ name ++ (124 ∷ [])))
-    go (got name) = ap got (name-barred name)
+    go (got name) = ap got (barred-text 110 name)
     go (bad r) = refl
 
 pub node-callee : (text : List ℕ) (k : Kind) → identText (headKind text k) ≡ calleeText text (nodeOf k)
-unfolding identText headKind functionText print
+unfolding identText headKind functionText freshText print
 node-callee text (kNum v) = refl
 node-callee text (kBool b) = refl
 node-callee text (kStr s) = refl
 node-callee text (kBitVec v width) = refl
-node-callee text (kFresh k) = ap got (fresh-barred k)
+node-callee text (kFresh k) = ap got (fresh-text k)
 node-callee text (kNamed x) = name-callee text (x .span)
 node-callee text kNeg = refl
 node-callee text (kBin op) = refl

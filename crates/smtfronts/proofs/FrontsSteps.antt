@@ -1,5 +1,5 @@
 -- What the functions that write a front do, step by step.
-use Prim.Native.Nat.{ℕ, zero, suc, _+_, _-_, _≤_, _<_}
+use Prim.Native.Nat.{ℕ, zero, suc, _+_, _-_, _≤_}
 use mathlib.Core.Bool.{Bool, true, false, not}
 use mathlib.Core.Path.{_≡_, refl, sym, ap, subst, _∙_}
 use mathlib.Core.List.{List, [], _∷_, _++_}
@@ -8,13 +8,15 @@ use lib.ListN.{length}
 use borrow.Author.Tests.{not-true, not-false}
 use Rattle.reading.specs.Bytes.{ascii, Named}
 use Rattle.reading.specs.Number.{Wide, valueOf}
-use Rattle.reading.specs.Answer.{Ans, got, bad, unwritable}
+use Rattle.reading.specs.Answer.{got, bad, unwritable}
 use Rattle.reading.proofs.Picks.{pick-yes, pick-no}
 use Rattle.grammar.specs.Expr.{Binder, Kind}
 use Rattle.judge.specs.Judge.{reads, operandsOf, bindersAt, header}
 use Rattle.judge.specs.Node.{nodeOf}
 use Rattle.judge.specs.declared.kind.Node.{Node}
 use Rattle.judge.specs.declared.kind.Node.the-variants as told
+use Rattle.judge.proofs.SpellKind.{binders-count}
+use Rattle.judge.proofs.ExistsAt.{exists-binders, header-inside, exists-told}
 use Rattle.writing.specs.Digits.{decimal}
 use Rattle.writing.specs.Wrote.{WroteBytes}
 use Rattle.writing.proofs.Wrote.{wrote-as}
@@ -24,8 +26,7 @@ use Rattle.smtvars.specs.Pieces.{joined, varsText}
 use Rattle.smtfronts.specs.Fronts.{operatorText, foldedText, bitsText, existsText, frontText, nodeText, Numbered}
 use Rattle.smtvars.specs.Written.{TellsPiece}
 use Rattle.smtfronts.proofs.FrontsNode.{node-numbered, node-front, exists-front}
-use Rattle.smtfronts.proofs.FrontsExists.{binders-count, exists-binders, header-inside, exists-told}
-use Rattle.smtfronts.proofs.FrontsTells.{tells-as}
+use Rattle.smtvars.proofs.Tells.{tells-as}
 
 -- The name in a row of a table, by the row's number.
 pub spelled-as : {A : Type 0} (rows : List (Named A)) (j : ℕ) {k : ℕ} {l l′ : List ℕ} {place p : ℕ} → k ≡ j → WroteBytes l place (operatorText (spelledAt rows j)) l′ p → WroteBytes l place (operatorText (spelledAt rows k)) l′ p
@@ -62,7 +63,7 @@ module _ (v : Wide) (width : ℕ) {t : Bool} (e : t ≡ fitsWidth v width) where
 
 -- What is told of a node is told of the kind that was looked for.
 pub node-as : (text : List ℕ) (n : ℕ) {node m : Node} {l l′ : List ℕ} {place : ℕ} {r : Written} → node ≡ m → TellsPiece (nodeText text m n) l place l′ r → TellsPiece (nodeText text node n) l place l′ r
-node-as text n e t = tells-as (ap (λ (x : Node). nodeText text x n) (sym e)) t
+node-as text n e t = tells-as (ap (λ (x : Node). nodeText text x n) e) t
 
 -- Operators and relations have numbers in their tables.
 pub numbered-as : {node m : Node} → node ≡ m → Numbered node → Numbered m
@@ -95,8 +96,8 @@ module _ (limit : ℕ) (ws text : List ℕ) (at : ℕ) (k : Kind) {n a : ℕ} (e
   front-exists {m} g h =
       let x = exists-told k (sym g ∙ f) in
       let y = exists-binders limit ws at (rw (x .1) at e) in
-      rw (x .1) (tells-as (exists-front text (x .0) n) (h limit (x .0) (y .0) (ap (λ (i : ℕ). bindersAt limit i ws (at + 2)) (x .2) ∙ y .1)))
+      rw (x .1) (tells-as (sym (exists-front text (x .0) n)) (h limit (x .0) (y .0) (ap (λ (i : ℕ). bindersAt limit i ws (at + 2)) (x .2) ∙ y .1)))
 
   pub front-plain : ((m : ℕ) → node ≡ told.Exists m → ⊥) → (Numbered node → TellsPiece (nodeText text node n) l place l′ r) → TellsPiece (frontText text k n) l place l′ r
   front-plain g h =
-      tells-as (node-front text k n λ m q. g m (f ∙ q)) (rw f at (h (numbered-as (sym f) (node-numbered k))))
+      tells-as (sym (node-front text k n λ m q. g m (f ∙ q))) (rw f at (h (numbered-as (sym f) (node-numbered k))))

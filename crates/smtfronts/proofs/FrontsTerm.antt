@@ -1,17 +1,17 @@
 -- The text of a term by what stands in front of its operands, between them and behind them.
-use Prim.Native.Nat.{ℕ, zero, suc}
+use Prim.Native.Nat.{ℕ, suc}
 use mathlib.Core.Bool.{Bool, true, false}
-use mathlib.Core.Path.{_≡_, refl, sym, ap, _∙_}
-use mathlib.Core.List.{List, [], _∷_, _++_, append-nil, append-assoc}
+use mathlib.Core.Path.{_≡_, sym, ap, _∙_}
+use mathlib.Core.List.{List, [], _∷_, _++_, append-nil}
 use native.Mathlib.Omega.{arith}
 use lib.Dec.{eqb, leb}
 use borrow.Author.Tests.{le-leb}
 use Rattle.reading.specs.Pick.{pick}
-use Rattle.reading.specs.Bytes.{ascii}
 use Rattle.reading.specs.Answer.{Refusal, Ans, got, bad, unwritable}
-use Rattle.smt.specs.Sexp.{symbolText, list, print, spaced}
-use Rattle.smt.specs.Term.{Ident, Var, Term, Terms, tid, tapp, tlet, texists, bnil, tnil, tcons, terms, identSx, varSx, varSxs, termSx, termSxs}
+use Rattle.smt.specs.Sexp.{print, spaced}
+use Rattle.smt.specs.Term.{Ident, Term, Terms, tid, tapp, tlet, texists, bnil, tnil, tcons, terms, identSx, termSx, termSxs}
 use Rattle.smt.specs.Writer.{Form, alone, operator, folded, letting, some, applying, formed}
+use Rattle.smt.proofs.Text.{applied-text, let-text, exists-text}
 use Rattle.smtfronts.specs.Fronts.{operatorText, frontOf, seamOf, formLets, formCloses, closeText}
 
 -- The texts of terms, with these bytes between them.
@@ -30,47 +30,22 @@ unfolding print termSx between
 spaced-between t tnil = append-nil (print (termSx t))
 spaced-between t (tcons u us) = ap (λ l. print (termSx t) ++ (32 ∷ l)) (spaced-between u us)
 
--- The same bytes, otherwise grouped.
-apart : (h x y z : List ℕ) → (h ++ (32 ∷ x ++ y)) ++ z ≡ (h ++ (32 ∷ [])) ++ ((x ++ y) ++ z)
-apart h x y z = simp append-assoc
-
-closed-off : (h x : List ℕ) → (h ++ (32 ∷ x ++ [])) ++ (41 ∷ []) ≡ (h ++ (32 ∷ [])) ++ (x ++ (41 ∷ []))
-closed-off h x = simp (append-nil, append-assoc)
-
-nested : (h x p q y r : List ℕ) → (((((h ++ (x ++ [])) ++ p) ++ []) ++ q) ++ (y ++ [])) ++ r ≡ h ++ ((x ++ (p ++ (q ++ y))) ++ r)
-nested h x p q y r = simp (append-nil, append-assoc)
-
 -- An application.
-pub applied-text : (i : Ident) (t : Term) (ts : Terms) → print (termSx (tapp i t ts)) ≡ operatorText (print (identSx i)) ++ (between (seamOf false) (tcons t ts) ++ (41 ∷ []))
+pub applied-between : (i : Ident) (t : Term) (ts : Terms) → print (termSx (tapp i t ts)) ≡ operatorText (print (identSx i)) ++ (between (seamOf false) (tcons t ts) ++ (41 ∷ []))
 unfolding print termSx
-applied-text i t ts =
-    ap (λ l. 40 ∷ l) (apart (print (identSx i)) (print (termSx t)) (spaced (termSxs ts)) (41 ∷ []))
-    ∙ ap (λ l. operatorText (print (identSx i)) ++ (l ++ (41 ∷ []))) (spaced-between t ts)
+applied-between i t ts = applied-text i t ts ∙ ap (λ l. operatorText (print (identSx i)) ++ (l ++ (41 ∷ []))) (spaced-between t ts)
 
 -- An operator with its operands.
 operator-text : (i : Ident) (ts : Terms) {t : Term} → applying i ts ≡ got t → print (termSx t) ≡ operatorText (print (identSx i)) ++ (between (seamOf false) ts ++ (41 ∷ []))
 operator-text i tnil e = never-got e
 operator-text i (tcons u us) {t} e =
     let z : tapp i u us ≡ t = cc in
-    ap (λ (x : Term). print (termSx x)) (sym z) ∙ applied-text i u us
+    ap (λ (x : Term). print (termSx x)) (sym z) ∙ applied-between i u us
 
 counted : (b : Bool) (x : Ans Term) {t : Term} → pick b x (bad unwritable) ≡ got t → x ≡ got t
 unfolding pick
 counted true x e = e
 counted false x e = never-got e
-
--- A let with its value and its body.
-let-text : (x : List ℕ) (t u : Term) → print (termSx (tlet x t bnil u)) ≡ (ascii "(let ((" ++ (symbolText x ++ (32 ∷ []))) ++ ((print (termSx t) ++ (ascii ")) " ++ print (termSx u))) ++ (41 ∷ []))
-unfolding print termSx
-let-text x t u =
-    ap (λ l. ascii "(let ((" ++ l)
-    (nested (symbolText x) (32 ∷ print (termSx t)) (41 ∷ []) (41 ∷ []) (32 ∷ print (termSx u)) (41 ∷ [])
-    ∙ sym (append-assoc (symbolText x) (32 ∷ []) ((print (termSx t) ++ (ascii ")) " ++ print (termSx u))) ++ (41 ∷ []))))
-
--- An exists with its body.
-exists-text : (v : Var) (vs : List Var) (t : Term) → print (termSx (texists v vs t)) ≡ (ascii "(exists " ++ (print (list (varSxs (v ∷ vs))) ++ (32 ∷ []))) ++ (print (termSx t) ++ (41 ∷ []))
-unfolding print termSx varSxs
-exists-text v vs t = ap (λ l. ascii "(exists " ++ l) (closed-off (print (list (varSxs (v ∷ vs)))) (print (termSx t)))
 
 -- The text of a form with its operands.
 by-form : (f : Form) (ts : Terms) {t : Term} → formed f ts ≡ got t → print (termSx t) ≡ frontOf f (terms ts) ++ (between (seamOf (formLets f)) ts ++ closeText (formCloses f (terms ts)))
@@ -90,7 +65,7 @@ by-form (folded unit i) (tcons u (tcons v vs)) {t} e =
     let z : tapp i u (tcons v vs) ≡ t = cc in
     let two : leb 2 (suc (suc (terms vs))) ≡ true = le-leb 2 (suc (suc (terms vs))) (omega arith) in
     ap (λ (x : Term). print (termSx x)) (sym z)
-    ∙ applied-text i u (tcons v vs)
+    ∙ applied-between i u (tcons v vs)
     ∙ ap (λ (b : Bool). operatorText (print (identSx i)) ++ (between (seamOf false) (tcons u (tcons v vs)) ++ closeText b)) (sym two)
 by-form (letting x) tnil e = never-got e
 by-form (letting x) (tcons u tnil) e = never-got e

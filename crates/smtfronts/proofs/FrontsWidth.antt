@@ -6,9 +6,9 @@ use native.Mathlib.Omega.{arith}
 use native.Mathlib.Nat.{add-zero, add-suc, mul-suc, mul-assoc, pow-suc, pow-le-pow-right, mul-le-mul-left, le-trans}
 use lib.Dec.{ltb}
 use borrow.Author.Tests.{lt-ltb, le-ltb, ltb-true, ltb-false}
-use Rattle.reading.specs.Pick.{pick}
 use Rattle.reading.specs.Number.{Wide, valueOf}
 use Rattle.reading.proofs.Picks.{pick-eq, pick-ne}
+use Rattle.writing.proofs.Quads.{quad-below}
 use Rattle.smt.specs.Writer.{fitsWidth}
 
 two-more : (i j : ℕ) → i ≤ j → 2 ^ i ≤ 2 ^ j
@@ -60,10 +60,6 @@ same-test x y m n f g = go (ltb x y) refl
     go true e = sym (lt-ltb m n (f (ltb-true x y e)))
     go false e = sym (le-ltb m n (g (ltb-false x y e)))
 
--- A word in front of a number.
-wider : (x y b : ℕ) → x < 2 ^ 32 → y < b → x + 2 ^ 32 * y < 2 ^ 32 * b
-wider x y b h k = omega (arith, h, k)
-
 -- The highest word decides.
 highest : (k low x e : ℕ) → low < 2 ^ k → ltb x (2 ^ e) ≡ ltb (low + 2 ^ k * x) (2 ^ (k + e))
 highest k low x e h =
@@ -97,12 +93,8 @@ module _ (w : Wide) (width : ℕ) where
 
   module _ (some : width ≡ 0 → ⊥) (ha : w .a < 2 ^ 32) (hb : w .b < 2 ^ 32) (hc : w .c < 2 ^ 32) where
     pub fits-all : w .d < 2 ^ 32 → 128 ≤ width → true ≡ fitsWidth w width
-    unfolding valueOf
     fits-all hd h =
-        let c : w .c + 2 ^ 32 * w .d < 2 ^ 64 = wider (w .c) (w .d) (2 ^ 32) hc hd in
-        let b : w .b + 2 ^ 32 * (w .c + 2 ^ 32 * w .d) < 2 ^ 96 = wider (w .b) _ (2 ^ 64) hb c in
-        let a : valueOf w < 2 ^ 128 = wider (w .a) _ (2 ^ 96) ha b in
-        fits-some some (sym (lt-ltb (valueOf w) (2 ^ width) (le-trans a (two-more 128 width h))))
+        fits-some some (sym (lt-ltb (valueOf w) (2 ^ width) (le-trans (quad-below w ha hb hc hd) (two-more 128 width h))))
 
     pub fits-d : {p : ℕ} → 96 ≤ width → p ≡ 2 ^ (width - 96) → ltb (w .d) p ≡ fitsWidth w width
     unfolding valueOf

@@ -3,9 +3,7 @@ pub mod FrontsFormed
 pub mod FrontsSymbols
 pub mod FrontsNode
 pub mod FrontsSeams
-pub mod FrontsTells
 pub mod FrontsRest
 pub mod FrontsWidth
-pub mod FrontsExists
 pub mod FrontsFunctions
 pub mod FrontsSteps

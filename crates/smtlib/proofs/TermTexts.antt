@@ -15,7 +15,7 @@ use Rattle.smt.specs.Writer.{Form, formed, fieldsOf, application, headKind, hea
 use Rattle.smtvars.specs.Pieces.{joined, identText}
 use Rattle.smtlib.specs.Terms.{termText, seamed}
 use Rattle.smtfronts.specs.Fronts.{frontOf, frontText, formLets, formCloses, seamOf, closeText}
-use Rattle.smtfronts.proofs.FrontsTerm.{between, applied-text, formed-text}
+use Rattle.smtfronts.proofs.FrontsTerm.{between, applied-between, formed-text}
 use Rattle.smtfronts.proofs.FrontsFormed.{kind-becomes}
 
 module _ (text : List ℕ) where
@@ -120,7 +120,7 @@ module _ (text : List ℕ) where
       where
         named : (x : Ans Ident) (t : Term) (us : Terms) → andThen x (λ i. got (print (identSx i))) ≡ got ys → between (seamOf false) (tcons t us) ≡ xs → andThen (application (tcons t us) x (termOf text h)) (λ t. got (print (termSx t))) ≡ got ((40 ∷ ys ++ (32 ∷ [])) ++ (xs ++ (41 ∷ [])))
         named (bad f) t us s b = let z : _≡_ {A = ℕ} 0 1 = cc in absurd (omega arith)
-        named (got i) t us s b = let z : print (identSx i) ≡ ys = cc in ap got (applied-text i t us ∙ rw (z, b) refl)
+        named (got i) t us s b = let z : print (identSx i) ≡ ys = cc in ap got (applied-between i t us ∙ rw (z, b) refl)
 
         go : (y : Ans Terms) → termsOf text (econs e es) ≡ y → andThen y (λ ts. got (between (seamOf false) ts)) ≡ got xs → andThen (andThen y λ ts. application ts (headOf text h) (termOf text h)) (λ t. got (print (termSx t))) ≡ got ((40 ∷ ys ++ (32 ∷ [])) ++ (xs ++ (41 ∷ [])))
         go (bad s) w v = let z : _≡_ {A = ℕ} 0 1 = cc in absurd (omega arith)

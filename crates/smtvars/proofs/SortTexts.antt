@@ -2,7 +2,7 @@
 use Prim.Native.Nat.{ℕ, zero, suc}
 use mathlib.Core.Bool.{Bool, true, false}
 use mathlib.Core.Path.{_≡_, refl, ap, _∙_}
-use mathlib.Core.List.{List, [], _∷_, _++_, append-nil, append-assoc}
+use mathlib.Core.List.{List, [], _∷_, _++_, append-assoc}
 use native.Mathlib.Omega.{arith}
 use lib.Dec.{eqb}
 use borrow.Author.Tests.{ne-eqb}
@@ -10,11 +10,11 @@ use Rattle.reading.specs.Pick.{pick}
 use Rattle.reading.specs.Bytes.{ascii, Span}
 use Rattle.reading.specs.Answer.{Ans, got, bad, andThen, check, unwritable}
 use Rattle.grammar.specs.Sort.{cMap, cData, Sort, Sorts, sInt, sBool, sReal, sStr, sBitVec, sSize, sApp, snil, scons, sorts}
-use Rattle.writing.specs.Digits.{decimal}
-use Rattle.smt.specs.Sexp.{symbolText, print, spaced}
-use Rattle.smt.specs.Term.{byNumber, Ident, plainIdent, SmtSort, SmtSorts, srt, rnil, rcons, identSx, sortSx, sortSxs}
+use Rattle.smt.specs.Sexp.{print, spaced}
+use Rattle.smt.specs.Term.{Ident, plainIdent, SmtSort, SmtSorts, srt, rnil, rcons, identSx, sortSx, sortSxs}
 use Rattle.smt.specs.Writer.{plainly, widthOf, bytesOf, symbolOf, sortOf, sortsOf}
 use Rattle.smt.specs.Compute.{smtComputes}
+use Rattle.smt.proofs.Text.{barred-text, width-text}
 use Rattle.smtvars.specs.Pieces.{joined, sortText, nameText}
 use Rattle.smtvars.specs.SortNode.{widthText, arrayText, dataText}
 
@@ -55,18 +55,14 @@ around-is text i t ts =
     around i (sortOf text t) (sortsOf text ts)
     ∙ ap (λ z. joined (got (40 ∷ print (identSx i) ++ (32 ∷ []))) (joined (sortText text t) (joined z (got (41 ∷ []))))) (spaced-is text ts)
 
--- Symbols: those of SMT-LIB's own, and a Data sort's.
-bits-symbol : symbolText (ascii "BitVec") ≡ ascii "BitVec"
-unfolding smtComputes
-bits-symbol = refl
-
+-- Symbols: SMT-LIB's own, and a Data sort's.
 array-ident : 40 ∷ print (identSx (plainly "Array")) ++ (32 ∷ []) ≡ ascii "(Array "
 unfolding smtComputes
 array-ident = refl
 
 data-ident : (name : List ℕ) → print (identSx (plainIdent (ascii "s " ++ name))) ≡ 124 ∷ 115 ∷ 32 ∷ name ++ (124 ∷ [])
-unfolding smtComputes
-data-ident name = refl
+unfolding print
+data-ident name = barred-text 115 name
 
 -- One value behind another.
 fused : {A B : Type 0} (y : Ans A) (f : A → B) (g : B → List ℕ) → andThen (andThen y λ a. got (f a)) (λ b. got (g b)) ≡ andThen y (λ a. got (g (f a)))
@@ -111,17 +107,12 @@ unfolding sortText sortOf symbolOf dataText nameText sorts
 data-leaf text s = data-alone (bytesOf text s)
 
 -- A BitVec.
-width-ident : (n : ℕ) → print (identSx (record { name = ascii "BitVec"; indices = byNumber n ∷ [] })) ≡ ascii "(_ BitVec " ++ (decimal n ++ ascii ")")
-unfolding print
-width-ident n =
-    ap (λ l. 40 ∷ (95 ∷ 32 ∷ l ++ (32 ∷ decimal n ++ [])) ++ (41 ∷ [])) bits-symbol ∙ ap (λ l. ascii "(_ BitVec " ++ (l ++ (41 ∷ []))) (append-nil (decimal n))
-
 pub width-leaf : (text : List ℕ) (w : ℕ) → sortText text (sBitVec (sSize w)) ≡ widthText w
 unfolding sortText sortOf widthOf pick widthText sortSx
 width-leaf text zero = refl
 width-leaf text (suc w) =
     let z : eqb (suc w) 0 ≡ false = ne-eqb (suc w) 0 (λ e. omega (arith, e)) in
-    rw z (ap got (width-ident (suc w)))
+    rw z (ap got (width-text (suc w)))
 
 -- Sorts by their names.
 pub int-leaf : (text : List ℕ) → sortText text sInt ≡ got (ascii "Int")

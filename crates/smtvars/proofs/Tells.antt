@@ -58,6 +58,25 @@ module _ {R : Type 0} {to no : ℕ → R} where
   pub gone-told : {x : Ans (List ℕ)} {l l′ : List ℕ} {place k : ℕ} → Gone x l l′ k → Tells to no x l place l′ (no k)
   gone-told (gone h e) = keeps h (ap no e)
 
+  -- Bytes by themselves, and a refusal by itself.
+  pub tells-to : {xs l l′ : List ℕ} {place p : ℕ} → WroteBytes l place xs l′ p → Tells to no (got xs) l place l′ (to p)
+  tells-to w = tells w refl
+
+  pub tells-no : (e : Refusal) {l l′ : List ℕ} {place : ℕ} → length l′ ≡ length l → Tells to no (bad e) l place l′ (no (number e))
+  tells-no e h = keeps h refl
+
+  -- A piece behind bytes, bytes behind a piece, and nothing behind a refusal.
+  pub tells-seq : (xs : List ℕ) {y : Ans (List ℕ)} {l l₁ l₂ : List ℕ} {place p : ℕ} {r : R} → WroteBytes l place xs l₁ p → Tells to no y l₁ p l₂ r → Tells to no (joined (got xs) y) l place l₂ r
+  unfolding joined
+  tells-seq xs w (tells {xs = ys} v e) = tells (wrote-seq xs ys w v) e
+  tells-seq xs w (keeps h e) = keeps (h ∙ w .kept) e
+
+  pub tells-end : (ys : List ℕ) {x : Ans (List ℕ)} {l l₁ l₂ : List ℕ} {place p q : ℕ} → Put x l place l₁ p → WroteBytes l₁ p ys l₂ q → Tells to no (joined x (got ys)) l place l₂ (to q)
+  tells-end ys v w = put-told (put-seq v (put w))
+
+  pub tells-stop : (y : Ans (List ℕ)) {x : Ans (List ℕ)} {l l′ : List ℕ} {place k : ℕ} → Gone x l l′ k → Tells to no (joined x y) l place l′ (no k)
+  tells-stop y g = gone-told (gone-first y g)
+
   -- The same piece by another name.
   pub tells-as : {x y : Ans (List ℕ)} {l l′ : List ℕ} {place : ℕ} {r : R} → x ≡ y → Tells to no y l place l′ r → Tells to no x l place l′ r
   tells-as e t = rw e t

@@ -1,13 +1,13 @@
 -- The bytes of sorted variables: each in parentheses, one space apart, and parentheses round them all.
 use Prim.Native.Nat.{ℕ}
 use mathlib.Core.Path.{_≡_, refl, ap, _∙_}
-use mathlib.Core.List.{List, [], _∷_, _++_, append-assoc, append-nil}
+use mathlib.Core.List.{List, [], _∷_, _++_, append-assoc}
 use Rattle.reading.specs.Answer.{Ans, got, bad, andThen}
 use Rattle.grammar.specs.Expr.{Binder}
-use Rattle.smt.specs.Sexp.{symbolText, list, print, spaced}
+use Rattle.smt.specs.Sexp.{list, print, spaced}
 use Rattle.smt.specs.Term.{SmtSort, Var, sortSx, varSx, varSxs}
 use Rattle.smt.specs.Writer.{freshSymbol, sortOf, varsOf}
-use Rattle.smt.specs.Compute.{smtComputes}
+use Rattle.smt.proofs.Text.{fresh-text, var-text}
 use Rattle.smtvars.specs.Pieces.{joined, sortText, freshText, varText, varsText}
 
 -- A space before each variable; and the same without the first space.
@@ -24,21 +24,14 @@ unfoldable pub varsBody : List ℕ → List Binder → Ans (List ℕ)
 varsBody text bs = joined (insideVars text bs) (got (41 ∷ []))
 
 -- A variable.
-fresh-symbol : (k : ℕ) → symbolText (freshSymbol k) ≡ freshText k
-unfolding smtComputes freshText
-fresh-symbol k = refl
-
 abbrev variable : ℕ → SmtSort → Var
 variable k s = record { name = freshSymbol k; sort = s }
 
 var-one : (k : ℕ) (x : Ans SmtSort) → andThen x (λ s. got (print (varSx (variable k s)))) ≡ joined (got (40 ∷ freshText k ++ (32 ∷ []))) (joined (andThen x λ s. got (print (sortSx s))) (got (41 ∷ [])))
-unfolding joined print varSx
+unfolding joined freshText
 var-one k (bad r) = refl
 var-one k (got s) =
-    ap (λ l. got (40 ∷ (l ++ (32 ∷ print (sortSx s) ++ [])) ++ (41 ∷ []))) (fresh-symbol k) ∙ ap (λ l. got (40 ∷ l)) (regroup (freshText k) (print (sortSx s)))
-  where
-    regroup : (a b : List ℕ) → (a ++ (32 ∷ b ++ [])) ++ (41 ∷ []) ≡ (a ++ (32 ∷ [])) ++ (b ++ (41 ∷ []))
-    regroup a b = rw (append-nil b) (simp append-assoc)
+    ap got (var-text (variable k s)) ∙ ap (λ l. got ((40 ∷ l ++ (32 ∷ [])) ++ (print (sortSx s) ++ (41 ∷ [])))) (fresh-text k)
 
 var-is : (text : List ℕ) (b : Binder) → andThen (sortOf text (b .sort)) (λ s. got (print (varSx (variable (b .var) s)))) ≡ varText text b
 unfolding varText sortText
@@ -77,9 +70,9 @@ vars-text text (b ∷ bs) =
     ∙ ap (λ z. joined (got (40 ∷ [])) (joined (joined (varText text b) z) (got (41 ∷ [])))) (spaced-is text bs)
 
 -- A variable, piece by piece.
-pub var-text : (text : List ℕ) (b : Binder) {k : ℕ} → k ≡ b .var → varText text b ≡ joined (got (40 ∷ [])) (joined (got (freshText k)) (joined (got (32 ∷ [])) (joined (sortText text (b .sort)) (got (41 ∷ [])))))
+pub var-pieces : (text : List ℕ) (b : Binder) {k : ℕ} → k ≡ b .var → varText text b ≡ joined (got (40 ∷ [])) (joined (got (freshText k)) (joined (got (32 ∷ [])) (joined (sortText text (b .sort)) (got (41 ∷ [])))))
 unfolding varText joined
-var-text text b {k} e = rw e (go (freshText (b .var)) (sortText text (b .sort)))
+var-pieces text b {k} e = rw e (go (freshText (b .var)) (sortText text (b .sort)))
   where
     go : (f : List ℕ) (x : Ans (List ℕ)) → joined (got (40 ∷ f ++ (32 ∷ []))) (joined x (got (41 ∷ []))) ≡ joined (got (40 ∷ [])) (joined (got f) (joined (got (32 ∷ [])) (joined x (got (41 ∷ [])))))
     go f (bad r) = refl

@@ -1,36 +1,22 @@
 -- What was read of a sort, of a binder and of several: where it begins, what it says, and where it is spelled.
 use Prim.Native.Nat.{ℕ, zero, suc, _+_, _-_, _*_, _^_, _≤_, _<_}
-use mathlib.Core.Bool.{Bool, true, false}
-use mathlib.Core.Path.{_≡_, refl, sym, ap, _∙_}
+use mathlib.Core.Path.{_≡_, sym, ap, _∙_}
 use mathlib.Core.List.{List, [], _∷_}
 use native.Mathlib.Omega.{arith}
-use lib.Dec.{ltb}
 use lib.ListN.{length, getD}
-use borrow.Author.Tests.{ltb-true}
-use Rattle.reading.specs.Pick.{pick}
-use Rattle.reading.specs.Answer.{notWords}
 use Rattle.grammar.specs.Sort.{Sort, sortWords}
 use Rattle.grammar.specs.Expr.{Binder}
-use Rattle.judge.specs.Judge.{reads, fails, word, twoWords, several, sortDeep, sortAt, binderAt, bindersAt}
+use Rattle.judge.specs.Judge.{reads, word, twoWords, several, sortDeep, sortAt, binderAt, bindersAt}
 use Rattle.judge.specs.Spelled.{Spelled}
-use Rattle.judge.proofs.Taken.{never-reads, first-read, same-value, same-end}
+use Rattle.judge.proofs.Taken.{never-reads, first-read, same-value, same-end, word-read}
 use Rattle.judge.proofs.Spell.{Low, post-reads, spelled-none}
 use Rattle.judge.proofs.SpellSort.{a-sort}
-
--- A word.
-word-read : (ws : List ℕ) (at : ℕ) {k n : ℕ} → word ws at ≡ reads k n → (at < length ws) × (k ≡ getD ws at 0) × (n ≡ at + 1)
-unfolding word pick
-word-read ws at {k} {n} e = go (ltb at (length ws)) refl e
-  where
-    go : (t : Bool) → ltb at (length ws) ≡ t → pick t (reads (getD ws at 0) (at + 1)) (fails notWords) ≡ reads k n → (at < length ws) × (k ≡ getD ws at 0) × (n ≡ at + 1)
-    go true h f = (ltb-true at (length ws) h, sym (same-value f), sym (same-end f))
-    go false h f = never-reads f
 
 -- A sort begins inside the words, and is spelled there.
 deep-inside : (limit deep : ℕ) (ws : List ℕ) (at : ℕ) {s : Sort} {n : ℕ} → sortDeep limit deep ws at ≡ reads s n → at < length ws
 unfolding sortDeep
 deep-inside limit zero ws at e = never-reads e
-deep-inside limit (suc deep) ws at e = first-read (word ws at) _ ws e λ k m x y. word-read ws at x .0
+deep-inside limit (suc deep) ws at e = first-read (word ws at) _ ws e λ k m x y. word-read ws at x .2
 
 pub sort-spelled : (limit : ℕ) (ws : List ℕ) (at : ℕ) {s : Sort} {n : ℕ} → Low ws → sortAt limit ws at ≡ reads s n → Spelled ws at n (sortWords s)
 unfolding sortAt
@@ -55,10 +41,10 @@ binder-read limit ws at {b} {n} e =
     let t = word-read ws i p in
     let c : record { var = k; sort = s } ≡ b = same-value v in
     let d : low + high * 2 ^ 32 ≡ k = same-value q in
-    let z : m ≡ at + 2 = omega (arith, sym (same-end q), t .2, r .2) in
+    let z : m ≡ at + 2 = omega (arith, sym (same-end q), t .1, r .1) in
     record {
-      starts = r .0;
-      number = rw (← r .2, ← r .1, ← t .1) (d ∙ ap (λ (w : Binder). w .var) c);
+      starts = r .2;
+      number = rw (← r .1, ← r .0, ← t .0) (d ∙ ap (λ (w : Binder). w .var) c);
       sorted = ap (λ (w : ℕ). sortAt limit ws w) (sym z) ∙ u ∙ ap (λ (w : Binder). reads (w .sort) j) c ∙ ap (reads (b .sort)) (same-end v);
     }
 

@@ -18,14 +18,17 @@ wider x y b h k = omega (arith, h, k)
 below : (n a b : ℕ) → n < a → a ≤ b → n < b
 below n a b h k = omega (arith, h, k)
 
--- A number of four words has at most 39 digits.
-pub quad-long : (w : Wide) → w .a < 2 ^ 32 → w .b < 2 ^ 32 → w .c < 2 ^ 32 → w .d < 2 ^ 32 → length (decimal (valueOf w)) ≤ 39
+-- A number of four words is below 2^128, and has at most 39 digits.
+pub quad-below : (w : Wide) → w .a < 2 ^ 32 → w .b < 2 ^ 32 → w .c < 2 ^ 32 → w .d < 2 ^ 32 → valueOf w < 2 ^ 128
 unfolding valueOf
-quad-long w ha hb hc hd =
+quad-below w ha hb hc hd =
     let c : w .c + 2 ^ 32 * w .d < 2 ^ 64 = wider (w .c) (w .d) (2 ^ 32) hc hd in
     let b : w .b + 2 ^ 32 * (w .c + 2 ^ 32 * w .d) < 2 ^ 96 = wider (w .b) _ (2 ^ 64) hb c in
-    let a : valueOf w < 2 ^ 128 = wider (w .a) _ (2 ^ 96) ha b in
-    decimal-most 38 (valueOf w) (below (valueOf w) (2 ^ 128) (10 ^ 39) a (leb-true (2 ^ 128) (10 ^ 39) refl))
+    wider (w .a) _ (2 ^ 96) ha b
+
+pub quad-long : (w : Wide) → w .a < 2 ^ 32 → w .b < 2 ^ 32 → w .c < 2 ^ 32 → w .d < 2 ^ 32 → length (decimal (valueOf w)) ≤ 39
+quad-long w ha hb hc hd =
+    decimal-most 38 (valueOf w) (below (valueOf w) (2 ^ 128) (10 ^ 39) (quad-below w ha hb hc hd) (leb-true (2 ^ 128) (10 ^ 39) refl))
 
 -- A word that is not the lowest is not 0, or they all are.
 module _ (w : Wide) where

@@ -1,4 +1,4 @@
-use Rattle.smtfronts.proofs.FrontsTells.{piece-to, piece-no, tells-seq, tells-end, tells-stop}
+use Rattle.smtvars.proofs.Tells.{piece-put, piece-gone, tells-seq, tells-end, tells-stop}
 use borrow.Author.Needs.{needs}
 use Rattle.smtfronts.proofs.callee.callee.Statement.{statement}
 use Rattle.smtfronts.proofs.callee.callee.Tie as tie
@@ -33,7 +33,7 @@ same-length c = search needs
 
 -- src/callee.rt:61:1
 returns : tie.Need-returns
-returns c = tells-seq _ (c .before .before .before .before .before .before .before .before .before .before .before .before .before .byte .ensures) (tells-end _ (piece-to (c .before .before .before .before .before .before .before .before .before .named .ensures) (c .before .before .before .before .before .p .given .1)) (c .before .before .byte2 .ensures))
+returns c = tells-seq _ (c .before .before .before .before .before .before .before .before .before .before .before .before .before .byte .ensures) (tells-end _ (piece-put (c .before .before .before .before .before .before .before .before .before .named .ensures) (c .before .before .before .before .before .p .given .1)) (c .before .before .byte2 .ensures))
 
 -- src/callee.rt:61:1
 same-length-2 : tie.Need-same-length-2
@@ -41,7 +41,7 @@ same-length-2 c = search needs
 
 -- src/callee.rt:61:1
 returns-2 : tie.Need-returns-2
-returns-2 c = tells-seq _ (c .before .before .before .before .before .before .before .before .before .byte .ensures) (tells-stop _ (piece-no (c .before .before .before .before .before .named .ensures) (c .before .r .given .1)))
+returns-2 c = tells-seq _ (c .before .before .before .before .before .before .before .before .before .byte .ensures) (tells-stop _ (piece-gone (c .before .before .before .before .before .named .ensures) (c .before .r .given .1)))
 
 pub callee-spec : {M : Type 1} → statement M
 callee-spec =

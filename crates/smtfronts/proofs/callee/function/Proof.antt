@@ -1,4 +1,5 @@
 use native.Mathlib.Omega.{arith}
+use Rattle.grammar.specs.Names.{theory}
 use Rattle.smt.specs.Vocabulary.{bitVectors}
 use Rattle.smtfronts.proofs.FrontsFunctions.{function-told, function-none}
 use Rattle.judge.proofs.ReadHead.{next}
@@ -199,7 +200,7 @@ same-length c = search needs
 
 -- src/callee.rt:17:1
 returns : tie.Need-returns
-unfolding bitVectors
+unfolding bitVectors theory
 returns c = function-told 9 (c .before .before .before .before .before .match .keys1) (omega arith) (omega arith) (c .before .before .bytes .ensures)
 
 -- src/callee.rt:17:1
@@ -208,7 +209,7 @@ same-length-2 c = search needs
 
 -- src/callee.rt:17:1
 returns-2 : tie.Need-returns-2
-unfolding bitVectors
+unfolding bitVectors theory
 returns-2 c = function-told 10 (c .before .before .before .before .before .match .keys2) (omega arith) (omega arith) (c .before .before .bytes2 .ensures)
 
 -- src/callee.rt:17:1
@@ -217,7 +218,7 @@ same-length-3 c = search needs
 
 -- src/callee.rt:17:1
 returns-3 : tie.Need-returns-3
-unfolding bitVectors
+unfolding bitVectors theory
 returns-3 c = function-told 11 (c .before .before .before .before .before .match .keys3) (omega arith) (omega arith) (c .before .before .bytes3 .ensures)
 
 -- src/callee.rt:17:1
@@ -226,7 +227,7 @@ same-length-4 c = search needs
 
 -- src/callee.rt:17:1
 returns-4 : tie.Need-returns-4
-unfolding bitVectors
+unfolding bitVectors theory
 returns-4 c = function-told 12 (c .before .before .before .before .before .match .keys4) (omega arith) (omega arith) (c .before .before .bytes4 .ensures)
 
 -- src/callee.rt:17:1
@@ -235,7 +236,7 @@ same-length-5 c = search needs
 
 -- src/callee.rt:17:1
 returns-5 : tie.Need-returns-5
-unfolding bitVectors
+unfolding bitVectors theory
 returns-5 c = function-told 13 (c .before .before .before .before .before .match .keys5) (omega arith) (omega arith) (c .before .before .bytes5 .ensures)
 
 -- src/callee.rt:17:1
@@ -244,7 +245,7 @@ same-length-6 c = search needs
 
 -- src/callee.rt:17:1
 returns-6 : tie.Need-returns-6
-unfolding bitVectors
+unfolding bitVectors theory
 returns-6 c = function-told 14 (c .before .before .before .before .before .match .keys6) (omega arith) (omega arith) (c .before .before .bytes6 .ensures)
 
 -- src/callee.rt:17:1
@@ -253,7 +254,7 @@ same-length-7 c = search needs
 
 -- src/callee.rt:17:1
 returns-7 : tie.Need-returns-7
-unfolding bitVectors
+unfolding bitVectors theory
 returns-7 c = function-told 15 (c .before .before .before .before .before .match .keys7) (omega arith) (omega arith) (c .before .before .bytes7 .ensures)
 
 -- src/callee.rt:17:1
@@ -262,7 +263,7 @@ same-length-8 c = search needs
 
 -- src/callee.rt:17:1
 returns-8 : tie.Need-returns-8
-unfolding bitVectors
+unfolding bitVectors theory
 returns-8 c = function-told 16 (c .before .before .before .before .before .match .keys8) (omega arith) (omega arith) (c .before .before .bytes8 .ensures)
 
 -- src/callee.rt:17:1
@@ -271,7 +272,7 @@ same-length-9 c = search needs
 
 -- src/callee.rt:17:1
 returns-9 : tie.Need-returns-9
-unfolding bitVectors
+unfolding bitVectors theory
 returns-9 c = function-told 17 (c .before .before .before .before .before .match .keys9) (omega arith) (omega arith) (c .before .before .bytes9 .ensures)
 
 -- src/callee.rt:17:1
@@ -280,7 +281,7 @@ same-length-10 c = search needs
 
 -- src/callee.rt:17:1
 returns-10 : tie.Need-returns-10
-unfolding bitVectors
+unfolding bitVectors theory
 returns-10 c = function-told 18 (c .before .before .before .before .before .match .keys10) (omega arith) (omega arith) (c .before .before .bytes10 .ensures)
 
 -- src/callee.rt:17:1
@@ -289,7 +290,7 @@ same-length-11 c = search needs
 
 -- src/callee.rt:17:1
 returns-11 : tie.Need-returns-11
-unfolding bitVectors
+unfolding bitVectors theory
 returns-11 c = function-told 19 (c .before .before .before .before .before .match .keys11) (omega arith) (omega arith) (c .before .before .bytes11 .ensures)
 
 -- src/callee.rt:17:1
@@ -298,7 +299,7 @@ same-length-12 c = search needs
 
 -- src/callee.rt:17:1
 returns-12 : tie.Need-returns-12
-unfolding bitVectors
+unfolding bitVectors theory
 returns-12 c = function-told 20 (c .before .before .before .before .before .match .keys12) (omega arith) (omega arith) (c .before .before .bytes12 .ensures)
 
 -- src/callee.rt:17:1
@@ -307,7 +308,7 @@ same-length-13 c = search needs
 
 -- src/callee.rt:17:1
 returns-13 : tie.Need-returns-13
-unfolding bitVectors
+unfolding bitVectors theory
 returns-13 c = function-told 21 (c .before .before .before .before .before .match .keys13) (omega arith) (omega arith) (c .before .before .bytes13 .ensures)
 
 -- src/callee.rt:17:1
@@ -316,7 +317,7 @@ same-length-14 c = search needs
 
 -- src/callee.rt:17:1
 returns-14 : tie.Need-returns-14
-unfolding bitVectors
+unfolding bitVectors theory
 returns-14 c = function-told 22 (c .before .before .before .before .before .match .keys14) (omega arith) (omega arith) (c .before .before .bytes14 .ensures)
 
 -- src/callee.rt:17:1
@@ -325,7 +326,7 @@ same-length-15 c = search needs
 
 -- src/callee.rt:17:1
 returns-15 : tie.Need-returns-15
-unfolding bitVectors
+unfolding bitVectors theory
 returns-15 c = function-told 23 (c .before .before .before .before .before .match .keys15) (omega arith) (omega arith) (c .before .before .bytes15 .ensures)
 
 -- src/callee.rt:17:1
@@ -334,7 +335,7 @@ same-length-16 c = search needs
 
 -- src/callee.rt:17:1
 returns-16 : tie.Need-returns-16
-unfolding bitVectors
+unfolding bitVectors theory
 returns-16 c = function-told 24 (c .before .before .before .before .before .match .keys16) (omega arith) (omega arith) (c .before .before .bytes16 .ensures)
 
 -- src/callee.rt:17:1
@@ -343,7 +344,7 @@ same-length-17 c = search needs
 
 -- src/callee.rt:17:1
 returns-17 : tie.Need-returns-17
-unfolding bitVectors
+unfolding bitVectors theory
 returns-17 c = function-told 25 (c .before .before .before .before .before .match .keys17) (omega arith) (omega arith) (c .before .before .bytes17 .ensures)
 
 -- src/callee.rt:17:1
@@ -352,7 +353,7 @@ same-length-18 c = search needs
 
 -- src/callee.rt:17:1
 returns-18 : tie.Need-returns-18
-unfolding bitVectors
+unfolding bitVectors theory
 returns-18 c = function-told 26 (c .before .before .before .before .before .match .keys18) (omega arith) (omega arith) (c .before .before .bytes18 .ensures)
 
 -- src/callee.rt:17:1
@@ -361,7 +362,7 @@ same-length-19 c = search needs
 
 -- src/callee.rt:17:1
 returns-19 : tie.Need-returns-19
-unfolding bitVectors
+unfolding bitVectors theory
 returns-19 c = function-told 27 (c .before .before .before .before .before .match .keys19) (omega arith) (omega arith) (c .before .before .bytes19 .ensures)
 
 -- src/callee.rt:17:1
@@ -370,7 +371,7 @@ same-length-20 c = search needs
 
 -- src/callee.rt:17:1
 returns-20 : tie.Need-returns-20
-unfolding bitVectors
+unfolding bitVectors theory
 returns-20 c = function-told 28 (c .before .before .before .before .before .match .keys20) (omega arith) (omega arith) (c .before .before .bytes20 .ensures)
 
 -- src/callee.rt:17:1
@@ -379,7 +380,7 @@ same-length-21 c = search needs
 
 -- src/callee.rt:17:1
 returns-21 : tie.Need-returns-21
-unfolding bitVectors
+unfolding bitVectors theory
 returns-21 c = function-told 29 (c .before .before .before .before .before .match .keys21) (omega arith) (omega arith) (c .before .before .bytes21 .ensures)
 
 -- src/callee.rt:17:1
@@ -388,7 +389,7 @@ same-length-22 c = search needs
 
 -- src/callee.rt:17:1
 returns-22 : tie.Need-returns-22
-unfolding bitVectors
+unfolding bitVectors theory
 returns-22 c = function-told 30 (c .before .before .before .before .before .match .keys22) (omega arith) (omega arith) (c .before .before .bytes22 .ensures)
 
 -- src/callee.rt:17:1
@@ -397,7 +398,7 @@ same-length-23 c = search needs
 
 -- src/callee.rt:17:1
 returns-23 : tie.Need-returns-23
-unfolding bitVectors
+unfolding bitVectors theory
 returns-23 c = function-told 31 (c .before .before .before .before .before .match .keys23) (omega arith) (omega arith) (c .before .before .bytes23 .ensures)
 
 -- src/callee.rt:17:1

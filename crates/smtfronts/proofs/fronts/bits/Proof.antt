@@ -1,7 +1,7 @@
-use mathlib.Core.Path.{refl}
+use mathlib.Core.Path.{sym, refl}
 use Rattle.reading.specs.Answer.{unwritable}
 use Rattle.writing.proofs.Wrote.{wrote-seq}
-use Rattle.smtfronts.proofs.FrontsTells.{tells-to, tells-no, tells-as}
+use Rattle.smtvars.proofs.Tells.{tells-to, tells-no, tells-as}
 use Rattle.smtfronts.proofs.FrontsSteps.{bits-refused, bits-taken}
 use borrow.Author.Needs.{needs}
 use Rattle.smtfronts.proofs.fronts.bits.Statement.{statement}
@@ -20,7 +20,7 @@ fits-requires c κs = search needs
 
 -- src/fronts.rt:142:9
 returns : tie.Need-returns
-returns c = tells-as (bits-refused _ _ (c .before .fits2 .ensures) (c .if1 .taken)) (tells-no unwritable refl)
+returns c = tells-as (sym (bits-refused _ _ (c .before .fits2 .ensures) (c .if1 .taken))) (tells-no unwritable refl)
 
 -- src/fronts.rt:144:19
 slice-aggregate-bytes : tie.Need-slice-aggregate-bytes
@@ -53,7 +53,7 @@ same-length c = search needs
 -- src/fronts.rt:138:1
 returns-2 : tie.Need-returns-2
 returns-2 c =
-    tells-as (bits-taken _ _ (c .before .before .before .before .before .before .before .before .before .before .before .before .before .before .before .before .before .before .before .before .before .before .fits2 .ensures) (c .before .before .before .before .before .before .before .before .before .before .before .before .before .before .before .before .before .before .before .before .before .if1 .left))
+    tells-as (sym (bits-taken _ _ (c .before .before .before .before .before .before .before .before .before .before .before .before .before .before .before .before .before .before .before .before .before .before .fits2 .ensures) (c .before .before .before .before .before .before .before .before .before .before .before .before .before .before .before .before .before .before .before .before .before .if1 .left)))
     (tells-to
     (wrote-seq _ _ (c .before .before .before .before .before .before .before .before .before .before .before .before .before .before .before .before .before .before .bytes .ensures)
     (wrote-seq _ _ (c .before .before .before .before .before .before .before .before .before .before .before .before .before .before .decimal .ensures)

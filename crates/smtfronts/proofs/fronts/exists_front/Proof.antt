@@ -1,5 +1,6 @@
+use mathlib.Core.Path.{sym}
 use Rattle.writing.proofs.Wrote.{wrote-none}
-use Rattle.smtfronts.proofs.FrontsTells.{part-to, part-no, tells-to, tells-as, tells-seq, tells-end, tells-stop}
+use Rattle.smtvars.proofs.Tells.{part-put, part-gone, tells-to, tells-as, tells-seq, tells-end, tells-stop}
 use Rattle.smtfronts.proofs.FrontsSteps.{exists-none, exists-some}
 use borrow.Author.Needs.{needs}
 use Rattle.smtfronts.proofs.fronts.exists_front.Statement.{statement}
@@ -12,7 +13,7 @@ use Rattle.writing.proofs.bytes.Reads as bytes-reads
 
 -- src/fronts.rt:210:9
 returns : tie.Need-returns
-returns c limit bs m e = tells-as (exists-none limit _ _ _ _ bs e (c .if1 .taken)) (tells-to (wrote-none _ _))
+returns c limit bs m e = tells-as (sym (exists-none limit _ _ _ _ bs e (c .if1 .taken))) (tells-to (wrote-none _ _))
 
 -- src/fronts.rt:212:19
 slice-aggregate-bytes : tie.Need-slice-aggregate-bytes
@@ -45,8 +46,8 @@ same-length c = search needs
 -- src/fronts.rt:206:1
 returns-2 : tie.Need-returns-2
 returns-2 c limit bs m e =
-    tells-as (exists-some limit _ _ _ _ bs e (c .before .before .before .before .before .before .before .before .before .before .before .before .before .before .before .before .if1 .left))
-    (tells-seq _ (c .before .before .before .before .before .before .before .before .before .before .before .before .before .bytes .ensures) (tells-end _ (part-to (c .before .before .before .before .before .before .before .before .before .vars .ensures limit bs m e) (c .before .before .before .before .before .p .given .1)) (c .before .before .byte .ensures)))
+    tells-as (sym (exists-some limit _ _ _ _ bs e (c .before .before .before .before .before .before .before .before .before .before .before .before .before .before .before .before .if1 .left)))
+    (tells-seq _ (c .before .before .before .before .before .before .before .before .before .before .before .before .before .bytes .ensures) (tells-end _ (part-put (c .before .before .before .before .before .before .before .before .before .vars .ensures limit bs m e) (c .before .before .before .before .before .p .given .1)) (c .before .before .byte .ensures)))
 
 -- src/fronts.rt:206:1
 same-length-2 : tie.Need-same-length-2
@@ -55,8 +56,8 @@ same-length-2 c = search needs
 -- src/fronts.rt:206:1
 returns-3 : tie.Need-returns-3
 returns-3 c limit bs m e =
-    tells-as (exists-some limit _ _ _ _ bs e (c .before .before .before .before .before .before .before .before .before .before .before .before .if1 .left))
-    (tells-seq _ (c .before .before .before .before .before .before .before .before .before .bytes .ensures) (tells-stop _ (part-no (c .before .before .before .before .before .vars .ensures limit bs m e) (c .before .r .given .1))))
+    tells-as (sym (exists-some limit _ _ _ _ bs e (c .before .before .before .before .before .before .before .before .before .before .before .before .if1 .left)))
+    (tells-seq _ (c .before .before .before .before .before .before .before .before .before .bytes .ensures) (tells-stop _ (part-gone (c .before .before .before .before .before .vars .ensures limit bs m e) (c .before .r .given .1))))
 
 pub exists-front-spec : {M : Type 1} → statement M
 exists-front-spec =

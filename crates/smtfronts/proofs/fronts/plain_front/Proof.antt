@@ -1,6 +1,6 @@
 use mathlib.Core.Path.{refl}
 use Rattle.reading.specs.Answer.{unwritable}
-use Rattle.smtfronts.proofs.FrontsTells.{tells-to, tells-no}
+use Rattle.smtvars.proofs.Tells.{tells-to, tells-no}
 use Rattle.smtfronts.proofs.FrontsSteps.{node-as, numbered-as}
 use borrow.Author.Needs.{needs}
 use Rattle.smtfronts.proofs.fronts.plain_front.Statement.{statement}

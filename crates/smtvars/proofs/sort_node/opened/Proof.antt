@@ -1,6 +1,6 @@
 use mathlib.Core.Path.{refl, ap}
 use Rattle.smtvars.specs.SortNode.{openText}
-use Rattle.smtvars.proofs.Tells.{put, gone, put-told, gone-told, tells-as}
+use Rattle.smtvars.proofs.Tells.{gone, gone-told, tells-as, tells-to}
 use borrow.Author.Needs.{needs}
 use Rattle.smtvars.proofs.sort_node.opened.Statement.{statement}
 use Rattle.smtvars.proofs.sort_node.opened.Tie as tie
@@ -66,25 +66,25 @@ same-length : tie.Need-same-length
 same-length c = search needs
 
 returns : tie.Need-returns
-returns c = tells-as (ap (openText _) (c .before .before .before .before .before .enum-told .given .1)) (put-told (put (c .before .before .bytes .ensures)))
+returns c = tells-as (ap (openText _) (c .before .before .before .before .before .enum-told .given .1)) (tells-to (c .before .before .bytes .ensures))
 
 same-length-2 : tie.Need-same-length-2
 same-length-2 c = search needs
 
 returns-2 : tie.Need-returns-2
-returns-2 c = tells-as (ap (openText _) (c .before .before .before .before .before .enum-told2 .given .1)) (put-told (put (c .before .before .bytes2 .ensures)))
+returns-2 c = tells-as (ap (openText _) (c .before .before .before .before .before .enum-told2 .given .1)) (tells-to (c .before .before .bytes2 .ensures))
 
 same-length-3 : tie.Need-same-length-3
 same-length-3 c = search needs
 
 returns-3 : tie.Need-returns-3
-returns-3 c = tells-as (ap (openText _) (c .before .before .before .before .before .enum-told3 .given .1)) (put-told (put (c .before .before .bytes3 .ensures)))
+returns-3 c = tells-as (ap (openText _) (c .before .before .before .before .before .enum-told3 .given .1)) (tells-to (c .before .before .bytes3 .ensures))
 
 same-length-4 : tie.Need-same-length-4
 same-length-4 c = search needs
 
 returns-4 : tie.Need-returns-4
-returns-4 c = tells-as (ap (openText _) (c .before .before .before .before .before .enum-told4 .given .1)) (put-told (put (c .before .before .bytes4 .ensures)))
+returns-4 c = tells-as (ap (openText _) (c .before .before .before .before .before .enum-told4 .given .1)) (tells-to (c .before .before .bytes4 .ensures))
 
 same-length-5 : tie.Need-same-length-5
 same-length-5 c = search needs

@@ -3,7 +3,7 @@ use Prim.Native.Nat.{ℕ, _+_, _*_, _^_}
 use native.Mathlib.Omega.{arith}
 use lib.ListN.{getD}
 use Rattle.smtvars.proofs.Tells.{put, put-as, gone-as, gone-told, put-seq, gone-first, gone-behind, part-put, part-end, part-gone, part-told}
-use Rattle.smtvars.proofs.VarTexts.{var-text}
+use Rattle.smtvars.proofs.VarTexts.{var-pieces}
 use Rattle.smtvars.proofs.WordsRead.{binder-read}
 use borrow.Author.Needs.{needs}
 use Rattle.smtvars.proofs.vars.var.Statement.{statement}
@@ -58,7 +58,7 @@ returns-2 : tie.Need-returns-2
 returns-2 c limit b n e =
     let o = binder-read limit _ _ e in
     let s = c .before .before .before .before .before .before .before .before .before .sort .ensures limit (b .sort) n (o .sorted) in
-    part-told (part-end s (c .before .before .before .before .before .e .given .1)) (put-as (var-text _ b (c .before .before .before .before .before .before .before .before .before .before .before .before .before .before .before .before .before .before .before .before .before .before .before .two .ensures ∙ ap (λ (w : ℕ). getD (c .before .before .before .before .before .before .before .before .before .before .before .before .before .before .before .before .before .before .before .before .before .before .before .before .before .before .before .before .before .before .args .words .now) (c .before .before .before .before .before .before .before .before .before .before .before .before .before .before .before .before .before .before .before .before .before .before .before .before .before .before .before .before .before .before .args .at) 0 + w * 2 ^ 32) (c .before .before .before .before .before .before .before .before .before .before .before .before .before .before .before .before .before .before .before .before .before .before .before .before .word-at .ensures) ∙ o .number)) (put-seq (put (c .before .before .before .before .before .before .before .before .before .before .before .before .before .before .before .before .before .before .before .before .before .byte .ensures)) (put-seq (put (c .before .before .before .before .before .before .before .before .before .before .before .before .before .before .before .before .before .fresh .ensures)) (put-seq (put (c .before .before .before .before .before .before .before .before .before .before .before .before .before .byte2 .ensures)) (put-seq (part-put s (c .before .before .before .before .before .e .given .1)) (put (c .before .before .byte3 .ensures)))))))
+    part-told (part-end s (c .before .before .before .before .before .e .given .1)) (put-as (var-pieces _ b (c .before .before .before .before .before .before .before .before .before .before .before .before .before .before .before .before .before .before .before .before .before .before .before .two .ensures ∙ ap (λ (w : ℕ). getD (c .before .before .before .before .before .before .before .before .before .before .before .before .before .before .before .before .before .before .before .before .before .before .before .before .before .before .before .before .before .before .args .words .now) (c .before .before .before .before .before .before .before .before .before .before .before .before .before .before .before .before .before .before .before .before .before .before .before .before .before .before .before .before .before .before .args .at) 0 + w * 2 ^ 32) (c .before .before .before .before .before .before .before .before .before .before .before .before .before .before .before .before .before .before .before .before .before .before .before .before .word-at .ensures) ∙ o .number)) (put-seq (put (c .before .before .before .before .before .before .before .before .before .before .before .before .before .before .before .before .before .before .before .before .before .byte .ensures)) (put-seq (put (c .before .before .before .before .before .before .before .before .before .before .before .before .before .before .before .before .before .fresh .ensures)) (put-seq (put (c .before .before .before .before .before .before .before .before .before .before .before .before .before .byte2 .ensures)) (put-seq (part-put s (c .before .before .before .before .before .e .given .1)) (put (c .before .before .byte3 .ensures)))))))
 
 same-length-2 : tie.Need-same-length-2
 same-length-2 c = search needs
@@ -67,7 +67,7 @@ returns-3 : tie.Need-returns-3
 returns-3 c limit b n e =
     let o = binder-read limit _ _ e in
     let s = c .before .before .before .before .before .sort .ensures limit (b .sort) n (o .sorted) in
-    gone-told (gone-as (var-text _ b (c .before .before .before .before .before .before .before .before .before .before .before .before .before .before .before .before .before .before .before .two .ensures ∙ ap (λ (w : ℕ). getD (c .before .before .before .before .before .before .before .before .before .before .before .before .before .before .before .before .before .before .before .before .before .before .before .before .before .before .args .words .now) (c .before .before .before .before .before .before .before .before .before .before .before .before .before .before .before .before .before .before .before .before .before .before .before .before .before .before .args .at) 0 + w * 2 ^ 32) (c .before .before .before .before .before .before .before .before .before .before .before .before .before .before .before .before .before .before .before .before .word-at .ensures) ∙ o .number)) (gone-behind (put (c .before .before .before .before .before .before .before .before .before .before .before .before .before .before .before .before .before .byte .ensures)) (gone-behind (put (c .before .before .before .before .before .before .before .before .before .before .before .before .before .fresh .ensures)) (gone-behind (put (c .before .before .before .before .before .before .before .before .before .byte2 .ensures)) (gone-first _ (part-gone s (c .before .r .given .1)))))))
+    gone-told (gone-as (var-pieces _ b (c .before .before .before .before .before .before .before .before .before .before .before .before .before .before .before .before .before .before .before .two .ensures ∙ ap (λ (w : ℕ). getD (c .before .before .before .before .before .before .before .before .before .before .before .before .before .before .before .before .before .before .before .before .before .before .before .before .before .before .args .words .now) (c .before .before .before .before .before .before .before .before .before .before .before .before .before .before .before .before .before .before .before .before .before .before .before .before .before .before .args .at) 0 + w * 2 ^ 32) (c .before .before .before .before .before .before .before .before .before .before .before .before .before .before .before .before .before .before .before .before .word-at .ensures) ∙ o .number)) (gone-behind (put (c .before .before .before .before .before .before .before .before .before .before .before .before .before .before .before .before .before .byte .ensures)) (gone-behind (put (c .before .before .before .before .before .before .before .before .before .before .before .before .before .fresh .ensures)) (gone-behind (put (c .before .before .before .before .before .before .before .before .before .byte2 .ensures)) (gone-first _ (part-gone s (c .before .r .given .1)))))))
 
 pub var-spec : {M : Type 1} → statement M
 var-spec =

@@ -1,46 +1,20 @@
 -- The binders of an exists are read two words behind its place.
-use Prim.Native.Nat.{ℕ, zero, suc, _+_, _-_, _≤_, _<_}
-use mathlib.Core.Bool.{Bool, true, false}
+use Prim.Native.Nat.{ℕ, zero, suc, _+_, _-_, _<_}
 use mathlib.Core.Path.{_≡_, refl, sym, ap, _∙_}
 use mathlib.Core.List.{List, [], _∷_}
 use native.Mathlib.Omega.{arith}
 use lib.Dec.{eqb, ltb}
-use lib.ListN.{length, getD}
-use borrow.Author.Tests.{ltb-true}
-use Rattle.reading.specs.Pick.{pick}
+use lib.ListN.{length}
 use Rattle.reading.specs.Answer.{notWords}
 use Rattle.reading.proofs.Picks.{pick-holds}
 use Rattle.grammar.specs.Expr.{opAdd, opSub, opMul, opDiv, opMod, relEq, relNe, relGt, relGe, relLt, relLe, Binder, Kind, kNum, kBool, kStr, kBitVec, kFresh, kNamed, kNeg, kBin, kIf, kAnd, kOr, kNot, kImp, kIff, kAtom, kLet, kTheory, kIsCtor, kExists}
 use Rattle.grammar.specs.Shape.{opensScope}
-use Rattle.judge.specs.Judge.{Judged, reads, fails, Reader, goOn, _>>=_, ret, fail, word, wordBelow, among, orFail, choose, twoWords, fourWords, several, Plan, operandsOf, argumentsOf, plan, spanWithin, nameWithin, binderAt, bindersAt, kinds, header}
+use Rattle.judge.specs.Judge.{reads, Reader, _>>=_, ret, fail, word, wordBelow, among, orFail, choose, twoWords, fourWords, Plan, operandsOf, argumentsOf, plan, spanWithin, nameWithin, bindersAt, kinds, header}
 use Rattle.judge.specs.Node.{nodeOf}
 use Rattle.judge.specs.declared.kind.Node.the-variants as told
-use Rattle.judge.proofs.Spell.{post-reads, counted}
-use Rattle.judge.proofs.Taken.{never-reads, first-read, same-value, same-end}
-
--- A word that is read.
-module _ (ws : List ℕ) (at : ℕ) {w n : ℕ} (e : word ws at ≡ reads w n) where
-  word-next : n ≡ at + 1
-  unfolding word pick
-  word-next = go (ltb at (length ws)) e
-    where
-      go : (t : Bool) → pick t (reads (getD ws at 0) (at + 1)) (fails notWords) ≡ reads w n → n ≡ at + 1
-      go true f = sym (same-end f)
-      go false f = never-reads f
-
-  word-inside : at < length ws
-  unfolding word pick
-  word-inside = go (ltb at (length ws)) refl e
-    where
-      go : (t : Bool) → ltb at (length ws) ≡ t → pick t (reads (getD ws at 0) (at + 1)) (fails notWords) ≡ reads w n → at < length ws
-      go true h f = ltb-true at (length ws) h
-      go false h f = never-reads f
-
--- How many binders are read.
-pub binders-count : (limit : ℕ) (ws : List ℕ) (at n : ℕ) {bs : List Binder} {b : ℕ} → bindersAt limit n ws at ≡ reads bs b → length bs ≡ n
-unfolding bindersAt
-binders-count limit ws at n e =
-    post-reads (several (binderAt limit) [] (λ (x : Binder) xs. x ∷ xs) n ws at) (λ bs m. length bs ≡ n) (counted ws (binderAt limit) [] (λ x xs. x ∷ xs) length refl (λ x xs. refl) n at) e
+use Rattle.judge.proofs.SpellKind.{binders-count}
+use Rattle.judge.proofs.NodeAt.{plansOf}
+use Rattle.judge.proofs.Taken.{never-reads, first-read, word-read}
 
 module _ (limit : ℕ) (ws : List ℕ) where
   -- Where an exists is read, its binders are read one word behind.
@@ -81,10 +55,6 @@ module _ (limit : ℕ) (ws : List ℕ) where
       absurd (omega (arith, z))
 
   -- One of several kinds, by a word.
-  abbrev plansOf : ℕ → List Kind → List (Reader Plan)
-  plansOf m [] = []
-  plansOf m (k ∷ ks) = plan k m ∷ plansOf m ks
-
   abbrev AllPlain : List Kind → Type 0
   AllPlain [] = Unit {0}
   AllPlain (k ∷ ks) = (opensScope k ≡ 0) × AllPlain ks
@@ -115,7 +85,7 @@ module _ (limit : ℕ) (ws : List ℕ) where
       first-read (bindersAt limit m ws i) _ ws y λ cs j u v.
       let z : cs ≡ bs = cc in
       let c : length bs ≡ m = ap length (sym z) ∙ binders-count limit ws i m u in
-      (j, rw (c, ← word-next ws at x, ← z) u)
+      (j, rw (c, ← word-read ws at x .1, ← z) u)
 
   -- All the kinds.
   kinds-find : FindsAll (kinds limit)
@@ -127,13 +97,13 @@ module _ (limit : ℕ) (ws : List ℕ) where
   exists-binders at {bs} {n} {a} e =
       first-read (word ws at) _ ws e λ k i x y.
       let f = pick-holds (ltb k 32) (fail notWords) (orFail (among (kinds limit) (k - 32))) Finds (λ at n b bs e. never-reads e) (finds-among (kinds limit) kinds-find (k - 32)) i n a bs y in
-      let z : i + 1 ≡ at + 2 = omega (arith, word-next ws at x) in
+      let z : i + 1 ≡ at + 2 = omega (arith, word-read ws at x .1) in
       (f .0, rw z at (f .1))
 
   -- A header is read inside the words.
   pub header-inside : (at : ℕ) {p : Plan} {a : ℕ} → header limit ws at ≡ reads p a → at < length ws
   unfolding header
-  header-inside at e = first-read (word ws at) _ ws e λ k i x y. word-inside ws at x
+  header-inside at e = first-read (word ws at) _ ws e λ k i x y. word-read ws at x .2
 
 -- Only an exists is told as one.
 pub exists-told : (k : Kind) {m : ℕ} → told.Exists m ≡ nodeOf k → (bs : List Binder) × (k ≡ kExists bs) × (m ≡ length bs)
