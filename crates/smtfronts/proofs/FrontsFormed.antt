@@ -1,21 +1,19 @@
 -- A kind with the operands that it takes becomes a term, if its fields can be written.
-use Prim.Native.Nat.{ℕ, zero, suc, _<_}
-use mathlib.Core.Bool.{Bool, true, false}
-use mathlib.Core.Path.{_≡_, refl, sym, ap, _∙_}
-use mathlib.Core.List.{List, [], _∷_, _++_}
+use Prim.Native.Nat.{ℕ, suc, _<_}
+use mathlib.Core.Bool.{true, false}
+use mathlib.Core.Path.{_≡_, refl}
+use mathlib.Core.List.{List}
 use native.Mathlib.Omega.{arith}
-use lib.Dec.{eqb}
 use borrow.Author.Tests.{eq-eqb}
 use Rattle.reading.specs.Pick.{pick}
-use Rattle.reading.specs.Bytes.{ascii}
 use Rattle.reading.specs.Number.{valueOf}
-use Rattle.reading.specs.Answer.{Ans, got, bad, andThen, unwritable}
+use Rattle.reading.specs.Answer.{Ans, got, bad, unwritable}
 use Rattle.reading.proofs.Picks.{pick-holds}
 use Rattle.grammar.specs.Expr.{Kind, kNum, kBool, kStr, kBitVec, kFresh, kNamed, kNeg, kBin, kIf, kAnd, kOr, kNot, kImp, kIff, kAtom, kLet, kTheory, kIsCtor, kExists}
 use Rattle.grammar.specs.Shape.{HasOperands}
 use Rattle.grammar.proofs.Post.{Every, any-every}
-use Rattle.smt.specs.Term.{bySymbol, Ident, Var, Term, Terms, tstr, tid, tapp, tlet, bnil, tnil, tcons, terms, plainIdent}
-use Rattle.smt.specs.Writer.{bitsIdent, fitsWidth, Form, alone, operator, folded, letting, some, applying, folding, quantified, formed, bytesOf, symbolOf, varsOf, fieldsOf}
+use Rattle.smt.specs.Term.{Ident, Var, Term, Terms, tid, tapp, tlet, bnil, tnil, tcons, terms}
+use Rattle.smt.specs.Writer.{bitsIdent, fitsWidth, Form, alone, operator, folded, letting, some, folding, quantified, formed, bytesOf, symbolOf, varsOf, fieldsOf}
 
 -- So many operands are right for a form.
 abbrev Takes : ℕ → Form → Type 0

@@ -1,9 +1,7 @@
 -- Bit-vector functions by their numbers.
 use Prim.Native.Nat.{ℕ, _≤_, _<_, _-_}
-use mathlib.Core.Path.{_≡_, refl, ap, _∙_}
+use mathlib.Core.Path.{_≡_, refl}
 use mathlib.Core.List.{List}
-use native.Mathlib.Omega.{arith}
-use Rattle.reading.specs.Answer.{got}
 use Rattle.writing.specs.Wrote.{WroteBytes}
 use Rattle.writing.proofs.Wrote.{either}
 use Rattle.smt.specs.Vocabulary.{bitVectors}

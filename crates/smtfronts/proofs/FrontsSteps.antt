@@ -1,12 +1,12 @@
 -- What the functions that write a front do, step by step.
-use Prim.Native.Nat.{ℕ, zero, suc, _+_, _-_, _≤_}
+use Prim.Native.Nat.{ℕ, _+_, _-_, _≤_}
 use mathlib.Core.Bool.{Bool, true, false, not}
 use mathlib.Core.Path.{_≡_, refl, sym, ap, subst, _∙_}
 use mathlib.Core.List.{List, [], _∷_, _++_}
 use native.Mathlib.Omega.{arith}
 use lib.ListN.{length}
 use borrow.Author.Tests.{not-true, not-false}
-use Rattle.reading.specs.Bytes.{ascii, Named}
+use Rattle.reading.specs.Bytes.{ascii}
 use Rattle.reading.specs.Number.{Wide, valueOf}
 use Rattle.reading.specs.Answer.{got, bad, unwritable}
 use Rattle.reading.proofs.Picks.{pick-yes, pick-no}
@@ -18,38 +18,13 @@ use Rattle.judge.specs.declared.kind.Node.the-variants as told
 use Rattle.judge.proofs.SpellKind.{binders-count}
 use Rattle.judge.proofs.ExistsAt.{exists-binders, header-inside, exists-told}
 use Rattle.writing.specs.Digits.{decimal}
-use Rattle.writing.specs.Wrote.{WroteBytes}
-use Rattle.writing.proofs.Wrote.{wrote-as}
-use Rattle.smt.specs.Writer.{spelledAt, fitsWidth}
+use Rattle.smt.specs.Writer.{fitsWidth}
 use Rattle.smtvars.specs.declared.answers.Written.{Written}
 use Rattle.smtvars.specs.Pieces.{joined, varsText}
-use Rattle.smtfronts.specs.Fronts.{operatorText, foldedText, bitsText, existsText, frontText, nodeText, Numbered}
+use Rattle.smtfronts.specs.Fronts.{bitsText, existsText, frontText, nodeText, Numbered}
 use Rattle.smtvars.specs.Written.{TellsPiece}
 use Rattle.smtfronts.proofs.FrontsNode.{node-numbered, node-front, exists-front}
 use Rattle.smtvars.proofs.Tells.{tells-as}
-
--- The name in a row of a table, by the row's number.
-pub spelled-as : {A : Type 0} (rows : List (Named A)) (j : ℕ) {k : ℕ} {l l′ : List ℕ} {place p : ℕ} → k ≡ j → WroteBytes l place (operatorText (spelledAt rows j)) l′ p → WroteBytes l place (operatorText (spelledAt rows k)) l′ p
-spelled-as rows j e w = wrote-as (ap (λ (k : ℕ). operatorText (spelledAt rows k)) (sym e)) refl w
-
--- And and Or.
-module _ (unit name : List ℕ) where
-  pub folded-none : (n : ℕ) → n ≡ 0 → unit ≡ foldedText unit name n
-  unfolding foldedText
-  folded-none zero e = refl
-  folded-none (suc n) e = absurd (omega (arith, e))
-
-  pub folded-one : (n : ℕ) → n ≡ 1 → [] ≡ foldedText unit name n
-  unfolding foldedText
-  folded-one zero e = absurd (omega (arith, e))
-  folded-one (suc zero) e = refl
-  folded-one (suc (suc n)) e = absurd (omega (arith, e))
-
-  pub folded-more : (n : ℕ) → (n ≡ 0 → ⊥) → (n ≡ 1 → ⊥) → operatorText name ≡ foldedText unit name n
-  unfolding foldedText
-  folded-more zero h k = absurd (h refl)
-  folded-more (suc zero) h k = absurd (k refl)
-  folded-more (suc (suc n)) h k = refl
 
 -- A value that is none of its width, and one that is.
 module _ (v : Wide) (width : ℕ) {t : Bool} (e : t ≡ fitsWidth v width) where

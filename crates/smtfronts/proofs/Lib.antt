@@ -4,6 +4,5 @@ pub mod FrontsSymbols
 pub mod FrontsNode
 pub mod FrontsSeams
 pub mod FrontsRest
-pub mod FrontsWidth
 pub mod FrontsFunctions
 pub mod FrontsSteps

@@ -2,7 +2,7 @@
 use Prim.Native.Nat.{ℕ, zero, suc, _<_}
 use mathlib.Core.Bool.{Bool, true, false}
 use mathlib.Core.List.{List, [], _∷_, _++_}
-use lib.Dec.{eqb, ltb, leb}
+use lib.Dec.{leb}
 use Rattle.reading.specs.Pick.{pick}
 use Rattle.reading.specs.Bytes.{ascii, Named}
 use Rattle.reading.specs.Number.{Wide, valueOf}
@@ -12,14 +12,11 @@ use Rattle.judge.specs.declared.kind.Node.{Node}
 use Rattle.judge.specs.declared.kind.Node.the-variants as told
 use Rattle.writing.specs.Digits.{decimal}
 use Rattle.smt.specs.Sexp.{symbolText, list, print}
-use Rattle.smt.specs.Term.{Ident, identSx, varSxs, termSx}
+use Rattle.smt.specs.Term.{identSx, varSxs, termSx}
 use Rattle.smt.specs.Vocabulary.{operators, relations}
 use Rattle.smt.specs.Writer.{spelledAt, fitsWidth, functionOf, Form, alone, operator, folded, letting, some, fieldsOf}
+use Rattle.smtmarks.specs.Marks.{operatorText, foldedText, boolText}
 use Rattle.smtvars.specs.Pieces.{joined, identText, nameText, freshText, stringText, varsText}
-
--- An operator behind a parenthesis, and a space.
-abbrev pub operatorText : List ℕ → List ℕ
-operatorText name = 40 ∷ name ++ (32 ∷ [])
 
 -- In front of so many operands.
 unfoldable pub frontOf : Form → ℕ → List ℕ
@@ -32,16 +29,7 @@ frontOf (letting x) n = ascii "(let ((" ++ (symbolText x ++ (32 ∷ []))
 frontOf (some []) n = []
 frontOf (some (v ∷ vs)) n = ascii "(exists " ++ (print (list (varSxs (v ∷ vs))) ++ (32 ∷ []))
 
--- Between two operands.
-abbrev pub seamOf : Bool → List ℕ
-seamOf true = ascii ")) "
-seamOf false = ascii " "
-
--- Before an operand: nothing before the first one.
-abbrev pub gapOf : Bool → Bool → List ℕ
-gapOf true inLet = []
-gapOf false inLet = seamOf inLet
-
+-- Between two operands there are other bytes in a let.
 unfoldable pub formLets : Form → Bool
 formLets (alone t) = false
 formLets (operator i k) = false
@@ -58,26 +46,13 @@ formCloses (letting x) n = true
 formCloses (some []) n = false
 formCloses (some (v ∷ vs)) n = true
 
-abbrev pub closeText : Bool → List ℕ
-closeText true = 41 ∷ []
-closeText false = []
-
 -- In front of the operands of a kind.
 unfoldable pub frontText : List ℕ → Kind → ℕ → Ans (List ℕ)
 frontText text k n = andThen (fieldsOf text k) λ f. got (frontOf f n)
 
 -- The same by what the code is told of a kind; the binders of an exists are not told.
-unfoldable pub foldedText : List ℕ → List ℕ → ℕ → List ℕ
-foldedText unit name zero = unit
-foldedText unit name (suc zero) = []
-foldedText unit name (suc (suc n)) = operatorText name
-
 unfoldable pub bitsText : Wide → ℕ → Ans (List ℕ)
 bitsText v width = pick (fitsWidth v width) (got (ascii "(_ bv" ++ (decimal (valueOf v) ++ (32 ∷ decimal width ++ (41 ∷ []))))) (bad unwritable)
-
-abbrev pub boolText : Bool → List ℕ
-boolText true = ascii "true"
-boolText false = ascii "false"
 
 abbrev pub nodeText : List ℕ → Node → ℕ → Ans (List ℕ)
 nodeText text (told.Num a b c d) n = got (decimal (valueOf (record { a = a; b = b; c = c; d = d })))
@@ -128,51 +103,6 @@ Numbered told.Other = Unit {0}
 unfoldable pub existsText : List ℕ → List Binder → Ans (List ℕ)
 existsText text [] = got []
 existsText text (b ∷ bs) = joined (got (ascii "(exists ")) (joined (varsText text (b ∷ bs)) (got (ascii " ")))
-
--- Between two operands there are other bytes in a let.
-abbrev pub nodeLets : Node → Bool
-nodeLets (told.Num a b c d) = false
-nodeLets (told.Bool b) = false
-nodeLets (told.Str start len) = false
-nodeLets (told.BitVec a b c d width) = false
-nodeLets (told.Fresh k) = false
-nodeLets (told.Named start len) = false
-nodeLets told.Neg = false
-nodeLets (told.Bin op) = false
-nodeLets told.If = false
-nodeLets told.And = false
-nodeLets told.Or = false
-nodeLets told.Not = false
-nodeLets told.Imp = false
-nodeLets told.Iff = false
-nodeLets (told.Atom r) = false
-nodeLets (told.Let start len) = true
-nodeLets (told.Theory k) = false
-nodeLets (told.IsCtor start len) = false
-nodeLets (told.Exists m) = false
-nodeLets told.Other = false
-
-abbrev pub nodeCloses : Node → ℕ → Bool
-nodeCloses (told.Num a b c d) n = false
-nodeCloses (told.Bool b) n = false
-nodeCloses (told.Str start len) n = false
-nodeCloses (told.BitVec a b c d width) n = false
-nodeCloses (told.Fresh k) n = false
-nodeCloses (told.Named start len) n = false
-nodeCloses told.Neg n = true
-nodeCloses (told.Bin op) n = true
-nodeCloses told.If n = true
-nodeCloses told.And n = leb 2 n
-nodeCloses told.Or n = leb 2 n
-nodeCloses told.Not n = true
-nodeCloses told.Imp n = true
-nodeCloses told.Iff n = true
-nodeCloses (told.Atom r) n = true
-nodeCloses (told.Let start len) n = true
-nodeCloses (told.Theory k) n = false
-nodeCloses (told.IsCtor start len) n = true
-nodeCloses (told.Exists m) n = ltb 0 m
-nodeCloses told.Other n = false
 
 -- The head of an application with arguments, behind a parenthesis and before a space.
 unfoldable pub functionText : ℕ → Ans (List ℕ)

@@ -1,18 +1,20 @@
-// What stands in front of the operands of an expression, between them and behind them.
+// What stands in front of the operands of an expression.
 ghost use mathlib.Core.Path.{_≡_};
-ghost use mathlib.Core.List.{List, [], _∷_};
-ghost use Prim.Native.Nat.{ℕ, _<_, _^_};
+ghost use mathlib.Core.List.{List};
+ghost use Prim.Native.Nat.{ℕ};
 ghost use Rattle.grammar.specs.Expr.{Binder, Kind};
 ghost use Rattle.judge.specs.Judge.{reads, operandsOf, bindersAt, header};
 ghost use Rattle.judge.specs.Node.{nodeOf};
 ghost use Rattle.judge.specs.declared.kind.Node.the-variants as told;
-ghost use Rattle.writing.specs.Wrote.{WroteBytes};
 ghost use Rattle.writing.specs.Quads.{asWide};
-ghost use Rattle.smt.specs.Vocabulary.{operators, relations};
-ghost use Rattle.smt.specs.Writer.{spelledAt, fitsWidth};
-ghost use Rattle.smtfronts.specs.Fronts.{operatorText, seamOf, closeText, frontText, foldedText, bitsText, boolText, existsText, Numbered, nodeText, nodeLets, nodeCloses};
+ghost use Rattle.smtfronts.specs.Fronts.{frontText, bitsText, existsText, Numbered, nodeText};
 ghost use Rattle.smtvars.specs.Written.{TellsPiece};
 use judge::kind::Node;
+use smtmarks::operators::boolean;
+use smtmarks::operators::folded;
+use smtmarks::operators::operator;
+use smtmarks::operators::relation;
+use smtmarks::width::fits;
 use smtvars::answers::Walked;
 use smtvars::answers::Written;
 use smtvars::names::fresh;
@@ -24,48 +26,6 @@ use writing::byte;
 use writing::bytes;
 use writing::decimal;
 use writing::decimal_word;
-
-// An operator by its number, behind a parenthesis.
-fn operator(op: u32, out: &mut [u8], place: usize) -> usize
-    ensures { λ r. ⌜ (op < 5 → WroteBytes (now (out .entry)) place (operatorText (spelledAt operators op)) (now (out .exit)) r) ⌝ }
-{
-    match op {
-        0 => bytes(b"(+ ", out, place),
-        1 => bytes(b"(- ", out, place),
-        2 => bytes(b"(* ", out, place),
-        3 => bytes(b"(div ", out, place),
-        _ => bytes(b"(mod ", out, place),
-    }
-}
-
-// A relation by its number, behind a parenthesis.
-fn relation(r: u32, out: &mut [u8], place: usize) -> usize
-    ensures { λ q. ⌜ (r < 6 → WroteBytes (now (out .entry)) place (operatorText (spelledAt relations r)) (now (out .exit)) q) ⌝ }
-{
-    match r {
-        0 => bytes(b"(= ", out, place),
-        1 => bytes(b"(distinct ", out, place),
-        2 => bytes(b"(> ", out, place),
-        3 => bytes(b"(>= ", out, place),
-        4 => bytes(b"(< ", out, place),
-        _ => bytes(b"(<= ", out, place),
-    }
-}
-
-// And and Or: what stands for no operand, nothing for one, and the operator for more.
-fn folded(unit: &[u8], name: &[u8], n: u32, out: &mut [u8], place: usize) -> usize
-    ensures { λ r. ⌜ WroteBytes (now (out .entry)) place (foldedText (now (unit .entry)) (now (name .entry)) n) (now (out .exit)) r ⌝ }
-{
-    if n == 0 {
-        return bytes(unit, out, place);
-    }
-    if n == 1 {
-        return place;
-    }
-    let a = byte(out, place, 40);
-    let b = bytes(name, out, a);
-    byte(out, b, 32)
-}
 
 // A let of a name, up to its value.
 fn let_front(text: &[u8], start: u32, len: u32, out: &mut [u8], place: usize) -> Written
@@ -89,51 +49,6 @@ fn test_front(text: &[u8], start: u32, len: u32, out: &mut [u8], place: usize) -
     }
 }
 
-// A power of two, below 2^32.
-fn power(e: u32) -> u32
-    requires { ⌜ e < 32 ⌝ }
-    ensures { λ r. ⌜ r ≡ 2 ^ e ⌝ }
-{
-    let mut p: u32 = 1;
-    let mut i = e;
-    while 0 < i {
-        p *= 2;
-        i -= 1;
-    }
-    p
-}
-
-// A number is a value of a width.
-fn fits(q: Quad, width: u32) -> bool
-    ensures { λ r. ⌜ r ≡ fitsWidth (asWide q) width ⌝ }
-{
-    if width == 0 {
-        return false;
-    }
-    if 128 <= width {
-        return true;
-    }
-    if 96 <= width {
-        return q.d < power(width - 96);
-    }
-    if q.d != 0 {
-        return false;
-    }
-    if 64 <= width {
-        return q.c < power(width - 64);
-    }
-    if q.c != 0 {
-        return false;
-    }
-    if 32 <= width {
-        return q.b < power(width - 32);
-    }
-    if q.b != 0 {
-        return false;
-    }
-    q.a < power(width)
-}
-
 // A value of a width.
 fn bits(q: Quad, width: u32, out: &mut [u8], place: usize) -> Written
     ensures { λ r. ⌜ TellsPiece (bitsText (asWide q) width) (now (out .entry)) place (now (out .exit)) r ⌝ }
@@ -146,16 +61,6 @@ fn bits(q: Quad, width: u32, out: &mut [u8], place: usize) -> Written
     let c = byte(out, b, 32);
     let d = decimal_word(width, out, c);
     Written::To(byte(out, d, 41))
-}
-
-// True or false.
-fn boolean(b: bool, out: &mut [u8], place: usize) -> usize
-    ensures { λ r. ⌜ WroteBytes (now (out .entry)) place (boolText b) (now (out .exit)) r ⌝ }
-{
-    if b {
-        return bytes(b"true", out, place);
-    }
-    bytes(b"false", out, place)
 }
 
 // In front of so many operands, of every kind but an exists.
@@ -244,54 +149,4 @@ pub fn front(
         }
         _ => plain_front(node, n, text, out, place),
     }
-}
-
-// A let's value and body stand apart otherwise than other operands.
-pub fn lets(node: Node) -> bool
-    ensures { λ r. ⌜ r ≡ nodeLets node ⌝ }
-{
-    match node {
-        Node::Let(_, _) => true,
-        _ => false,
-    }
-}
-
-// A parenthesis stands behind the operands.
-pub fn closes(node: Node, n: u32) -> bool
-    ensures { λ r. ⌜ r ≡ nodeCloses node n ⌝ }
-{
-    match node {
-        Node::Num(_, _, _, _) => false,
-        Node::Bool(_) => false,
-        Node::Str(_, _) => false,
-        Node::BitVec(_, _, _, _, _) => false,
-        Node::Fresh(_) => false,
-        Node::Named(_, _) => false,
-        Node::And => 2 <= n,
-        Node::Or => 2 <= n,
-        Node::Theory(_) => false,
-        Node::Exists(m) => 0 < m,
-        Node::Other => false,
-        _ => true,
-    }
-}
-
-// Between two operands.
-pub fn seam(in_let: bool, out: &mut [u8], place: usize) -> usize
-    ensures { λ r. ⌜ WroteBytes (now (out .entry)) place (seamOf in_let) (now (out .exit)) r ⌝ }
-{
-    if in_let {
-        return bytes(b")) ", out, place);
-    }
-    byte(out, place, 32)
-}
-
-// Behind the operands.
-pub fn close(closed: bool, out: &mut [u8], place: usize) -> usize
-    ensures { λ r. ⌜ WroteBytes (now (out .entry)) place (closeText closed) (now (out .exit)) r ⌝ }
-{
-    if closed {
-        return byte(out, place, 41);
-    }
-    place
 }

@@ -32,7 +32,8 @@ use Rattle.smt.specs.Writer.{Form, fieldsOf, headKind, headOf, termOf}
 use Rattle.smt.proofs.Judged.{Formed, Fits, FormedAt, header-fits, expr-formed}
 use Rattle.smtvars.specs.Pieces.{joined, identText}
 use Rattle.smtlib.specs.Terms.{termText, seamed}
-use Rattle.smtfronts.specs.Fronts.{frontOf, frontText, formLets, formCloses, seamOf, gapOf, closeText, nodeLets, nodeCloses, calleeText}
+use Rattle.smtmarks.specs.Marks.{seamOf, gapOf, closeText, nodeLets, nodeCloses}
+use Rattle.smtfronts.specs.Fronts.{frontOf, frontText, formLets, formCloses, calleeText}
 use Rattle.smtvars.specs.Written.{Tells, tells, keeps, TellsPiece, TellsPart}
 use Rattle.smtvars.specs.declared.answers.Written.{Written}
 use Rattle.smtvars.specs.declared.answers.Written.the-variants as written
