@@ -8,19 +8,19 @@ use Rattle.smtmarks.proofs.operands.close.Reads as reads
 use Rattle.smtmarks.proofs.operands.close.Lts as lts
 use Rattle.writing.proofs.byte.Reads as byte-reads
 
--- src/fronts.rt:279:9
+-- src/operands.rt:54:9
 byte-requires : tie.Need-byte-requires
 byte-requires c κs = search needs
 
--- src/fronts.rt:279:9
+-- src/operands.rt:54:9
 same-length : tie.Need-same-length
 same-length c = search needs
 
--- src/fronts.rt:279:9
+-- src/operands.rt:54:9
 returns : tie.Need-returns
 returns c = wrote-as (sym (ap closeText (c .before .before .before .before .if1 .taken))) refl (c .before .before .byte .ensures)
 
--- src/fronts.rt:275:1
+-- src/operands.rt:50:1
 returns-2 : tie.Need-returns-2
 returns-2 c = wrote-as (sym (ap closeText (c .if1 .left))) refl (wrote-none _ _)
 

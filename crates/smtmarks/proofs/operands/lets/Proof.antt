@@ -7,15 +7,15 @@ use Rattle.smtmarks.proofs.operands.lets.Tie as tie
 use Rattle.smtmarks.proofs.operands.lets.Reads as reads
 use Rattle.smtmarks.proofs.operands.lets.Lts as lts
 
--- src/fronts.rt:239:28
+-- src/operands.rt:14:28
 enum-told : tie.Need-enum-told
 enum-told c = search needs
 
--- src/fronts.rt:235:1
+-- src/operands.rt:10:1
 returns : tie.Need-returns
 returns c = sym (ap nodeLets (c .enum-told .given .1))
 
--- src/fronts.rt:235:1
+-- src/operands.rt:10:1
 returns-2 : tie.Need-returns-2
 returns-2 c = rest-lets (c .before .args .node) (c .match .keys2)
 

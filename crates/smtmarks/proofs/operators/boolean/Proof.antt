@@ -8,35 +8,35 @@ use Rattle.smtmarks.proofs.operators.boolean.Reads as reads
 use Rattle.smtmarks.proofs.operators.boolean.Lts as lts
 use Rattle.writing.proofs.bytes.Reads as bytes-reads
 
--- src/fronts.rt:156:22
+-- src/operators.rt:57:22
 slice-aggregate-bytes : tie.Need-slice-aggregate-bytes
 slice-aggregate-bytes c = search needs
 
--- src/fronts.rt:156:9
+-- src/operators.rt:57:9
 bytes-requires : tie.Need-bytes-requires
 bytes-requires c κs = search needs
 
--- src/fronts.rt:156:9
+-- src/operators.rt:57:9
 same-length : tie.Need-same-length
 same-length c = search needs
 
--- src/fronts.rt:156:9
+-- src/operators.rt:57:9
 returns : tie.Need-returns
 returns c = wrote-as (sym (ap boolText (c .before .before .before .before .before .if1 .taken))) refl (c .before .before .bytes .ensures)
 
--- src/fronts.rt:158:11
+-- src/operators.rt:59:11
 slice-aggregate-bytes-2 : tie.Need-slice-aggregate-bytes-2
 slice-aggregate-bytes-2 c = search needs
 
--- src/fronts.rt:158:5
+-- src/operators.rt:59:5
 bytes-requires-2 : tie.Need-bytes-requires-2
 bytes-requires-2 c κs = search needs
 
--- src/fronts.rt:152:1
+-- src/operators.rt:53:1
 same-length-2 : tie.Need-same-length-2
 same-length-2 c = search needs
 
--- src/fronts.rt:152:1
+-- src/operators.rt:53:1
 returns-2 : tie.Need-returns-2
 returns-2 c = wrote-as (sym (ap boolText (c .before .before .before .before .before .if1 .left))) refl (c .before .before .bytes2 .ensures)
 

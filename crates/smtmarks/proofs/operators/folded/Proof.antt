@@ -9,39 +9,39 @@ use Rattle.smtmarks.proofs.operators.folded.Lts as lts
 use Rattle.writing.proofs.byte.Reads as byte-reads
 use Rattle.writing.proofs.bytes.Reads as bytes-reads
 
--- src/fronts.rt:60:9
+-- src/operators.rt:42:9
 bytes-requires : tie.Need-bytes-requires
 bytes-requires c κs = search needs
 
--- src/fronts.rt:60:9
+-- src/operators.rt:42:9
 same-length : tie.Need-same-length
 same-length c = search needs
 
--- src/fronts.rt:60:9
+-- src/operators.rt:42:9
 returns : tie.Need-returns
 returns c = wrote-as (folded-none _ _ _ (c .before .before .before .before .if1 .taken)) refl (c .before .before .bytes .ensures)
 
--- src/fronts.rt:63:9
+-- src/operators.rt:45:9
 returns-2 : tie.Need-returns-2
 returns-2 c = wrote-as (folded-one _ _ _ (c .if2 .taken)) refl (wrote-none _ _)
 
--- src/fronts.rt:65:9
+-- src/operators.rt:47:9
 byte-requires : tie.Need-byte-requires
 byte-requires c κs = search needs
 
--- src/fronts.rt:66:9
+-- src/operators.rt:48:9
 bytes-requires-2 : tie.Need-bytes-requires-2
 bytes-requires-2 c κs = search needs
 
--- src/fronts.rt:67:5
+-- src/operators.rt:49:5
 byte-requires-2 : tie.Need-byte-requires-2
 byte-requires-2 c κs = search needs
 
--- src/fronts.rt:56:1
+-- src/operators.rt:38:1
 same-length-2 : tie.Need-same-length-2
 same-length-2 c = search needs
 
--- src/fronts.rt:56:1
+-- src/operators.rt:38:1
 returns-3 : tie.Need-returns-3
 returns-3 c = wrote-as (folded-more _ _ _ (c .before .before .before .before .before .before .before .before .before .before .before .before .before .if1 .left) (c .before .before .before .before .before .before .before .before .before .before .before .before .if2 .left)) refl (wrote-seq _ _ (c .before .before .before .before .before .before .before .before .before .before .byte .ensures) (wrote-seq _ _ (c .before .before .before .before .before .before .bytes2 .ensures) (c .before .before .byte2 .ensures)))
 

@@ -12,27 +12,27 @@ Inv-loop e p₀ i₀ p i = Doubled e p i
 abbrev μ-loop : tie.MeasureT-loop
 μ-loop e p₀ i₀ p i = i
 
--- src/fronts.rt:99:5
+-- src/width.rt:15:5
 loop-holds : tie.Need-loop-holds Inv-loop μ-loop
 loop-holds c = double-none _
 
--- src/fronts.rt:100:9
+-- src/width.rt:16:9
 mul-p : tie.Need-mul-p Inv-loop μ-loop
 mul-p c = omega (arith, double-fits (c .before .loop .inv) (c .loop-test .taken) (c .before .before .pre))
 
--- src/fronts.rt:101:9
+-- src/width.rt:17:9
 sub-i : tie.Need-sub-i Inv-loop μ-loop
 sub-i c = search needs
 
--- src/fronts.rt:99:5
+-- src/width.rt:15:5
 loop-less : tie.Need-loop-less Inv-loop μ-loop
 loop-less c = search needs
 
--- src/fronts.rt:99:5
+-- src/width.rt:15:5
 loop-again : tie.Need-loop-again Inv-loop μ-loop
 loop-again c = double-next (c .before .loop .inv) (c .loop-test .taken)
 
--- src/fronts.rt:93:1
+-- src/width.rt:9:1
 returns : tie.Need-returns Inv-loop μ-loop
 returns c = double-all (c .before .loop .inv) (c .loop-test .left)
 
