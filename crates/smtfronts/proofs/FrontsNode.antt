@@ -18,8 +18,8 @@ use Rattle.smt.specs.Term.{bySymbol, plainIdent, SmtSort, Var, tstr, tid, ident
 use Rattle.smt.specs.Vocabulary.{operators, relations}
 use Rattle.smt.specs.Writer.{spelledAt, bitsIdent, fitsWidth, freshSymbol, Form, alone, operator, folded, letting, some, bytesOf, symbolOf, varsOf, fieldsOf, sortOf}
 use Rattle.smt.proofs.Text.{barred-text, fresh-text, operator-text, relation-text, bits-text, test-text}
-use Rattle.smtvars.specs.Pieces.{joined, nameText, freshText, stringText, varsText}
-use Rattle.smtmarks.specs.Marks.{operatorText, foldedText}
+use Rattle.smtpieces.specs.Pieces.{joined, nameText, freshText, stringText, varsText}
+use Rattle.smtpieces.specs.Marks.{operatorText, foldedText}
 use Rattle.smtfronts.specs.Fronts.{frontOf, frontText, bitsText, nodeText, Numbered, existsText}
 use Rattle.smtfronts.proofs.FrontsSymbols.{own-bare}
 

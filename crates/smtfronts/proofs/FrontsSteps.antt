@@ -19,12 +19,12 @@ use Rattle.judge.proofs.SpellKind.{binders-count}
 use Rattle.judge.proofs.ExistsAt.{exists-binders, header-inside, exists-told}
 use Rattle.writing.specs.Digits.{decimal}
 use Rattle.smt.specs.Writer.{fitsWidth}
-use Rattle.smtvars.specs.declared.answers.Written.{Written}
-use Rattle.smtvars.specs.Pieces.{joined, varsText}
+use Rattle.smtpieces.specs.declared.answers.Written.{Written}
+use Rattle.smtpieces.specs.Pieces.{joined, varsText}
 use Rattle.smtfronts.specs.Fronts.{bitsText, existsText, frontText, nodeText, Numbered}
-use Rattle.smtvars.specs.Written.{TellsPiece}
+use Rattle.smtpieces.specs.Written.{TellsPiece}
 use Rattle.smtfronts.proofs.FrontsNode.{node-numbered, node-front, exists-front}
-use Rattle.smtvars.proofs.Tells.{tells-as}
+use Rattle.smtpieces.proofs.Tells.{tells-as}
 
 -- A value that is none of its width, and one that is.
 module _ (v : Wide) (width : ℕ) {t : Bool} (e : t ≡ fitsWidth v width) where

@@ -3,13 +3,13 @@ ghost use mathlib.Core.Path.{_≡_};
 ghost use mathlib.Core.List.{[], _∷_};
 ghost use Prim.Native.Nat.{ℕ, _≤_, _<_};
 ghost use Rattle.reading.specs.Answer.{got};
-ghost use Rattle.smtvars.specs.Pieces.{joined};
+ghost use Rattle.smtpieces.specs.Pieces.{joined};
 ghost use Rattle.smtfronts.specs.Fronts.{functionText, calleeText};
-ghost use Rattle.smtvars.specs.Written.{TellsPiece};
+ghost use Rattle.smtpieces.specs.Written.{TellsPiece};
 use judge::kind::Node;
-use smtvars::answers::Written;
-use smtvars::names::fresh;
-use smtvars::names::name;
+use smtpieces::answers::Written;
+use smtpieces::names::fresh;
+use smtpieces::names::name;
 use writing::byte;
 use writing::bytes;
 

@@ -30,17 +30,17 @@ use Rattle.writing.specs.Wrote.{WroteBytes}
 use Rattle.writing.proofs.Wrote.{wrote-none, wrote-then}
 use Rattle.smt.specs.Writer.{Form, fieldsOf, headKind, headOf, termOf}
 use Rattle.smt.proofs.Judged.{Formed, Fits, FormedAt, header-fits, expr-formed}
-use Rattle.smtvars.specs.Pieces.{joined, identText}
+use Rattle.smtpieces.specs.Pieces.{joined, identText}
 use Rattle.smtlib.specs.Terms.{termText, seamed}
-use Rattle.smtmarks.specs.Marks.{seamOf, gapOf, closeText, nodeLets, nodeCloses}
+use Rattle.smtpieces.specs.Marks.{seamOf, gapOf, closeText, nodeLets, nodeCloses}
 use Rattle.smtfronts.specs.Fronts.{frontOf, frontText, formLets, formCloses, calleeText}
-use Rattle.smtvars.specs.Written.{Tells, tells, keeps, TellsPiece, TellsPart}
-use Rattle.smtvars.specs.declared.answers.Written.{Written}
-use Rattle.smtvars.specs.declared.answers.Written.the-variants as written
-use Rattle.smtvars.specs.declared.answers.Walked.{Walked}
-use Rattle.smtvars.specs.declared.answers.Walked.the-variants as walked
-use Rattle.smtvars.proofs.Joined.{joined-assoc, joined-none, joined-end, joined-got}
-use Rattle.smtvars.proofs.Tells.{Put, put, Gone, gone, put-none, put-seq, gone-behind, gone-first, put-as, gone-as, put-told, gone-told, piece-put, piece-gone, part-put, part-end, part-gone}
+use Rattle.smtpieces.specs.Written.{Tells, tells, keeps, TellsPiece, TellsPart}
+use Rattle.smtpieces.specs.declared.answers.Written.{Written}
+use Rattle.smtpieces.specs.declared.answers.Written.the-variants as written
+use Rattle.smtpieces.specs.declared.answers.Walked.{Walked}
+use Rattle.smtpieces.specs.declared.answers.Walked.the-variants as walked
+use Rattle.smtpieces.proofs.Joined.{joined-assoc, joined-none, joined-end, joined-got}
+use Rattle.smtpieces.proofs.Tells.{Put, put, Gone, gone, put-none, put-seq, gone-behind, gone-first, put-as, gone-as, put-told, gone-told, piece-put, piece-gone, part-put, part-end, part-gone}
 use Rattle.smtfronts.proofs.FrontsSeams.{node-lets, node-closes, node-callee}
 use Rattle.smtlib.proofs.TermTexts.{node-bad, node-operand, node-got, app-none, app-argument, app-head, app-got, head-kind}
 

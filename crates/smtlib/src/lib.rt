@@ -8,7 +8,7 @@ use judge::expr_words::End;
 use judge::expr_words::MAX_NODES;
 use judge::expr_words::solution;
 use judge::kind::word_at;
-use smtvars::answers::Walked;
+use smtpieces::answers::Walked;
 use smtvars::vars::vars;
 use writing::byte;
 use writing::clear;

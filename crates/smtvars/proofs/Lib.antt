@@ -1,6 +1,3 @@
-pub mod Joined
-pub mod Tells
-pub mod NamePieces
 pub mod SortNodes
 pub mod Endings
 pub mod SortLevels

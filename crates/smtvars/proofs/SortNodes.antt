@@ -10,7 +10,7 @@ use Rattle.reading.specs.Answer.{got, bad, unwritable}
 use Rattle.reading.proofs.Picks.{pick-eq, pick-ne}
 use Rattle.judge.proofs.NodeAt.{behind-end}
 use Rattle.writing.specs.Digits.{decimal}
-use Rattle.smtvars.specs.Pieces.{joined, nameText}
+use Rattle.smtpieces.specs.Pieces.{joined, nameText}
 use Rattle.smtvars.specs.SortNode.{appliedAt, sortNodeAt, widthText, arrayText, dataText}
 use Rattle.smtvars.specs.declared.sort_node.SortNode.{SortNode}
 use Rattle.smtvars.specs.declared.sort_node.SortNode.the-variants as told

@@ -8,9 +8,9 @@ use Rattle.reading.specs.Pick.{pick}
 use Rattle.reading.specs.Answer.{Ans, got}
 use Rattle.grammar.specs.Sort.{Sort, Sorts, snil, scons, sorts, sortWords, sortsWords}
 use Rattle.grammar.specs.Numbers.{hit}
-use Rattle.smtvars.specs.Pieces.{joined, sortText}
+use Rattle.smtpieces.specs.Pieces.{joined, sortText}
 use Rattle.smtvars.specs.SortWalk.{total, ending, settled, endText}
-use Rattle.smtvars.proofs.Joined.{joined-assoc, joined-none, joined-got}
+use Rattle.smtpieces.proofs.Joined.{joined-assoc, joined-none, joined-got}
 use Rattle.smtvars.proofs.SortTexts.{spacedText}
 use Rattle.smtvars.proofs.SortViews.{words-some}
 use Rattle.smtvars.proofs.Endings.{hit-yes, hit-no, ending-none, end-more}

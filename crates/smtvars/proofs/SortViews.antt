@@ -10,7 +10,7 @@ use Rattle.reading.specs.At.{At}
 use Rattle.reading.proofs.Placed.{at-tail, at-word}
 use Rattle.grammar.specs.Sort.{cSet, cMap, cData, Sort, Sorts, sInt, sBool, sReal, sStr, sBitVec, sSize, sVar, sFunc, sAbs, sApp, snil, scons, sorts, sortWords, sortsWords}
 use Rattle.smt.specs.Writer.{widthOf, sortOf}
-use Rattle.smtvars.specs.Pieces.{joined, sortText}
+use Rattle.smtpieces.specs.Pieces.{joined, sortText}
 use Rattle.smtvars.specs.SortNode.{appliedAt, sortNodeAt, sizeOf, insideOf, arrayText, openText}
 use Rattle.smtvars.specs.declared.sort_node.SortNode.{SortNode}
 use Rattle.smtvars.specs.declared.sort_node.SortNode.the-variants as told

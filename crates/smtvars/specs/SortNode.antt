@@ -7,7 +7,7 @@ use Rattle.reading.specs.Pick.{pick}
 use Rattle.reading.specs.Bytes.{ascii}
 use Rattle.reading.specs.Answer.{Ans, got, bad, unwritable}
 use Rattle.writing.specs.Digits.{decimal}
-use Rattle.smtvars.specs.Pieces.{joined, nameText}
+use Rattle.smtpieces.specs.Pieces.{joined, nameText}
 use Rattle.smtvars.specs.declared.sort_node.SortNode.{SortNode}
 use Rattle.smtvars.specs.declared.sort_node.SortNode.the-variants as told
 

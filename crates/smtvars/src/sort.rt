@@ -6,12 +6,10 @@ ghost use lib.ListN.{replicate};
 ghost use Rattle.grammar.specs.Sort.{Sort};
 ghost use Rattle.judge.specs.Judge.{reads, sortAt};
 ghost use Rattle.writing.specs.Wrote.{WroteBytes};
-ghost use Rattle.smtvars.specs.Pieces.{sortText};
+ghost use Rattle.smtpieces.specs.Pieces.{sortText};
 ghost use Rattle.smtvars.specs.SortWalk.{total, ending, settled, Walk, endText};
 ghost use Rattle.smtvars.specs.SortLevels.{Within, Known};
-ghost use Rattle.smtvars.specs.Written.{TellsPart};
-use crate::answers::Walked;
-use crate::answers::Written;
+ghost use Rattle.smtpieces.specs.Written.{TellsPart};
 use crate::levels::entered;
 use crate::levels::entered_below;
 use crate::levels::standing;
@@ -20,6 +18,8 @@ use crate::sort_node::count;
 use crate::sort_node::opened;
 use crate::sort_node::size;
 use crate::sort_node::sort_at;
+use smtpieces::answers::Walked;
+use smtpieces::answers::Written;
 use writing::byte;
 
 // How many lists end behind a sort without sorts inside it, and how many of the others are known.

@@ -4,13 +4,13 @@ ghost use mathlib.Core.List.{List};
 ghost use Prim.Native.Nat.{ℕ};
 ghost use Rattle.grammar.specs.Expr.{Binder};
 ghost use Rattle.judge.specs.Judge.{reads, binderAt, bindersAt};
-ghost use Rattle.smtvars.specs.Pieces.{varText, varsText};
-ghost use Rattle.smtvars.specs.Written.{TellsPart};
-use crate::answers::Walked;
-use crate::names::fresh;
+ghost use Rattle.smtpieces.specs.Pieces.{varText, varsText};
+ghost use Rattle.smtpieces.specs.Written.{TellsPart};
 use crate::sort::sort;
 use judge::kind::two;
 use judge::kind::word_at;
+use smtpieces::answers::Walked;
+use smtpieces::names::fresh;
 use writing::byte;
 
 // A sorted variable in parentheses.

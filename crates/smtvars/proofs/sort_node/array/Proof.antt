@@ -1,5 +1,5 @@
 use mathlib.Core.Path.{refl}
-use Rattle.smtvars.proofs.Tells.{put, gone, put-as, gone-as, put-told, gone-told}
+use Rattle.smtpieces.proofs.Tells.{put, gone, put-as, gone-as, put-told, gone-told}
 use Rattle.smtvars.proofs.SortNodes.{array-two, array-other}
 use borrow.Author.Needs.{needs}
 use Rattle.smtvars.proofs.sort_node.array.Statement.{statement}

@@ -1,6 +1,6 @@
 use mathlib.Core.Path.{refl}
 use Rattle.writing.proofs.Wrote.{wrote-seq}
-use Rattle.smtvars.proofs.Tells.{put, gone, put-as, gone-as, put-told, gone-told}
+use Rattle.smtpieces.proofs.Tells.{put, gone, put-as, gone-as, put-told, gone-told}
 use Rattle.smtvars.proofs.SortNodes.{width-none, width-some}
 use borrow.Author.Needs.{needs}
 use Rattle.smtvars.proofs.sort_node.bit_vec.Statement.{statement}

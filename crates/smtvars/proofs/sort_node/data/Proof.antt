@@ -1,4 +1,4 @@
-use Rattle.smtvars.proofs.Tells.{put, put-as, gone-as, tells-as, put-told, gone-told, put-seq, gone-first, gone-behind, piece-put, piece-gone}
+use Rattle.smtpieces.proofs.Tells.{put, put-as, gone-as, tells-as, put-told, gone-told, put-seq, gone-first, gone-behind, piece-put, piece-gone}
 use Rattle.smtvars.proofs.SortNodes.{data-none, data-some}
 use borrow.Author.Needs.{needs}
 use Rattle.smtvars.proofs.sort_node.data.Statement.{statement}

@@ -1,6 +1,6 @@
 use mathlib.Core.Path.{refl, ap}
 use Rattle.smtvars.specs.SortNode.{openText}
-use Rattle.smtvars.proofs.Tells.{gone, gone-told, tells-as, tells-to}
+use Rattle.smtpieces.proofs.Tells.{gone, gone-told, tells-as, tells-to}
 use borrow.Author.Needs.{needs}
 use Rattle.smtvars.proofs.sort_node.opened.Statement.{statement}
 use Rattle.smtvars.proofs.sort_node.opened.Tie as tie

@@ -1,0 +1,6 @@
+pub mod Joined
+pub mod Tells
+pub mod NamePieces
+pub mod Rest
+pub mod Steps
+pub mod Powers
