@@ -1,5 +1,5 @@
 -- How many lists end behind a sort is counted by walking there again.
-use Prim.Native.Nat.{ℕ, zero, suc, _+_, _-_, _≤_, _<_}
+use Prim.Native.Nat.{ℕ, suc, _+_, _-_, _≤_, _<_}
 use mathlib.Core.Bool.{Bool, true, false}
 use mathlib.Core.Path.{_≡_, refl, sym, ap, _∙_}
 use mathlib.Core.List.{List, [], _∷_, _++_, append-nil}
@@ -10,9 +10,11 @@ use borrow.Author.Tests.{eqb-true, eqb-false, eq-eqb, ne-eqb}
 use Rattle.reading.specs.Pick.{pick}
 use Rattle.reading.proofs.Picks.{pick-true, pick-false}
 use Rattle.grammar.specs.Numbers.{hit}
+use Rattle.smtlevels.specs.Open.{total, ending, settled}
+use Rattle.smtlevels.proofs.Open.{hit-yes, hit-no, past-total, past-here, past-there}
 use Rattle.smtvars.specs.SortNode.{sortNodeAt, sizeOf, insideOf}
-use Rattle.smtvars.specs.SortWalk.{total, ending, settled, Step, into, past, Walk, here, more, endText}
-use Rattle.smtvars.specs.SortLevels.{Known, below}
+use Rattle.smtvars.specs.SortWalk.{Step, into, past, Walk, here, more, endText}
+use Rattle.smtlevels.specs.Levels.{Known, below}
 use Rattle.smtvars.specs.declared.sort_node.SortNode.{SortNode}
 use Rattle.smtvars.specs.declared.sort_node.SortNode.the-variants as told
 
@@ -36,55 +38,6 @@ size-few (told.BitVec w) = omega arith
 size-few (told.Array n) = omega arith
 size-few (told.Data s l n) = omega arith
 size-few told.Other = omega arith
-
--- Equal numbers, or not.
-pub hit-yes : (k x : ℕ) → k ≡ x → hit k x ≡ 1
-unfolding pick
-hit-yes k x e = rw (eq-eqb k x e) refl
-
-pub hit-no : (k x : ℕ) → (k ≡ x → ⊥) → hit k x ≡ 0
-unfolding pick
-hit-no k x e = rw (ne-eqb k x e) refl
-
--- No list ends where more sorts are to come than in all.
-pub ending-none : (left : ℕ) (cs : List ℕ) → total cs < left → ending left cs ≡ 0
-unfolding ending total
-ending-none left [] h = refl
-ending-none left (c ∷ cs) h =
-    let e : hit left (total cs) ≡ 0 = hit-no left (total cs) (λ q. omega (arith, h, q)) in
-    omega (arith, e, ending-none left cs (omega (arith, h)))
-
--- The lists that have ended take no sorts with them, and do not end anywhere else.
-settled-total : (cs : List ℕ) → total (settled cs) ≡ total cs
-unfolding settled total
-settled-total [] = refl
-settled-total (zero ∷ cs) = omega (arith, settled-total cs)
-settled-total (suc c ∷ cs) = refl
-
-settled-ending : (left : ℕ) (cs : List ℕ) → (total cs ≡ left → ⊥) → ending left (settled cs) ≡ ending left cs
-unfolding settled ending total
-settled-ending left [] h = refl
-settled-ending left (zero ∷ cs) h =
-    let e : hit left (total cs) ≡ 0 = hit-no left (total cs) (λ q. h (omega (arith, q))) in
-    omega (arith, e, settled-ending left cs (λ q. h (omega (arith, q))))
-settled-ending left (suc c ∷ cs) h = refl
-
--- What is to come behind a sort that has none inside it.
-module _ (cs : List ℕ) {c : ℕ} {ds : List ℕ} (e : settled cs ≡ suc c ∷ ds) where
-  pub past-total : total cs ≡ suc c + total ds
-  unfolding total
-  past-total = sym (settled-total cs) ∙ ap total e
-
-  past-here : {left : ℕ} → total cs ≡ left → ending left (c ∷ ds) ≡ 0
-  unfolding ending
-  past-here {left} h =
-      let t : total ds < left = omega (arith, h, past-total) in
-      let z : hit left (total ds) ≡ 0 = hit-no left (total ds) (λ q. omega (arith, t, q)) in
-      omega (arith, z, ending-none left ds t)
-
-  past-there : {left : ℕ} → (total cs ≡ left → ⊥) → ending left (c ∷ ds) ≡ ending left cs
-  unfolding ending
-  past-there {left} h = sym (ap (ending left) e) ∙ settled-ending left cs h
 
 -- A walk goes on.
 step-on : {ws : List ℕ} {a b : ℕ} {cs ds : List ℕ} → Step ws a cs b ds → a < b

@@ -1,6 +1,5 @@
 pub mod SortNodes
 pub mod Endings
-pub mod SortLevels
 pub mod SortTexts
 pub mod SortViews
 pub mod SortStack

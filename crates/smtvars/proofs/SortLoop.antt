@@ -13,8 +13,9 @@ use Rattle.judge.proofs.Spell.{Low}
 use Rattle.writing.specs.Wrote.{WroteBytes}
 use Rattle.smtpieces.specs.Pieces.{joined, sortText}
 use Rattle.smtvars.specs.SortNode.{sortNodeAt, sizeOf, insideOf, openText}
-use Rattle.smtvars.specs.SortWalk.{total, settled, endText, Step, into, past, Walk, here, more}
-use Rattle.smtvars.specs.SortLevels.{Known}
+use Rattle.smtlevels.specs.Open.{total, settled}
+use Rattle.smtvars.specs.SortWalk.{endText, Step, into, past, Walk, here, more}
+use Rattle.smtlevels.specs.Levels.{Known}
 use Rattle.smtvars.specs.declared.sort_node.SortNode.{SortNode}
 use Rattle.smtpieces.proofs.Joined.{joined-assoc, joined-none, joined-end}
 use Rattle.smtpieces.proofs.Tells.{Put, put, Gone, put-none, put-seq, put-as, put-bad, gone-behind, gone-first, gone-as}
@@ -22,8 +23,8 @@ use Rattle.smtvars.proofs.WordsRead.{sort-spelled}
 use Rattle.smtvars.proofs.SortTexts.{spacedText}
 use Rattle.smtvars.proofs.SortViews.{sortTold, View, refusing, leaf, inner, view, words-some, sort-told}
 use Rattle.smtvars.proofs.SortStack.{levels, stackWords, restText, stack-few, Behind, ends, goes, behind}
-use Rattle.smtvars.proofs.Endings.{past-total}
-use Rattle.smtvars.proofs.SortLevels.{known-as}
+use Rattle.smtlevels.proofs.Open.{past-total}
+use Rattle.smtlevels.proofs.Levels.{known-as}
 
 -- A walk, and one step more.
 walk-step : {ws : List ℕ} {a b c : ℕ} {cs ds es : List ℕ} → Walk ws a cs b ds → Step ws b ds c es → Walk ws a cs c es

@@ -9,11 +9,13 @@ use Rattle.reading.specs.Answer.{Ans, got}
 use Rattle.grammar.specs.Sort.{Sort, Sorts, snil, scons, sorts, sortWords, sortsWords}
 use Rattle.grammar.specs.Numbers.{hit}
 use Rattle.smtpieces.specs.Pieces.{joined, sortText}
-use Rattle.smtvars.specs.SortWalk.{total, ending, settled, endText}
+use Rattle.smtlevels.specs.Open.{total, ending, settled}
+use Rattle.smtvars.specs.SortWalk.{endText}
 use Rattle.smtpieces.proofs.Joined.{joined-assoc, joined-none, joined-got}
 use Rattle.smtvars.proofs.SortTexts.{spacedText}
 use Rattle.smtvars.proofs.SortViews.{words-some}
-use Rattle.smtvars.proofs.Endings.{hit-yes, hit-no, ending-none, end-more}
+use Rattle.smtlevels.proofs.Open.{hit-yes, hit-no, ending-none}
+use Rattle.smtvars.proofs.Endings.{end-more}
 
 -- How many sorts each list has, their words, and their bytes with a parenthesis behind each list.
 unfoldable pub levels : List Sorts → List ℕ

@@ -1,3 +1,2 @@
 pub mod SortNode
 pub mod SortWalk
-pub mod SortLevels

@@ -1,28 +1,12 @@
 -- A walk over the sorts inside a sort, which nest without limit: it is known of each list that is open how many of its sorts are still to come.
-use Prim.Native.Nat.{ℕ, zero, suc, _+_, _≤_, _<_}
+use Prim.Native.Nat.{ℕ, suc, _+_, _≤_, _<_}
 use mathlib.Core.Path.{_≡_}
 use mathlib.Core.List.{List, [], _∷_, _++_}
 use lib.Dec.{eqb}
 use lib.ListN.{length, replicate}
 use Rattle.reading.specs.Pick.{pick}
-use Rattle.grammar.specs.Numbers.{hit}
+use Rattle.smtlevels.specs.Open.{total, ending, settled}
 use Rattle.smtvars.specs.SortNode.{sortNodeAt, sizeOf, insideOf}
-
--- How many sorts are to come in the open lists, the innermost of which stands first.
-unfoldable pub total : List ℕ → ℕ
-total [] = 0
-total (c ∷ cs) = c + total cs
-
--- How many of the open lists end where just so many sorts are to come.
-unfoldable pub ending : ℕ → List ℕ → ℕ
-ending left [] = 0
-ending left (c ∷ cs) = hit left (total cs) + ending left cs
-
--- The open lists without those that have ended.
-unfoldable pub settled : List ℕ → List ℕ
-settled [] = []
-settled (zero ∷ cs) = settled cs
-settled (suc c ∷ cs) = suc c ∷ cs
 
 -- One step of the walk inside the words, from a place and the open lists to the next place and the lists that are open there: into a sort with sorts inside it, or past one without.
 pub data Step (ws : List ℕ) : ℕ → List ℕ → ℕ → List ℕ → Type 0 where

@@ -1,6 +1,5 @@
 // Sorts and sorted variables in SMT-LIB. Each is written from words that were judged before, into a slice of bytes that the caller lends.
 
-mod levels;
 pub mod sort;
 pub mod sort_node;
 pub mod vars;

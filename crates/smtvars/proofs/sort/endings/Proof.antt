@@ -7,9 +7,10 @@ use mathlib.Core.List.{List, []}
 use native.Mathlib.Omega.{arith}
 use lib.ListN.{length}
 use Rattle.reading.specs.Limits.{maxLists}
-use Rattle.smtvars.specs.SortWalk.{total, ending, settled, Walk}
-use Rattle.smtvars.specs.SortLevels.{Within, Known}
-use Rattle.smtvars.proofs.SortLevels.{within-as, below-settled}
+use Rattle.smtlevels.specs.Open.{total, ending, settled}
+use Rattle.smtvars.specs.SortWalk.{Walk}
+use Rattle.smtlevels.specs.Levels.{Within, Known}
+use Rattle.smtlevels.proofs.Levels.{within-as, below-settled}
 use Rattle.smtvars.proofs.Endings.{size-some, size-few, Toward, toward-start, toward-end, toward-held, toward-inside, toward-into, toward-past, toward-some, toward-as}
 use Rattle.smtvars.proofs.sort.endings.Statement.{statement}
 use Rattle.smtvars.proofs.sort.endings.Tie as tie

@@ -1,6 +1,6 @@
 use native.Mathlib.Omega.{arith}
 use borrow.Author.Needs.{needs}
-use Rattle.smtvars.proofs.SortLevels.{standing-count, standing-known}
+use Rattle.smtlevels.proofs.Levels.{standing-count, standing-known}
 use Rattle.smtvars.proofs.sort.endings_known.Statement.{statement}
 use Rattle.smtvars.proofs.sort.endings_known.Tie as tie
 

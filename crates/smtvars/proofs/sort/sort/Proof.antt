@@ -7,10 +7,10 @@ use native.Mathlib.Omega.{arith}
 use lib.ListN.{length, length-replicate}
 use Rattle.grammar.specs.Sort.{Sort}
 use Rattle.judge.specs.Judge.{reads, sortAt}
-use Rattle.smtvars.specs.SortLevels.{Within}
+use Rattle.smtlevels.specs.Levels.{Within}
 use Rattle.smtpieces.proofs.Tells.{gone-told, piece-put, piece-gone, part-told}
 use Rattle.smtvars.proofs.Endings.{size-some, size-few}
-use Rattle.smtvars.proofs.SortLevels.{within-as}
+use Rattle.smtlevels.proofs.Levels.{within-as}
 use Rattle.smtvars.proofs.SortLoop.{State, state-start, state-inside, state-few, state-end, state-put, state-gone, state-past, state-into, state-as}
 use Rattle.smtvars.proofs.sort.sort.Statement.{statement}
 use Rattle.smtvars.proofs.sort.sort.Tie as tie

@@ -1,7 +1,7 @@
 use borrow.Author.Needs.{needs}
-use Rattle.smtvars.proofs.SortLevels.{inner-into, outer-into}
-use Rattle.smtvars.proofs.levels.entered_below.Statement.{statement}
-use Rattle.smtvars.proofs.levels.entered_below.Tie as tie
+use Rattle.smtlevels.proofs.Levels.{inner-into, outer-into}
+use Rattle.smtlevels.proofs.entered_below.Statement.{statement}
+use Rattle.smtlevels.proofs.entered_below.Tie as tie
 
 entered-requires : tie.Need-entered-requires
 entered-requires c κs = search needs

@@ -1,9 +1,9 @@
 use mathlib.Core.Path.{_∙_}
 use lib.ListN.{length-set}
 use native.Mathlib.Omega.{arith}
-use Rattle.smtvars.proofs.SortLevels.{known-more}
-use Rattle.smtvars.proofs.levels.entered.Statement.{statement}
-use Rattle.smtvars.proofs.levels.entered.Tie as tie
+use Rattle.smtlevels.proofs.Levels.{known-more}
+use Rattle.smtlevels.proofs.entered.Statement.{statement}
+use Rattle.smtlevels.proofs.entered.Tie as tie
 
 halved-requires : tie.Need-halved-requires
 halved-requires c κs = c .before .pre

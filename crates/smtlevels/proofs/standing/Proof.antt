@@ -1,10 +1,10 @@
 use Prim.Native.Nat.{_≤_}
 use mathlib.Core.Path.{_≡_, refl, _∙_}
 use native.Mathlib.Omega.{arith}
-use Rattle.smtvars.specs.SortLevels.{standing}
-use Rattle.smtvars.proofs.SortLevels.{standing-on, standing-here, standing-none}
-use Rattle.smtvars.proofs.levels.standing.Statement.{statement}
-use Rattle.smtvars.proofs.levels.standing.Tie as tie
+use Rattle.smtlevels.specs.Levels.{standing}
+use Rattle.smtlevels.proofs.Levels.{standing-on, standing-here, standing-none}
+use Rattle.smtlevels.proofs.standing.Statement.{statement}
+use Rattle.smtlevels.proofs.standing.Tie as tie
 
 abbrev Inv-loop : tie.InvT-loop
 Inv-loop bases known left k₀ k = (k ≤ known) × (standing bases left k ≡ standing bases left known)

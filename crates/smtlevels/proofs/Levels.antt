@@ -11,9 +11,9 @@ use borrow.Author.Tests.{eqb-true, eqb-false}
 use Rattle.reading.specs.Pick.{pick}
 use Rattle.reading.proofs.Picks.{pick-eq, pick-ne, pick-lt, pick-ge}
 use Rattle.grammar.specs.Numbers.{hit}
-use Rattle.smtvars.specs.SortWalk.{total, ending, settled}
-use Rattle.smtvars.specs.SortLevels.{Within, Known, standing, below}
-use Rattle.smtvars.proofs.Endings.{hit-yes, hit-no, ending-none, past-total}
+use Rattle.smtlevels.specs.Open.{total, ending, settled}
+use Rattle.smtlevels.specs.Levels.{Within, Known, standing, below}
+use Rattle.smtlevels.proofs.Open.{hit-yes, hit-no, ending-none, past-total}
 
 -- What holds whether a test for equal numbers tells the one or the other.
 by-test : (a b x y : ℕ) (P : ℕ → Type 0) → (a ≡ b → P x) → ((a ≡ b → ⊥) → P y) → P (pick (eqb a b) x y)

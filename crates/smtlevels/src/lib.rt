@@ -5,8 +5,8 @@ ghost use mathlib.Core.List.{List, _∷_};
 ghost use Prim.Native.Nat.{ℕ, suc, _≤_, _<_};
 ghost use lib.ListN.{length};
 ghost use Rattle.reading.specs.Limits.{maxLists};
-ghost use Rattle.smtvars.specs.SortWalk.{total, settled};
-ghost use Rattle.smtvars.specs.SortLevels.{Within, Known, standing, below};
+ghost use Rattle.smtlevels.specs.Open.{total, settled};
+ghost use Rattle.smtlevels.specs.Levels.{Within, Known, standing, below};
 
 // How many of the known lists do not end where just so many sorts are to come.
 pub fn standing(bases: &[u64; 64], known: usize, left: u64) -> usize

@@ -6,7 +6,7 @@ use lib.Dec.{eqb, ltb}
 use lib.ListN.{length, getD}
 use Rattle.reading.specs.Limits.{maxLists}
 use Rattle.reading.specs.Pick.{pick}
-use Rattle.smtvars.specs.SortWalk.{total}
+use Rattle.smtlevels.specs.Open.{total}
 
 -- An array with room for so many.
 abbrev pub Within : List ℕ → ℕ → Type 0

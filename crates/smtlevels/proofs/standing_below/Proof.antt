@@ -1,8 +1,8 @@
 use native.Mathlib.Omega.{arith}
 use borrow.Author.Needs.{needs}
-use Rattle.smtvars.proofs.SortLevels.{inner-past, outer-past}
-use Rattle.smtvars.proofs.levels.standing_below.Statement.{statement}
-use Rattle.smtvars.proofs.levels.standing_below.Tie as tie
+use Rattle.smtlevels.proofs.Levels.{inner-past, outer-past}
+use Rattle.smtlevels.proofs.standing_below.Statement.{statement}
+use Rattle.smtlevels.proofs.standing_below.Tie as tie
 
 standing-requires : tie.Need-standing-requires
 standing-requires c κs = search needs

@@ -1,9 +1,9 @@
 use Prim.Native.Nat.{_+_, _-_, _≤_}
 use mathlib.Core.Path.{_≡_, _∙_}
 use native.Mathlib.Omega.{arith}
-use Rattle.smtvars.proofs.SortLevels.{Moved, moved-none, moved-one, moved-known}
-use Rattle.smtvars.proofs.levels.halved.Statement.{statement}
-use Rattle.smtvars.proofs.levels.halved.Tie as tie
+use Rattle.smtlevels.proofs.Levels.{Moved, moved-none, moved-one, moved-known}
+use Rattle.smtlevels.proofs.halved.Statement.{statement}
+use Rattle.smtlevels.proofs.halved.Tie as tie
 
 abbrev Inv-loop : tie.InvT-loop
 Inv-loop bases₀ known i₀ bases i = (i ≤ 32) × Moved bases₀ bases i
