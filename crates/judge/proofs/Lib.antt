@@ -12,6 +12,4 @@ pub mod SpellSort
 pub mod SpellKind
 pub mod SpellExpr
 pub mod Taken
-pub mod NodeAt
-pub mod ExistsAt
 pub mod SolutionParts

@@ -7,8 +7,8 @@ use Rattle.writing.proofs.Wrote.{either}
 use Rattle.smt.specs.Vocabulary.{bitVectors}
 use Rattle.smt.specs.Writer.{spelledAt}
 use Rattle.smtfronts.specs.Fronts.{functionText}
-use Rattle.smtpieces.specs.Written.{tells, keeps, TellsPiece}
-use Rattle.smtpieces.specs.declared.answers.Written.the-variants as written
+use Rattle.smtnames.specs.Written.{tells, keeps, TellsPiece}
+use Rattle.smtnames.specs.declared.answers.Written.the-variants as written
 use Rattle.smtfronts.proofs.FrontsSymbols.{function-named, function-low, function-high}
 
 module _ {l l′ : List ℕ} {place : ℕ} where

@@ -10,16 +10,16 @@ use Rattle.reading.specs.Bytes.{ascii, Span}
 use Rattle.reading.specs.Number.{Wide, valueOf}
 use Rattle.reading.specs.Answer.{Ans, got, bad, andThen, unwritable}
 use Rattle.grammar.specs.Expr.{BinOp, opNumber, opAdd, opSub, opMul, opDiv, opMod, Relation, relNumber, relEq, relNe, relGt, relGe, relLt, relLe, Binder, Kind, kNum, kBool, kStr, kBitVec, kFresh, kNamed, kNeg, kBin, kIf, kAnd, kOr, kNot, kImp, kIff, kAtom, kLet, kTheory, kIsCtor, kExists}
-use Rattle.judge.specs.Node.{nodeOf}
-use Rattle.judge.specs.declared.kind.Node.the-variants as told
+use Rattle.nodes.specs.Node.{nodeOf}
+use Rattle.nodes.specs.declared.kind.Node.the-variants as told
 use Rattle.writing.specs.Digits.{decimal}
 use Rattle.smt.specs.Sexp.{symbolText, list, print}
 use Rattle.smt.specs.Term.{bySymbol, plainIdent, SmtSort, Var, tstr, tid, identSx, varSxs, termSx}
 use Rattle.smt.specs.Vocabulary.{operators, relations}
 use Rattle.smt.specs.Writer.{spelledAt, bitsIdent, fitsWidth, freshSymbol, Form, alone, operator, folded, letting, some, bytesOf, symbolOf, varsOf, fieldsOf, sortOf}
 use Rattle.smt.proofs.Text.{barred-text, fresh-text, operator-text, relation-text, bits-text, test-text}
-use Rattle.smtpieces.specs.Pieces.{joined, nameText, freshText, stringText, varsText}
-use Rattle.smtpieces.specs.Marks.{operatorText, foldedText}
+use Rattle.smtnames.specs.Pieces.{joined, nameText, freshText, stringText, varsText}
+use Rattle.smtmarks.specs.Marks.{operatorText, foldedText}
 use Rattle.smtfronts.specs.Fronts.{frontOf, frontText, bitsText, nodeText, Numbered, existsText}
 use Rattle.smtfronts.proofs.FrontsSymbols.{own-bare}
 

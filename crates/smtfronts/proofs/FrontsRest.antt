@@ -4,10 +4,10 @@ use mathlib.Core.Path.{_≡_, refl, subst}
 use mathlib.Core.List.{List, [], _∷_}
 use types.Run.{miss}
 use Rattle.reading.specs.Answer.{bad, unwritable}
-use Rattle.judge.specs.declared.kind.Node.{Node}
-use Rattle.judge.specs.declared.kind.Node.the-variants as told
+use Rattle.nodes.specs.declared.kind.Node.{Node}
+use Rattle.nodes.specs.declared.kind.Node.the-variants as told
 use Rattle.smtfronts.specs.Fronts.{calleeText}
-use Rattle.smtpieces.proofs.Rest.{Among}
+use Rattle.smtmarks.proofs.Rest.{Among}
 
 -- Every kind but variables and theory functions.
 abbrev callee-left : List ℕ

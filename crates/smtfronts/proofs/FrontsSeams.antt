@@ -12,13 +12,13 @@ use Rattle.reading.specs.Answer.{Ans, got, bad, andThen, unwritable}
 use Rattle.reading.proofs.Picks.{pick-holds}
 use Rattle.grammar.specs.Expr.{Kind, kNum, kBool, kStr, kBitVec, kFresh, kNamed, kNeg, kBin, kIf, kAnd, kOr, kNot, kImp, kIff, kAtom, kLet, kTheory, kIsCtor, kExists}
 use Rattle.grammar.proofs.Post.{Every, any-every}
-use Rattle.judge.specs.Node.{nodeOf}
+use Rattle.nodes.specs.Node.{nodeOf}
 use Rattle.smt.specs.Sexp.{print}
 use Rattle.smt.specs.Term.{plainIdent, SmtSort, Var, tid}
 use Rattle.smt.specs.Writer.{freshSymbol, bitsIdent, fitsWidth, Form, alone, some, bytesOf, symbolOf, sortOf, varsOf, fieldsOf, headKind}
 use Rattle.smt.proofs.Text.{barred-text, fresh-text}
-use Rattle.smtpieces.specs.Pieces.{identText, nameText, freshText}
-use Rattle.smtpieces.specs.Marks.{nodeLets, nodeCloses}
+use Rattle.smtnames.specs.Pieces.{identText, nameText, freshText}
+use Rattle.smtmarks.specs.Marks.{nodeLets, nodeCloses}
 use Rattle.smtfronts.specs.Fronts.{formLets, formCloses, functionText, calleeText}
 use Rattle.smtfronts.proofs.FrontsFormed.{every-got}
 

@@ -12,19 +12,19 @@ use Rattle.reading.specs.Answer.{got, bad, unwritable}
 use Rattle.reading.proofs.Picks.{pick-yes, pick-no}
 use Rattle.grammar.specs.Expr.{Binder, Kind}
 use Rattle.judge.specs.Judge.{reads, operandsOf, bindersAt, header}
-use Rattle.judge.specs.Node.{nodeOf}
-use Rattle.judge.specs.declared.kind.Node.{Node}
-use Rattle.judge.specs.declared.kind.Node.the-variants as told
+use Rattle.nodes.specs.Node.{nodeOf}
+use Rattle.nodes.specs.declared.kind.Node.{Node}
+use Rattle.nodes.specs.declared.kind.Node.the-variants as told
 use Rattle.judge.proofs.SpellKind.{binders-count}
-use Rattle.judge.proofs.ExistsAt.{exists-binders, header-inside, exists-told}
+use Rattle.nodes.proofs.ExistsAt.{exists-binders, header-inside, exists-told}
 use Rattle.writing.specs.Digits.{decimal}
 use Rattle.smt.specs.Writer.{fitsWidth}
-use Rattle.smtpieces.specs.declared.answers.Written.{Written}
-use Rattle.smtpieces.specs.Pieces.{joined, varsText}
+use Rattle.smtnames.specs.declared.answers.Written.{Written}
+use Rattle.smtnames.specs.Pieces.{joined, varsText}
 use Rattle.smtfronts.specs.Fronts.{bitsText, existsText, frontText, nodeText, Numbered}
-use Rattle.smtpieces.specs.Written.{TellsPiece}
+use Rattle.smtnames.specs.Written.{TellsPiece}
 use Rattle.smtfronts.proofs.FrontsNode.{node-numbered, node-front, exists-front}
-use Rattle.smtpieces.proofs.Tells.{tells-as}
+use Rattle.smtnames.proofs.Tells.{tells-as}
 
 -- A value that is none of its width, and one that is.
 module _ (v : Wide) (width : ℕ) {t : Bool} (e : t ≡ fitsWidth v width) where

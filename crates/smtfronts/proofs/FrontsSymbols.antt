@@ -13,7 +13,7 @@ use Rattle.smt.specs.Sexp.{symbolByte, reservedWords, isReserved, simple, symbo
 use Rattle.smt.specs.Vocabulary.{bitVectors}
 use Rattle.smt.specs.Writer.{spelledAt, functionOf}
 use Rattle.smt.proofs.Text.{function-text}
-use Rattle.smtpieces.specs.Pieces.{identText}
+use Rattle.smtnames.specs.Pieces.{identText}
 use Rattle.smtfronts.specs.Fronts.{functionText}
 
 -- Written as it is.

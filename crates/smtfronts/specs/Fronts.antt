@@ -8,15 +8,15 @@ use Rattle.reading.specs.Bytes.{ascii, Named}
 use Rattle.reading.specs.Number.{Wide, valueOf}
 use Rattle.reading.specs.Answer.{Ans, got, bad, andThen, unwritable}
 use Rattle.grammar.specs.Expr.{Binder, Kind}
-use Rattle.judge.specs.declared.kind.Node.{Node}
-use Rattle.judge.specs.declared.kind.Node.the-variants as told
+use Rattle.nodes.specs.declared.kind.Node.{Node}
+use Rattle.nodes.specs.declared.kind.Node.the-variants as told
 use Rattle.writing.specs.Digits.{decimal}
 use Rattle.smt.specs.Sexp.{symbolText, list, print}
 use Rattle.smt.specs.Term.{identSx, varSxs, termSx}
 use Rattle.smt.specs.Vocabulary.{operators, relations}
 use Rattle.smt.specs.Writer.{spelledAt, fitsWidth, functionOf, Form, alone, operator, folded, letting, some, fieldsOf}
-use Rattle.smtpieces.specs.Marks.{operatorText, foldedText, boolText}
-use Rattle.smtpieces.specs.Pieces.{joined, identText, nameText, freshText, stringText, varsText}
+use Rattle.smtmarks.specs.Marks.{operatorText, foldedText, boolText}
+use Rattle.smtnames.specs.Pieces.{joined, identText, nameText, freshText, stringText, varsText}
 
 -- In front of so many operands.
 unfoldable pub frontOf : Form → ℕ → List ℕ

@@ -15,13 +15,13 @@ use Rattle.grammar.specs.Expr.{Kind, Expr, Exprs, node, app, enil, econs, exprs
 use Rattle.grammar.specs.Shape.{HasOperands}
 use Rattle.judge.specs.Judge.{Judged, reads, fails, Plan, operandsOf, argumentsOf, several, sortIf, header, exprDeep}
 use Rattle.judge.specs.Ends.{endOf, headOf as headerOf, behindOf}
-use Rattle.judge.specs.Node.{nodeOf, nodesAt, nodeAt}
+use Rattle.nodes.specs.Node.{nodeOf, nodesAt, nodeAt}
 use Rattle.judge.specs.declared.expr_words.End.{End}
 use Rattle.judge.specs.declared.expr_words.Header.the-variants as head
-use Rattle.judge.specs.declared.kind.Node.{Node}
-use Rattle.judge.specs.declared.kind.Node.the-variants as told
+use Rattle.nodes.specs.declared.kind.Node.{Node}
+use Rattle.nodes.specs.declared.kind.Node.the-variants as told
 use Rattle.judge.proofs.ReadExpr.{siblings, head-operands as kind-of, head-arguments, head-no}
-use Rattle.judge.proofs.NodeAt.{node-told, told-at}
+use Rattle.nodes.proofs.NodeAt.{node-told, told-at}
 use Rattle.judge.proofs.Spell.{Low, post-reads}
 use Rattle.judge.proofs.SpellKind.{arguments-spelled}
 use Rattle.judge.proofs.SpellExpr.{several-count}
@@ -30,17 +30,17 @@ use Rattle.writing.specs.Wrote.{WroteBytes}
 use Rattle.writing.proofs.Wrote.{wrote-none, wrote-then}
 use Rattle.smt.specs.Writer.{Form, fieldsOf, headKind, headOf, termOf}
 use Rattle.smt.proofs.Judged.{Formed, Fits, FormedAt, header-fits, expr-formed}
-use Rattle.smtpieces.specs.Pieces.{joined, identText}
+use Rattle.smtnames.specs.Pieces.{joined, identText}
 use Rattle.smtlib.specs.Terms.{termText, seamed}
-use Rattle.smtpieces.specs.Marks.{seamOf, gapOf, closeText, nodeLets, nodeCloses}
+use Rattle.smtmarks.specs.Marks.{seamOf, gapOf, closeText, nodeLets, nodeCloses}
 use Rattle.smtfronts.specs.Fronts.{frontOf, frontText, formLets, formCloses, calleeText}
-use Rattle.smtpieces.specs.Written.{Tells, tells, keeps, TellsPiece, TellsPart}
-use Rattle.smtpieces.specs.declared.answers.Written.{Written}
-use Rattle.smtpieces.specs.declared.answers.Written.the-variants as written
-use Rattle.smtpieces.specs.declared.answers.Walked.{Walked}
-use Rattle.smtpieces.specs.declared.answers.Walked.the-variants as walked
-use Rattle.smtpieces.proofs.Joined.{joined-assoc, joined-none, joined-end, joined-got}
-use Rattle.smtpieces.proofs.Tells.{Put, put, Gone, gone, put-none, put-seq, gone-behind, gone-first, put-as, gone-as, put-told, gone-told, piece-put, piece-gone, part-put, part-end, part-gone}
+use Rattle.smtnames.specs.Written.{Tells, tells, keeps, TellsPiece, TellsPart}
+use Rattle.smtnames.specs.declared.answers.Written.{Written}
+use Rattle.smtnames.specs.declared.answers.Written.the-variants as written
+use Rattle.smtnames.specs.declared.answers.Walked.{Walked}
+use Rattle.smtnames.specs.declared.answers.Walked.the-variants as walked
+use Rattle.smtnames.proofs.Joined.{joined-assoc, joined-none, joined-end, joined-got}
+use Rattle.smtnames.proofs.Tells.{Put, put, Gone, gone, put-none, put-seq, gone-behind, gone-first, put-as, gone-as, put-told, gone-told, piece-put, piece-gone, part-put, part-end, part-gone}
 use Rattle.smtfronts.proofs.FrontsSeams.{node-lets, node-closes, node-callee}
 use Rattle.smtlib.proofs.TermTexts.{node-bad, node-operand, node-got, app-none, app-argument, app-head, app-got, head-kind}
 

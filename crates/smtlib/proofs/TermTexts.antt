@@ -12,9 +12,9 @@ use Rattle.grammar.specs.Shape.{HasOperands}
 use Rattle.smt.specs.Sexp.{print}
 use Rattle.smt.specs.Term.{Ident, identSx, Term, Terms, tnil, tcons, termSx, terms}
 use Rattle.smt.specs.Writer.{Form, formed, fieldsOf, application, headKind, headOf, termOf, termsOf}
-use Rattle.smtpieces.specs.Pieces.{joined, identText}
+use Rattle.smtnames.specs.Pieces.{joined, identText}
 use Rattle.smtlib.specs.Terms.{termText, seamed}
-use Rattle.smtpieces.specs.Marks.{seamOf, closeText}
+use Rattle.smtmarks.specs.Marks.{seamOf, closeText}
 use Rattle.smtfronts.specs.Fronts.{frontOf, frontText, formLets, formCloses}
 use Rattle.smtfronts.proofs.FrontsTerm.{between, applied-between, formed-text}
 use Rattle.smtfronts.proofs.FrontsFormed.{kind-becomes}

@@ -23,15 +23,15 @@ use Rattle.smt.specs.Sexp.{print, list}
 use Rattle.smt.specs.Term.{Var, Term, varSxs, termSx, closedBytes}
 use Rattle.smt.specs.Writer.{varsOf, termOf, solutionTerm, written}
 use Rattle.smt.specs.Operation.{bytesFinal, smtlibBy, smtlibFinal, smtlibOut}
-use Rattle.smtpieces.specs.Pieces.{joined, varsText}
+use Rattle.smtnames.specs.Pieces.{joined, varsText}
 use Rattle.smtlib.specs.Terms.{termText}
-use Rattle.smtpieces.specs.Written.{TellsPart}
+use Rattle.smtnames.specs.Written.{TellsPart}
 use Rattle.smtlib.specs.Answers.{answerOf, Outcome, wrote, left, Attempted}
 use Rattle.smtlib.specs.declared.Answer.{Answer}
 use Rattle.smtlib.specs.declared.Answer.the-variants as said
-use Rattle.smtpieces.specs.declared.answers.Walked.{Walked}
-use Rattle.smtpieces.specs.declared.answers.Walked.the-variants as walked
-use Rattle.smtpieces.proofs.Tells.{Put, put, Gone, put-seq, gone-behind, gone-first, put-as, gone-as, part-put, part-end, part-gone}
+use Rattle.smtnames.specs.declared.answers.Walked.{Walked}
+use Rattle.smtnames.specs.declared.answers.Walked.the-variants as walked
+use Rattle.smtnames.proofs.Tells.{Put, put, Gone, put-seq, gone-behind, gone-first, put-as, gone-as, part-put, part-end, part-gone}
 use Rattle.smtlib.proofs.TermSteps.{put-is, gone-is}
 
 -- A solution is its list of variables, a space and a term.

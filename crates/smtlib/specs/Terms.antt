@@ -6,7 +6,7 @@ use Rattle.grammar.specs.Expr.{Expr, Exprs, enil, econs}
 use Rattle.smt.specs.Sexp.{print}
 use Rattle.smt.specs.Term.{termSx}
 use Rattle.smt.specs.Writer.{termOf}
-use Rattle.smtpieces.specs.Pieces.{joined}
+use Rattle.smtnames.specs.Pieces.{joined}
 
 -- A term.
 unfoldable pub termText : List ℕ → Expr → Ans (List ℕ)

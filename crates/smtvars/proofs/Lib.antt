@@ -1,4 +1,3 @@
-pub mod SortNodes
 pub mod Endings
 pub mod SortTexts
 pub mod SortViews

@@ -11,14 +11,14 @@ use Rattle.judge.specs.Judge.{reads, sortAt}
 use Rattle.judge.specs.Spelled.{Spelled}
 use Rattle.judge.proofs.Spell.{Low}
 use Rattle.writing.specs.Wrote.{WroteBytes}
-use Rattle.smtpieces.specs.Pieces.{joined, sortText}
-use Rattle.smtvars.specs.SortNode.{sortNodeAt, sizeOf, insideOf, openText}
+use Rattle.smtnames.specs.Pieces.{joined, sortText}
+use Rattle.smtsorts.specs.SortNode.{sortNodeAt, sizeOf, insideOf, openText}
 use Rattle.smtlevels.specs.Open.{total, settled}
 use Rattle.smtvars.specs.SortWalk.{endText, Step, into, past, Walk, here, more}
 use Rattle.smtlevels.specs.Levels.{Known}
-use Rattle.smtvars.specs.declared.sort_node.SortNode.{SortNode}
-use Rattle.smtpieces.proofs.Joined.{joined-assoc, joined-none, joined-end}
-use Rattle.smtpieces.proofs.Tells.{Put, put, Gone, put-none, put-seq, put-as, put-bad, gone-behind, gone-first, gone-as}
+use Rattle.smtsorts.specs.declared.sort_node.SortNode.{SortNode}
+use Rattle.smtnames.proofs.Joined.{joined-assoc, joined-none, joined-end}
+use Rattle.smtnames.proofs.Tells.{Put, put, Gone, put-none, put-seq, put-as, put-bad, gone-behind, gone-first, gone-as}
 use Rattle.smtvars.proofs.WordsRead.{sort-spelled}
 use Rattle.smtvars.proofs.SortTexts.{spacedText}
 use Rattle.smtvars.proofs.SortViews.{sortTold, View, refusing, leaf, inner, view, words-some, sort-told}

@@ -8,10 +8,10 @@ use Rattle.reading.specs.Pick.{pick}
 use Rattle.reading.specs.Answer.{Ans, got}
 use Rattle.grammar.specs.Sort.{Sort, Sorts, snil, scons, sorts, sortWords, sortsWords}
 use Rattle.grammar.specs.Numbers.{hit}
-use Rattle.smtpieces.specs.Pieces.{joined, sortText}
+use Rattle.smtnames.specs.Pieces.{joined, sortText}
 use Rattle.smtlevels.specs.Open.{total, ending, settled}
 use Rattle.smtvars.specs.SortWalk.{endText}
-use Rattle.smtpieces.proofs.Joined.{joined-assoc, joined-none, joined-got}
+use Rattle.smtnames.proofs.Joined.{joined-assoc, joined-none, joined-got}
 use Rattle.smtvars.proofs.SortTexts.{spacedText}
 use Rattle.smtvars.proofs.SortViews.{words-some}
 use Rattle.smtlevels.proofs.Open.{hit-yes, hit-no, ending-none}

@@ -15,8 +15,8 @@ use Rattle.smt.specs.Term.{Ident, plainIdent, SmtSort, SmtSorts, srt, rnil, rco
 use Rattle.smt.specs.Writer.{plainly, widthOf, bytesOf, symbolOf, sortOf, sortsOf}
 use Rattle.smt.specs.Compute.{smtComputes}
 use Rattle.smt.proofs.Text.{barred-text, width-text}
-use Rattle.smtpieces.specs.Pieces.{joined, sortText, nameText}
-use Rattle.smtvars.specs.SortNode.{widthText, arrayText, dataText}
+use Rattle.smtnames.specs.Pieces.{joined, sortText, nameText}
+use Rattle.smtsorts.specs.SortNode.{widthText, arrayText, dataText}
 
 -- A space before each sort.
 unfoldable pub spacedText : List ℕ → Sorts → Ans (List ℕ)

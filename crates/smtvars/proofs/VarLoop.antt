@@ -10,12 +10,12 @@ use Rattle.reading.proofs.Picks.{pick-lt, pick-ge, pick-holds}
 use Rattle.grammar.specs.Expr.{Binder}
 use Rattle.judge.specs.Judge.{reads, binderAt, bindersAt}
 use Rattle.writing.specs.Wrote.{WroteBytes}
-use Rattle.smtpieces.specs.Pieces.{joined, varText}
-use Rattle.smtpieces.specs.Written.{TellsPart}
-use Rattle.smtpieces.specs.declared.answers.Walked.{Walked}
-use Rattle.smtpieces.specs.declared.answers.Walked.the-variants as walked
-use Rattle.smtpieces.proofs.Joined.{joined-assoc, joined-none}
-use Rattle.smtpieces.proofs.Tells.{Put, put, Gone, put-none, put-seq, put-as, gone-behind, gone-first, gone-as, part-put, part-end, part-gone}
+use Rattle.smtnames.specs.Pieces.{joined, varText}
+use Rattle.smtnames.specs.Written.{TellsPart}
+use Rattle.smtnames.specs.declared.answers.Walked.{Walked}
+use Rattle.smtnames.specs.declared.answers.Walked.the-variants as walked
+use Rattle.smtnames.proofs.Joined.{joined-assoc, joined-none}
+use Rattle.smtnames.proofs.Tells.{Put, put, Gone, put-none, put-seq, put-as, gone-behind, gone-first, gone-as, part-put, part-end, part-gone}
 use Rattle.smtvars.proofs.VarTexts.{spacedVars, insideVars, varsBody}
 use Rattle.smtvars.proofs.WordsRead.{FirstBinder, binders-first, binders-none}
 

@@ -8,7 +8,7 @@ use Rattle.smt.specs.Sexp.{list, print, spaced}
 use Rattle.smt.specs.Term.{SmtSort, Var, sortSx, varSx, varSxs}
 use Rattle.smt.specs.Writer.{freshSymbol, sortOf, varsOf}
 use Rattle.smt.proofs.Text.{fresh-text, var-text}
-use Rattle.smtpieces.specs.Pieces.{joined, sortText, freshText, varText, varsText}
+use Rattle.smtnames.specs.Pieces.{joined, sortText, freshText, varText, varsText}
 
 -- A space before each variable; and the same without the first space.
 unfoldable pub spacedVars : List ℕ → List Binder → Ans (List ℕ)

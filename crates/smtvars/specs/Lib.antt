@@ -1,2 +1,1 @@
-pub mod SortNode
 pub mod SortWalk

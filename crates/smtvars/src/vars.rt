@@ -4,13 +4,13 @@ ghost use mathlib.Core.List.{List};
 ghost use Prim.Native.Nat.{ℕ};
 ghost use Rattle.grammar.specs.Expr.{Binder};
 ghost use Rattle.judge.specs.Judge.{reads, binderAt, bindersAt};
-ghost use Rattle.smtpieces.specs.Pieces.{varText, varsText};
-ghost use Rattle.smtpieces.specs.Written.{TellsPart};
+ghost use Rattle.smtnames.specs.Pieces.{varText, varsText};
+ghost use Rattle.smtnames.specs.Written.{TellsPart};
 use crate::sort::sort;
-use judge::kind::two;
-use judge::kind::word_at;
-use smtpieces::answers::Walked;
-use smtpieces::names::fresh;
+use nodes::kind::two;
+use nodes::kind::word_at;
+use smtnames::answers::Walked;
+use smtnames::names::fresh;
 use writing::byte;
 
 // A sorted variable in parentheses.

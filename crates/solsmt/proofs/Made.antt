@@ -20,7 +20,7 @@ use Rattle.smt.specs.Sexp.{list, print}
 use Rattle.smt.specs.Term.{Var, Term, varSxs, termSx, Closed, closedBytes}
 use Rattle.smt.specs.Writer.{varsOf, termOf, solutionTerm, written}
 use Rattle.smt.specs.Operation.{bytesFinal, smtlibBy, smtlibFinal, smtlibOut}
-use Rattle.smtpieces.specs.Pieces.{varsText}
+use Rattle.smtnames.specs.Pieces.{varsText}
 use Rattle.smtlib.specs.Answers.{answerOf}
 use Rattle.smtlib.specs.declared.Answer.the-variants as said
 use Rattle.solsmt.specs.Script.{commentLine, functionLine, closedText}

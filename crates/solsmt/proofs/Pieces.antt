@@ -13,11 +13,11 @@ use Rattle.judge.proofs.SolutionParts.{Parts, parts-of}
 use Rattle.writing.specs.Digits.{digit}
 use Rattle.writing.specs.Wrote.{WroteBytes}
 use Rattle.writing.proofs.Wrote.{wrote-then, wrote-as}
-use Rattle.smtpieces.specs.Pieces.{varsText}
-use Rattle.smtpieces.specs.Written.{TellsPart}
-use Rattle.smtpieces.specs.declared.answers.Walked.{Walked}
-use Rattle.smtpieces.specs.declared.answers.Walked.the-variants as walked
-use Rattle.smtpieces.proofs.Tells.{Put, put, Gone, gone, part-put, part-gone}
+use Rattle.smtnames.specs.Pieces.{varsText}
+use Rattle.smtnames.specs.Written.{TellsPart}
+use Rattle.smtnames.specs.declared.answers.Walked.{Walked}
+use Rattle.smtnames.specs.declared.answers.Walked.the-variants as walked
+use Rattle.smtnames.proofs.Tells.{Put, put, Gone, gone, part-put, part-gone}
 use Rattle.solsmt.specs.Script.{commentLine, functionLine}
 
 -- The first line.

@@ -6,7 +6,7 @@ use Rattle.smtlib.proofs.attempt.Tie as tie
 use Rattle.smtlib.proofs.attempt.Reads as reads
 use Rattle.smtlib.proofs.attempt.Lts as lts
 use Rattle.judge.proofs.expr_words.solution.Reads as solution-reads
-use Rattle.judge.proofs.kind.word_at.Reads as word-at-reads
+use Rattle.nodes.proofs.kind.word_at.Reads as word-at-reads
 use Rattle.smtlib.proofs.terms.term.Reads as term-reads
 use Rattle.smtvars.proofs.vars.vars.Reads as vars-reads
 use Rattle.writing.proofs.byte.Reads as byte-reads

@@ -1,4 +1,4 @@
-use Rattle.smtpieces.proofs.Tells.{piece-put, piece-gone, tells-seq, tells-end, tells-stop}
+use Rattle.smtnames.proofs.Tells.{piece-put, piece-gone, tells-seq, tells-end, tells-stop}
 use borrow.Author.Needs.{needs}
 use Rattle.smtfronts.proofs.callee.callee.Statement.{statement}
 use Rattle.smtfronts.proofs.callee.callee.Tie as tie

@@ -1,5 +1,5 @@
 use mathlib.Core.Path.{refl, sym}
-use Rattle.smtpieces.specs.Written.{tells, keeps}
+use Rattle.smtnames.specs.Written.{tells, keeps}
 use Rattle.smtfronts.proofs.FrontsRest.{rest-callee}
 use borrow.Author.Needs.{needs}
 use Rattle.smtfronts.proofs.callee.named.Statement.{statement}
@@ -7,8 +7,8 @@ use Rattle.smtfronts.proofs.callee.named.Tie as tie
 use Rattle.smtfronts.proofs.callee.named.Reads as reads
 use Rattle.smtfronts.proofs.callee.named.Lts as lts
 use Rattle.smtfronts.proofs.callee.function.Reads as function-reads
-use Rattle.smtpieces.proofs.names.fresh.Reads as fresh-reads
-use Rattle.smtpieces.proofs.names.name.Reads as name-reads
+use Rattle.smtnames.proofs.names.fresh.Reads as fresh-reads
+use Rattle.smtnames.proofs.names.name.Reads as name-reads
 
 -- src/callee.rt:53:21
 enum-known-node : tie.Need-enum-known-node

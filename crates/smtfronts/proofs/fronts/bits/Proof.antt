@@ -1,14 +1,14 @@
 use mathlib.Core.Path.{sym, refl}
 use Rattle.reading.specs.Answer.{unwritable}
 use Rattle.writing.proofs.Wrote.{wrote-seq}
-use Rattle.smtpieces.proofs.Tells.{tells-to, tells-no, tells-as}
+use Rattle.smtnames.proofs.Tells.{tells-to, tells-no, tells-as}
 use Rattle.smtfronts.proofs.FrontsSteps.{bits-refused, bits-taken}
 use borrow.Author.Needs.{needs}
 use Rattle.smtfronts.proofs.fronts.bits.Statement.{statement}
 use Rattle.smtfronts.proofs.fronts.bits.Tie as tie
 use Rattle.smtfronts.proofs.fronts.bits.Reads as reads
 use Rattle.smtfronts.proofs.fronts.bits.Lts as lts
-use Rattle.smtpieces.proofs.width.fits.Reads as fits-reads
+use Rattle.smtmarks.proofs.width.fits.Reads as fits-reads
 use Rattle.writing.proofs.byte.Reads as byte-reads
 use Rattle.writing.proofs.bytes.Reads as bytes-reads
 use Rattle.writing.proofs.decimal.Reads as decimal-reads

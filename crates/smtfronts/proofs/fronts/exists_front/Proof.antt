@@ -1,6 +1,6 @@
 use mathlib.Core.Path.{sym}
 use Rattle.writing.proofs.Wrote.{wrote-none}
-use Rattle.smtpieces.proofs.Tells.{part-put, part-gone, tells-to, tells-as, tells-seq, tells-end, tells-stop}
+use Rattle.smtnames.proofs.Tells.{part-put, part-gone, tells-to, tells-as, tells-seq, tells-end, tells-stop}
 use Rattle.smtfronts.proofs.FrontsSteps.{exists-none, exists-some}
 use borrow.Author.Needs.{needs}
 use Rattle.smtfronts.proofs.fronts.exists_front.Statement.{statement}

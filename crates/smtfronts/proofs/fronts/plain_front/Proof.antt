@@ -1,6 +1,6 @@
 use mathlib.Core.Path.{refl}
 use Rattle.reading.specs.Answer.{unwritable}
-use Rattle.smtpieces.proofs.Tells.{tells-to, tells-no}
+use Rattle.smtnames.proofs.Tells.{tells-to, tells-no}
 use Rattle.smtfronts.proofs.FrontsSteps.{node-as, numbered-as}
 use borrow.Author.Needs.{needs}
 use Rattle.smtfronts.proofs.fronts.plain_front.Statement.{statement}
@@ -8,15 +8,15 @@ use Rattle.smtfronts.proofs.fronts.plain_front.Tie as tie
 use Rattle.smtfronts.proofs.fronts.plain_front.Reads as reads
 use Rattle.smtfronts.proofs.fronts.plain_front.Lts as lts
 use Rattle.smtfronts.proofs.fronts.bits.Reads as bits-reads
-use Rattle.smtpieces.proofs.operators.boolean.Reads as boolean-reads
-use Rattle.smtpieces.proofs.operators.folded.Reads as folded-reads
+use Rattle.smtmarks.proofs.operators.boolean.Reads as boolean-reads
+use Rattle.smtmarks.proofs.operators.folded.Reads as folded-reads
 use Rattle.smtfronts.proofs.fronts.let_front.Reads as let-front-reads
-use Rattle.smtpieces.proofs.operators.operator.Reads as operator-reads
-use Rattle.smtpieces.proofs.operators.relation.Reads as relation-reads
+use Rattle.smtmarks.proofs.operators.operator.Reads as operator-reads
+use Rattle.smtmarks.proofs.operators.relation.Reads as relation-reads
 use Rattle.smtfronts.proofs.fronts.test_front.Reads as test-front-reads
-use Rattle.smtpieces.proofs.names.fresh.Reads as fresh-reads
-use Rattle.smtpieces.proofs.names.name.Reads as name-reads
-use Rattle.smtpieces.proofs.names.string.Reads as string-reads
+use Rattle.smtnames.proofs.names.fresh.Reads as fresh-reads
+use Rattle.smtnames.proofs.names.name.Reads as name-reads
+use Rattle.smtnames.proofs.names.string.Reads as string-reads
 use Rattle.writing.proofs.bytes.Reads as bytes-reads
 use Rattle.writing.proofs.decimal.Reads as decimal-reads
 

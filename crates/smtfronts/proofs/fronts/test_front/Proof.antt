@@ -1,10 +1,10 @@
-use Rattle.smtpieces.proofs.Tells.{piece-put, piece-gone, tells-seq, tells-end, tells-stop}
+use Rattle.smtnames.proofs.Tells.{piece-put, piece-gone, tells-seq, tells-end, tells-stop}
 use borrow.Author.Needs.{needs}
 use Rattle.smtfronts.proofs.fronts.test_front.Statement.{statement}
 use Rattle.smtfronts.proofs.fronts.test_front.Tie as tie
 use Rattle.smtfronts.proofs.fronts.test_front.Reads as reads
 use Rattle.smtfronts.proofs.fronts.test_front.Lts as lts
-use Rattle.smtpieces.proofs.names.name.Reads as name-reads
+use Rattle.smtnames.proofs.names.name.Reads as name-reads
 use Rattle.writing.proofs.bytes.Reads as bytes-reads
 
 -- src/fronts.rt:85:19

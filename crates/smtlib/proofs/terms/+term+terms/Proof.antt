@@ -19,12 +19,12 @@ use Rattle.judge.proofs.expr_words.expr_end.Reads as expr-end-reads
 use Rattle.judge.proofs.expr_words.exprs_end.Reads as exprs-end-reads
 use Rattle.judge.proofs.expr_words.head.Reads as head-reads
 use Rattle.judge.proofs.expr_words.out_sort.Reads as out-sort-reads
-use Rattle.judge.proofs.kind.kind_at.Reads as kind-at-reads
+use Rattle.nodes.proofs.kind.kind_at.Reads as kind-at-reads
 use Rattle.smtfronts.proofs.callee.callee.Reads as callee-reads
-use Rattle.smtpieces.proofs.operands.close.Reads as close-reads
-use Rattle.smtpieces.proofs.operands.closes.Reads as closes-reads
+use Rattle.smtmarks.proofs.operands.close.Reads as close-reads
+use Rattle.smtmarks.proofs.operands.closes.Reads as closes-reads
 use Rattle.smtfronts.proofs.fronts.front.Reads as front-reads
-use Rattle.smtpieces.proofs.operands.lets.Reads as lets-reads
+use Rattle.smtmarks.proofs.operands.lets.Reads as lets-reads
 use Rattle.smtlib.proofs.terms.gap.Reads as gap-reads
 use Rattle.writing.proofs.byte.Reads as byte-reads
 use Rattle.smtlib.proofs.terms.+term+terms.{statement}

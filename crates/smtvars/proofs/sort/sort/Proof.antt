@@ -8,7 +8,7 @@ use lib.ListN.{length, length-replicate}
 use Rattle.grammar.specs.Sort.{Sort}
 use Rattle.judge.specs.Judge.{reads, sortAt}
 use Rattle.smtlevels.specs.Levels.{Within}
-use Rattle.smtpieces.proofs.Tells.{gone-told, piece-put, piece-gone, part-told}
+use Rattle.smtnames.proofs.Tells.{gone-told, piece-put, piece-gone, part-told}
 use Rattle.smtvars.proofs.Endings.{size-some, size-few}
 use Rattle.smtlevels.proofs.Levels.{within-as}
 use Rattle.smtvars.proofs.SortLoop.{State, state-start, state-inside, state-few, state-end, state-put, state-gone, state-past, state-into, state-as}

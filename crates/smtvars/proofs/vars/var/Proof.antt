@@ -2,7 +2,7 @@ use mathlib.Core.Path.{ap, _∙_}
 use Prim.Native.Nat.{ℕ, _+_, _*_, _^_}
 use native.Mathlib.Omega.{arith}
 use lib.ListN.{getD}
-use Rattle.smtpieces.proofs.Tells.{put, put-as, gone-as, gone-told, put-seq, gone-first, gone-behind, part-put, part-end, part-gone, part-told}
+use Rattle.smtnames.proofs.Tells.{put, put-as, gone-as, gone-told, put-seq, gone-first, gone-behind, part-put, part-end, part-gone, part-told}
 use Rattle.smtvars.proofs.VarTexts.{var-pieces}
 use Rattle.smtvars.proofs.WordsRead.{binder-read}
 use borrow.Author.Needs.{needs}

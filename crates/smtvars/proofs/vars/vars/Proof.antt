@@ -8,7 +8,7 @@ use native.Mathlib.Omega.{arith}
 use lib.ListN.{length}
 use Rattle.grammar.specs.Expr.{Binder}
 use Rattle.judge.specs.Judge.{reads, bindersAt}
-use Rattle.smtpieces.proofs.Tells.{gone-told, part-told, put, put-as, gone-as, put-seq, gone-behind}
+use Rattle.smtnames.proofs.Tells.{gone-told, part-told, put, put-as, gone-as, put-seq, gone-behind}
 use Rattle.smtvars.proofs.VarLoop.{Coming, coming-start, coming-end, coming-put, coming-next, next-spaced, next-first, next-gone, next-as}
 use Rattle.smtvars.proofs.vars.vars.Statement.{statement}
 use Rattle.smtvars.proofs.vars.vars.Tie as tie

@@ -1,0 +1,2 @@
+pub mod NodeAt
+pub mod ExistsAt

@@ -1,6 +1,0 @@
-pub mod Joined
-pub mod Tells
-pub mod NamePieces
-pub mod Rest
-pub mod Steps
-pub mod Powers
