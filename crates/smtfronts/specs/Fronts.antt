@@ -50,10 +50,11 @@ formCloses (some (v ∷ vs)) n = true
 unfoldable pub frontText : List ℕ → Kind → ℕ → Ans (List ℕ)
 frontText text k n = andThen (fieldsOf text k) λ f. got (frontOf f n)
 
--- The same by what the code is told of a kind; the binders of an exists are not told.
+-- A value of a width.
 unfoldable pub bitsText : Wide → ℕ → Ans (List ℕ)
 bitsText v width = pick (fitsWidth v width) (got (ascii "(_ bv" ++ (decimal (valueOf v) ++ (32 ∷ decimal width ++ (41 ∷ []))))) (bad unwritable)
 
+-- In front of the operands by what the code is told of a kind; the binders of an exists are not told.
 abbrev pub nodeText : List ℕ → Node → ℕ → Ans (List ℕ)
 nodeText text (told.Num a b c d) n = got (decimal (valueOf (record { a = a; b = b; c = c; d = d })))
 nodeText text (told.Bool b) n = got (boolText b)

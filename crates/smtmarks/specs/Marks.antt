@@ -78,6 +78,7 @@ nodeCloses (told.IsCtor start len) n = true
 nodeCloses (told.Exists m) n = ltb 0 m
 nodeCloses told.Other n = false
 
+-- The parenthesis, if there is one.
 abbrev pub closeText : Bool → List ℕ
 closeText true = 41 ∷ []
 closeText false = []
