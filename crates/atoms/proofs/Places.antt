@@ -3,3 +3,4 @@ pub mod Spots
 pub mod Rows
 pub mod ScopeNames
 pub mod Inside
+pub mod Entries

@@ -1,5 +1,5 @@
 -- The code's open scopes: entries of an array, each the place of its names in the tree and its first fresh number.
-use Prim.Native.Nat.{ℕ, zero, suc, _+_, _%_, _^_, _≤_}
+use Prim.Native.Nat.{ℕ, zero, suc, _+_, _*_, _%_, _^_, _<_, _≤_}
 use mathlib.Core.Path.{_≡_}
 use mathlib.Core.List.{List, [], _∷_, _++_}
 use lib.Dec.{eqb}
@@ -9,8 +9,6 @@ use Rattle.reading.specs.Pick.{pick}
 use Rattle.reading.specs.Bytes.{Span, Maybe, nothing, just}
 use Rattle.reading.specs.Tree.{Tree, Trees, symbol, atom, list, tnil, tcons, treeWords, treesWords}
 use Rattle.grammar.specs.Scope.{Scope, sameName}
-use Rattle.atoms.specs.declared.scopes.Entry.{Entry}
-use Rattle.atoms.specs.declared.scopes.Entries.{Entries}
 use Rattle.atoms.specs.declared.scopes.Found.{Found}
 use Rattle.atoms.specs.declared.scopes.Found.the-variants.{At, Nothing}
 
@@ -26,43 +24,6 @@ pub record NameList (ws : List ℕ) (at : ℕ) (names : List Span) : Type 0 wher
   pub words : drop at ws ≡ treeWords (list pairs) ++ rest
   pub named : Named pairs names
 
--- The place of a scope's names, 0 if there is none.
-pub record Bound (ws : List ℕ) (k : ℕ) : Type 0 where
-  pub names : List Span
-  pub without : k ≡ 0 → names ≡ []
-  pub place : (k ≡ 0 → ⊥) → NameList ws k names
-
--- An entry of the array is a scope.
-pub record IsScope (ws : List ℕ) (e : Entry) (s : Scope) : Type 0 where
-  pub place : NameList ws (e .names) (s .names)
-  pub first : e .first ≡ s .first
-
--- An entry that is not in use.
-abbrev pub blank : Entry
-blank = record { names = 0; first = 0 }
-
--- The entries below a depth are the open scopes, the innermost last in the array and first in the list.
-abbrev pub Opened : List ℕ → List Entry → ℕ → List Scope → Type 0
-Opened ws es zero [] = Unit {0}
-Opened ws es zero (s ∷ sc) = ⊥
-Opened ws es (suc d) [] = ⊥
-Opened ws es (suc d) (s ∷ sc) = IsScope ws (getD es d blank) s × Opened ws es d sc
-
--- One entry more, unless its place is 0.
-unfoldable pub pushed : Entries → ℕ → ℕ → Entries
-pushed s names first = pick (eqb names 0) s (record { entries = set (s .entries) (s .depth) (record { names = names; first = first }); depth = s .depth + 1 })
-
--- One scope more, unless its place is 0.
-unfoldable pub inner : ℕ → List Span → ℕ → List Scope → List Scope
-inner place names first sc = pick (eqb place 0) sc (record { names = names; first = first } ∷ sc)
-
--- The scopes that are open.
-pub record OpenScopes (ws : List ℕ) (s : Entries) : Type 0 where
-  pub scopes : List Scope
-  pub holds : Opened ws (s .entries) (s .depth) scopes
-  pub long : length (s .entries) ≡ maxLists
-  pub within : s .depth ≤ maxLists
-
 -- So many pairs of a name and a sort, from a place on.
 pub record Pairs (ws : List ℕ) (at n : ℕ) : Type 0 where
   pub names : List Span
@@ -71,6 +32,44 @@ pub record Pairs (ws : List ℕ) (at n : ℕ) : Type 0 where
   pub words : drop at ws ≡ treesWords pairs ++ rest
   pub named : Named pairs names
   pub many : n ≡ length names
+
+-- An entry is a scope: the place of its first pair, how many pairs, its first number.
+pub record IsScope (ws : List ℕ) (at n k : ℕ) (s : Scope) : Type 0 where
+  pub place : Pairs ws at n
+  pub names : s .names ≡ place .names
+  pub first : k ≡ s .first
+
+-- The entries below a depth are the open scopes, the innermost last in the slice and first in the list.
+abbrev pub Opened : List ℕ → List ℕ → ℕ → List Scope → Type 0
+Opened ws es zero [] = Unit {0}
+Opened ws es zero (s ∷ sc) = ⊥
+Opened ws es (suc d) [] = ⊥
+Opened ws es (suc d) (s ∷ sc) = IsScope ws (getD es (3 * d) 0) (getD es (3 * d + 1) 0) (getD es (3 * d + 2) 0) s × Opened ws es d sc
+
+-- The numbers of as many entries as lists can stand inside one another.
+abbrev pub slots : ℕ
+slots = 3 * maxLists
+
+-- The entries below a depth are the same in both.
+pub record Kept (es es′ : List ℕ) (d : ℕ) : Type 0 where
+  pub same : (i : ℕ) → i < 3 * d → getD es′ i 0 ≡ getD es i 0
+
+-- One entry more, unless its place is 0.
+unfoldable pub pushed : List ℕ → ℕ → ℕ → ℕ → ℕ → List ℕ
+pushed es d at n k = pick (eqb at 0) es (set (set (set es (3 * d) at) (3 * d + 1) n) (3 * d + 2) k)
+
+unfoldable pub deeper : ℕ → ℕ → ℕ
+deeper d at = pick (eqb at 0) d (d + 1)
+
+-- One scope more, unless its place is 0.
+unfoldable pub inner : ℕ → List Span → ℕ → List Scope → List Scope
+inner place names first sc = pick (eqb place 0) sc (record { names = names; first = first } ∷ sc)
+
+-- The scopes that are open.
+pub record OpenScopes (ws es : List ℕ) (d : ℕ) : Type 0 where
+  pub scopes : List Scope
+  pub holds : Opened ws es d scopes
+  pub within : 3 * d ≤ length es
 
 -- The first place of a name among names, or how many there are.
 unfoldable pub placeAmong : List ℕ → Span → List Span → ℕ

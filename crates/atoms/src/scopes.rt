@@ -1,41 +1,38 @@
-// Open scopes: an array of entries by value, one for each scope.
+// Open scopes: entries in a slice that is lent down with a depth. Entries at or above the depth are dead, so nothing is restored.
 ghost use mathlib.Core.Path.{_≡_};
-ghost use Prim.Native.Nat.{_<_};
+ghost use Prim.Native.Nat.{_+_, _*_, _≤_};
+ghost use lib.ListN.{length};
 ghost use Rattle.reading.specs.Bytes.{Span};
 ghost use Rattle.grammar.specs.Scope.{sameName, numberIn, repeated};
-ghost use Rattle.atoms.specs.Scopes.{Bound, pushed, Pairs, placeAmong, OpenScopes, Meant};
+ghost use Rattle.atoms.specs.Scopes.{pushed, deeper, Pairs, placeAmong, OpenScopes, Meant};
 use lexing::byte::same;
 use sorts::number::long;
 use sorts::number::wide;
 use sorts::span::bytes_at;
 
-// An open scope: the place of its list of names in the tree, and its first fresh number.
-pub struct Entry {
-    pub names: usize,
-    pub first: u64,
-}
+// Room for as many entries as lists can stand inside one another.
+pub const SLOTS: usize = 192;
 
-pub struct Entries {
-    pub entries: [Entry; 64],
-    pub depth: usize,
-}
-
-// One scope more, unless its place is 0.
-pub fn opened(scopes: Entries, names: usize, next: u64) -> Entries
-    requires { ⌜ scopes .depth < 64 ⌝ }
-    ensures { λ r. ⌜ r ≡ pushed scopes names next ⌝ }
+// An entry is three numbers: the place of the first pair `(name ..)` in the tree, how many pairs there are, and the first fresh number.
+// One entry more, unless its place is 0; the depth inside.
+pub fn opened(scopes: &mut [u64], depth: usize, pairs: usize, n: u64, first: u64) -> usize
+    requires { ⌜ 3 * depth + 3 ≤ length (now scopes) ⌝ }
+    ensures { λ r. ⌜ (now (scopes .exit) ≡ pushed (now (scopes .entry)) depth pairs n first) × (r ≡ deeper depth pairs) ⌝ }
 {
-    if names == 0 {
-        return scopes;
+    if pairs == 0 {
+        return depth;
     }
-    let at = scopes.depth;
-    let mut inner = scopes;
-    inner.entries[at] = Entry {
-        names: names,
-        first: next,
-    };
-    inner.depth = at + 1;
-    inner
+    scopes[3 * depth] = long(pairs);
+    scopes[3 * depth + 1] = n;
+    scopes[3 * depth + 2] = first;
+    depth + 1
+}
+
+// A number of 64 bits as a length.
+pub fn size(x: u64) -> usize
+    ensures { λ r. ⌜ r ≡ x ⌝ }
+{
+    x as usize
 }
 
 // The number that a name means, or none.
@@ -69,35 +66,38 @@ fn place_among(text: &[u8], tree: &[u32], at: usize, n: usize, start: u32, len: 
 }
 
 // The number that a name means in the open scopes, innermost first, raised by the count.
-pub fn find(text: &[u8], tree: &[u32], scopes: Entries, count: u64, start: u32, len: u32) -> Found
-    requires { ⌜ OpenScopes (now tree) scopes ⌝ }
-    ensures { λ r. ⌜ ((h : OpenScopes (now (tree .entry)) scopes) → Meant count (numberIn (now (text .entry)) (record { start = start; len = len }) (h .scopes)) r) ⌝ }
+pub fn find(
+    text: &[u8],
+    tree: &[u32],
+    scopes: &[u64],
+    depth: usize,
+    count: u64,
+    start: u32,
+    len: u32,
+) -> Found
+    requires { ⌜ OpenScopes (now tree) (now scopes) depth ⌝ }
+    ensures { λ r. ⌜ ((h : OpenScopes (now (tree .entry)) (now (scopes .entry)) depth) → Meant count (numberIn (now (text .entry)) (record { start = start; len = len }) (h .scopes)) r) ⌝ }
 {
-    let mut d = scopes.depth;
+    let mut d = depth;
     while 0 < d {
-        let e = scopes.entries[d - 1];
-        let at = e.names;
-        let n = wide(tree[at + 1]);
-        let i = place_among(text, tree, at + 3, n, start, len);
+        d -= 1;
+        let at = size(scopes[3 * d]);
+        let n = size(scopes[3 * d + 1]);
+        let i = place_among(text, tree, at, n, start, len);
         if i < n {
-            let k = std::num::wrapping_add_u64(e.first, long(i));
+            let k = std::num::wrapping_add_u64(scopes[3 * d + 2], long(i));
             return Found::At(std::num::wrapping_add_u64(count, k));
         }
-        d -= 1;
     }
     Found::Nothing
 }
 
-// Whether a name of a scope stands there twice.
-pub fn twice(text: &[u8], tree: &[u32], names: usize) -> bool
-    requires { ⌜ Bound (now tree) names ⌝ }
-    ensures { λ r. ⌜ ((b : Bound (now (tree .entry)) names) → r ≡ repeated (now (text .entry)) (b .names)) ⌝ }
+// Whether a name of some pairs stands there twice.
+pub fn twice(text: &[u8], tree: &[u32], at: usize, n: usize) -> bool
+    requires { ⌜ Pairs (now tree) at n ⌝ }
+    ensures { λ r. ⌜ ((b : Pairs (now (tree .entry)) at n) → r ≡ repeated (now (text .entry)) (b .names)) ⌝ }
 {
-    if names == 0 {
-        return false;
-    }
-    let n = wide(tree[names + 1]);
-    let mut p = names + 3;
+    let mut p = at;
     let mut i: usize = 0;
     while i < n {
         let s = tree[p + 4];

@@ -12,7 +12,6 @@ use crate::expr_words::VarName;
 use crate::expr_words::put_name;
 use crate::expr_words::put2;
 use crate::expr_words::put3;
-use crate::scopes::Entries;
 use crate::scopes::Found;
 use crate::scopes::find;
 use crate::theory::Theory;
@@ -26,17 +25,18 @@ pub fn variable(
     text: &[u8],
     tree: &[u32],
     name: VarName,
-    scopes: Entries,
+    scopes: &[u64],
+    depth: usize,
     count: u64,
     out: &mut [u32],
     w: usize,
 ) -> usize
-    requires { ⌜ (OpenScopes (now tree) scopes) × (w ≤ bound) ⌝ }
-    ensures { λ r. ⌜ ((h : OpenScopes (now (tree .entry)) scopes) → (Put (now (out .entry)) w (exprWords count (symbolExpr (now (text .entry)) (record { start = name .0; len = name .1 }) (h .scopes))) (now (out .exit)) r) × (r ≤ w + 3)) ⌝ }
+    requires { ⌜ (OpenScopes (now tree) (now scopes) depth) × (w ≤ bound) ⌝ }
+    ensures { λ r. ⌜ ((h : OpenScopes (now (tree .entry)) (now (scopes .entry)) depth) → (Put (now (out .entry)) w (exprWords count (symbolExpr (now (text .entry)) (record { start = name .0; len = name .1 }) (h .scopes))) (now (out .exit)) r) × (r ≤ w + 3)) ⌝ }
 {
     match theory_number(bytes_at(text, name.0, name.1)) {
         Theory::Is(k) => put2(out, w, THEORY, k),
-        Theory::No => match find(text, tree, scopes, count, name.0, name.1) {
+        Theory::No => match find(text, tree, scopes, depth, count, name.0, name.1) {
             Found::At(k) => put3(out, w, FRESH, low(k), high(k)),
             Found::Nothing => put_name(out, w, NAMED, name),
         },

@@ -26,6 +26,7 @@ use Rattle.exprs.specs.declared.expr.Progress.the-variants.{Refused}
 use Rattle.exprs.specs.declared.plan.Plan.the-variants.{Go}
 use Rattle.grammar.proofs.FormsWritten.{after-done, as-told, call-told}
 use Rattle.atoms.proofs.Puts.{put-append}
+use Rattle.exprs.proofs.ListPlans.{unbound}
 use Rattle.exprs.proofs.Laid.{out-ahead}
 use Rattle.exprs.proofs.Steps.{More, some, none}
 use Rattle.atoms.proofs.SortPlace.{GotAt, BadAt, sort-short}
@@ -161,7 +162,7 @@ module _ {text ws : List ℕ} {at w next : ℕ} {t : Tree} {us : Trees} (h : Lis
           beyond = omega arith;
           final = final;
           ends = ends;
-          bind = record { names = []; without = λ _. refl; place = λ n. absurd (n refl) };
+          bind = unbound ws;
           shallow = omega (arith, h .shallow, ap-deep, le-max-right (nesting t) (nestings us));
           endShallow = deep;
           room = omega (arith, p .is, ap-length, short);

@@ -34,6 +34,7 @@ use Rattle.atoms.proofs.SortPlace.{GotAt, BadAt, every-got}
 use Rattle.exprs.proofs.BinderPairs.{ReadFrom, read-from}
 use Rattle.grammar.proofs.TreeHead.{no-list}
 use Rattle.atoms.proofs.Places.Spots.{word0, spot-within, as-list, IsList}
+use Rattle.atoms.proofs.Places.ScopeNames.{named-trees}
 use Rattle.atoms.proofs.Places.Inside.{ListNode, list-spot, list-many, list-words, items-there, first-there, others-there, trees-size, list-length, Pair, pair-of, child-tree}
 
 -- ---- what the form writes
@@ -136,10 +137,10 @@ module _ {text ws : List ℕ} {at w next : ℕ} {s : Span} {us : Trees} (h : Lis
       us-length : length (treesWords us) ≡ 3 + length (treesWords (ex-list .items)) + length (treesWords (tcons (ex-pair .second) tnil))
       us-length = omega (arith, ap (λ (t : Trees). length (treesWords t)) (ex-pair .is), trees-size (ex-pair .first) (tcons (ex-pair .second) tnil), vars-length)
 
-      module _ (fit : (i : ℕ) → getD ws i 0 < 2 ^ 32) {k v : ℕ} (ks : k ≡ m) (vs : v ≡ w + 2) where
-        pub row-words : drop f ws ≡ treesWords (ex-list .items) ++ (treesWords (tcons (ex-pair .second) tnil) ++ h .rest)
-        row-words = ap (λ (i : ℕ). drop i ws) (n .first) ∙ items-there ws (at + 6) (ex-list .items) (treesWords (tcons (ex-pair .second) tnil) ++ h .rest) binders-there
+      pub pairs-there : drop f ws ≡ treesWords (ex-list .items) ++ (treesWords (tcons (ex-pair .second) tnil) ++ h .rest)
+      pairs-there = ap (λ (i : ℕ). drop i ws) (n .first) ∙ items-there ws (at + 6) (ex-list .items) (treesWords (tcons (ex-pair .second) tnil) ++ h .rest) binders-there
 
+      module _ (fit : (i : ℕ) → getD ws i 0 < 2 ^ 32) {k v : ℕ} (ks : k ≡ m) (vs : v ≡ w + 2) where
         pub row-small : length (treesWords (ex-list .items)) < 2 ^ 32
         row-small = omega (arith, fit (at + 6 + 2), list-words ws (at + 6) (ex-list .items) (treesWords (tcons (ex-pair .second) tnil) ++ h .rest) binders-there)
 
@@ -150,7 +151,7 @@ module _ {text ws : List ℕ} {at w next : ℕ} {s : Span} {us : Trees} (h : Lis
         row-room = omega (arith, h .room, ex-length, us-length)
 
         abbrev pub ex-row : BinderRow ws f k v
-        ex-row = record { items = ex-list .items; rest = treesWords (tcons (ex-pair .second) tnil) ++ h .rest; words = row-words; many = row-many; small = row-small; room = row-room }
+        ex-row = record { items = ex-list .items; rest = treesWords (tcons (ex-pair .second) tnil) ++ h .rest; words = pairs-there; many = row-many; small = row-small; room = row-room }
 
       told-list : (count : ℕ) → toldOf count us ≡ toldOf count (tcons (list (ex-list .items)) (tcons (ex-pair .second) tnil))
       told-list count = ap (toldOf count) (ex-pair .is ∙ ap (λ (t : Tree). tcons t (tcons (ex-pair .second) tnil)) (ex-list .is))
@@ -163,14 +164,14 @@ module _ {text ws : List ℕ} {at w next : ℕ} {s : Span} {us : Trees} (h : Lis
       pub ex-go : (count : ℕ) {o o₁ o₂ : List ℕ} {v u j fresh : ℕ} → Put o w (51 ∷ m ∷ []) o₁ v → GotAt (bindersWords count next) (binders text (ex-list .items)) v o₁ o₂ u
           → j ≡ length (treeWords (ex-pair .first)) → fresh ≡ m
           → PlannedList text count ws at w next (tcons (atom (symbol s)) us) h (toldOf count us) o o₂
-          (Go (record { first = at + 6 + j; have = 1; want = 1; last = 0; plain = false; names = at + 6; fresh = fresh; words = u }))
+          (Go (record { first = at + 6 + j; have = 1; want = 1; last = 0; plain = false; names = f; fresh = fresh; words = u }))
       unfolding inner pick trees nestings
       ex-go count {o} {o₂ = o₂} {u = u} {j = j} {fresh = fresh} p g js fr =
           let bs = g .value in
           let r : ReadFrom (ex-list .items) bs = every-got (ReadFrom (ex-list .items)) (read-from text (ex-list .items)) (g .is) in
           let kn : m ≡ length (bs .sorts) = vars-many ∙ sym (r .many) in
           let fn : fresh ≡ length (bs .sorts) = fr ∙ kn in
-          let ne : eqb (at + 6) 0 ≡ false = ne-eqb (at + 6) 0 (λ z. omega arith) in
+          let ne : eqb f 0 ≡ false = ne-eqb f 0 (λ z. omega (arith, n .first)) in
           let ns : nestings us ≡ max (nesting (ex-pair .first)) (max (nesting (ex-pair .second)) 0) = ap nestings (ex-pair .is) in
           let all : Put o w ((51 ∷ m ∷ []) ++ bindersWords count next bs) o₂ u = put-append (51 ∷ m ∷ []) (bindersWords count next bs) p (g .put) in
           let hd : kindWords count (kExists (numbered next (bs .sorts))) 1 ≡ (51 ∷ m ∷ []) ++ bindersWords count next bs
@@ -185,8 +186,11 @@ module _ {text ws : List ℕ} {at w next : ℕ} {s : Span} {us : Trees} (h : Lis
             ends = refl;
             bind = record {
               names = bs .names;
-              without = λ z. absurd (omega arith);
-              place = λ _. record { pairs = ex-list .items; rest = treesWords (tcons (ex-pair .second) tnil) ++ h .rest; words = binders-there; named = r .named };
+              pairs = ex-list .items;
+              rest = treesWords (tcons (ex-pair .second) tnil) ++ h .rest;
+              words = pairs-there;
+              named = r .named;
+              many = fr ∙ vars-many ∙ named-trees (ex-list .items) (bs .names) (r .named);
             };
             shallow = omega (arith, h .shallow, ex-deep, ns, le-max-right (nesting (ex-pair .first)) (max (nesting (ex-pair .second)) 0));
             endShallow = omega (arith, h .shallow, ex-deep);

@@ -22,7 +22,7 @@ use Rattle.grammar.specs.ParseExpr
 use Rattle.grammar.specs.ParseExpr.{childAt, nodeForm}
 use Rattle.grammar.specs.Written.{W, kindWords, told, ahead, after, operandsW, endW, noLast, plainLast}
 use Rattle.atoms.specs.Spot.{Spot}
-use Rattle.atoms.specs.Scopes.{Bound, inner}
+use Rattle.atoms.specs.Scopes.{Pairs, none, inner}
 use Rattle.atoms.specs.Outcome.{Put}
 use Rattle.exprs.specs.Plans.{Parsed, refused, Listed, Filled, Headed, PlannedList, factor, most}
 use Rattle.exprs.specs.declared.plan.Plan.{Plan}
@@ -34,8 +34,12 @@ use Rattle.atoms.proofs.Places.Spots.{word, spot-within}
 use Rattle.exprs.proofs.Laid.{out-ahead}
 
 -- No scope is opened.
-abbrev pub unbound : (ws : List ℕ) → Bound ws 0
-unbound ws = record { names = []; without = λ _. refl; place = λ n. absurd (n refl) }
+pub no-words : (ws : List ℕ) → drop 0 ws ≡ treesWords tnil ++ ws
+unfolding treesWords
+no-words ws = refl
+
+abbrev pub unbound : (ws : List ℕ) → Pairs ws 0 0
+unbound ws = record { names = []; pairs = tnil; rest = ws; words = no-words ws; named = none; many = refl }
 
 -- ---- a list at a place
 

@@ -18,7 +18,7 @@ use Rattle.grammar.specs.Scope.{Scope, repeated}
 use Rattle.grammar.specs.ParseExpr.{child}
 use Rattle.grammar.specs.Written.{W, told, operandsW, endW, Last, noLast, seenLast, plainLast}
 use Rattle.atoms.specs.Spot.{Spot, Seen}
-use Rattle.atoms.specs.Scopes.{IsScope, Bound, Opened, blank, pushed, inner}
+use Rattle.atoms.specs.Scopes.{Opened, Kept, pushed, deeper, inner}
 use Rattle.writing.specs.Laid.{laid}
 use Rattle.exprs.specs.Plans.{Parsed, refused, Here, Row, Running, Planned, EndsAt, EndSpot, endSize, endNesting, factor, most}
 use Rattle.exprs.specs.declared.expr.Progress.{Progress}
@@ -26,43 +26,8 @@ use Rattle.exprs.specs.declared.expr.Progress.the-variants.{Done, Refuse
 use Rattle.exprs.specs.declared.plan.Plan.{Plan}
 use Rattle.exprs.specs.declared.plan.Plan.the-variants.{Stop, Leaf, Go}
 use Rattle.exprs.specs.declared.plan.Run.{Run}
-use Rattle.atoms.specs.declared.scopes.Entry.{Entry}
-use Rattle.atoms.specs.declared.scopes.Entries.{Entries}
+use Rattle.atoms.proofs.Places.Entries.{kept-then, kept-fewer, opened-kept, pushed-kept, pushed-length, pushed-opened, deeper-least, deeper-most}
 use Rattle.exprs.proofs.Laid.{out-after, out-no, out-room, out-wider, out-empty}
-
--- ---- scopes
-
-opened-kept : (ws : List ℕ) (es : List Entry) (d : ℕ) (x : Entry) (k : ℕ) (fs : List Scope) → k ≤ d → Opened ws es k fs → Opened ws (set es d x) k fs
-opened-kept ws es d x zero [] h o = tt
-opened-kept ws es d x zero (f ∷ fs) h o = o
-opened-kept ws es d x (suc k) [] h o = o
-opened-kept ws es d x (suc k) (f ∷ fs) h o =
-    (subst (λ (e : Entry). IsScope ws e f) (sym (getD-set-other es d k x blank (λ e. omega arith))) (o .0), opened-kept ws es d x k fs (omega arith) (o .1))
-
-pub record Inside (ws : List ℕ) (s : Entries) (fs : List Scope) (d : ℕ) : Type 0 where
-  pub holds : Opened ws (s .entries) (s .depth) fs
-  pub long : length (s .entries) ≡ maxLists
-  pub shallow : s .depth ≤ d + 1
-
-pub pushed-inside : (ws : List ℕ) (s : Entries) (k n : ℕ) (b : Bound ws k) (fs : List Scope) → Opened ws (s .entries) (s .depth) fs
-    → length (s .entries) ≡ maxLists → s .depth < maxLists → Inside ws (pushed s k n) (inner k (b .names) n fs) (s .depth)
-unfolding pushed inner pick
-pushed-inside ws s k n b fs o l h = go (eqb k 0) refl
-  where
-    go : (t : Bool) → eqb k 0 ≡ t → Inside ws (pushed s k n) (inner k (b .names) n fs) (s .depth)
-    go true e = rw e (record { holds = o; long = l; shallow = omega arith })
-    go false e =
-        rw e
-        (record {
-          holds =
-              rw add-one (
-                subst (λ (x : Entry). IsScope ws x (record { names = b .names; first = n })) (sym (getD-set-same (s .entries) (s .depth) (record { names = k; first = n }) blank (omega arith)))
-                    (record { place = b .place (eqb-false k 0 e); first = refl }),
-                opened-kept ws (s .entries) (s .depth) (record { names = k; first = n }) (s .depth) fs (omega arith) o,
-              );
-          long = length-set (s .entries) (s .depth) (record { names = k; first = n }) ∙ l;
-          shallow = omega arith;
-        })
 
 -- ---- one tree more
 
@@ -86,37 +51,46 @@ no-end ws at l p (plainLast t) e n = absurd (omega (arith, e .0 .beyond))
 
 -- ---- one expression
 
-module _ (text : List ℕ) (count : ℕ) (ws : List ℕ) (at : ℕ) (s : Entries) (w next : ℕ) (h : Here text ws at s w next) (o o′ : List ℕ) where
+module _ (text : List ℕ) (count : ℕ) (ws : List ℕ) (at : ℕ) (es : List ℕ) (d w next : ℕ) (h : Here text ws at es d w next) (o o′ : List ℕ) where
   pub whole : W
   whole = told count (child text (h .spot .tree) .plainly (h .scopes) next)
 
-  pub as-stop : {r : Plan} {e : ℕ} → r ≡ Stop e → Planned text count ws at s w next h o o′ r
+  pub as-stop : {r : Plan} {e : ℕ} → r ≡ Stop e → Planned text count ws at es d w next h o o′ r
       → Parsed (told count (child text (h .spot .tree) .plainly (h .scopes) next)) w o o′ (most w next (h .spot .tree)) (Refused e)
-  as-stop p x = subst (λ (z : Plan). Planned text count ws at s w next h o o′ z) p x
+  as-stop p x = subst (λ (z : Plan). Planned text count ws at es d w next h o o′ z) p x
 
-  pub as-leaf : {r : Plan} {u : ℕ} → r ≡ Leaf u → Planned text count ws at s w next h o o′ r
+  pub as-leaf : {r : Plan} {u : ℕ} → r ≡ Leaf u → Planned text count ws at es d w next h o o′ r
       → Parsed (told count (child text (h .spot .tree) .plainly (h .scopes) next)) w o o′ (most w next (h .spot .tree)) (Done u next)
-  as-leaf p x = subst (λ (z : Plan). Planned text count ws at s w next h o o′ z) p x
+  as-leaf p x = subst (λ (z : Plan). Planned text count ws at es d w next h o o′ z) p x
 
-  pub as-run : {r : Plan} {g : Run} → r ≡ Go g → Planned text count ws at s w next h o o′ r
-      → Running text count ws at (s .depth) next (h .scopes) (told count (child text (h .spot .tree) .plainly (h .scopes) next)) w o o′ (most w next (h .spot .tree)) g
-  as-run p x = subst (λ (z : Plan). Planned text count ws at s w next h o o′ z) p x
+  pub as-run : {r : Plan} {g : Run} → r ≡ Go g → Planned text count ws at es d w next h o o′ r
+      → Running text count ws at d next (h .scopes) (told count (child text (h .spot .tree) .plainly (h .scopes) next)) w o o′ (most w next (h .spot .tree)) g
+  as-run p x = subst (λ (z : Plan). Planned text count ws at es d w next h o o′ z) p x
 
-  module _ (g : Run) (x : Running text count ws at (s .depth) next (h .scopes) (told count (child text (h .spot .tree) .plainly (h .scopes) next)) w o o′ (most w next (h .spot .tree)) g) (s′ : Entries) (is : s′ ≡ pushed s (g .names) next) where
+  module _ (g : Run) (x : Running text count ws at d next (h .scopes) (told count (child text (h .spot .tree) .plainly (h .scopes) next)) w o o′ (most w next (h .spot .tree)) g) (es₁ : List ℕ) (d₁ : ℕ) (is : es₁ ≡ pushed es d (g .names) (g .fresh) next) (deep : d₁ ≡ deeper d (g .names)) where
     -- the scopes inside
-    pub inside : Inside ws s′ (inner (g .names) (x .bind .names) next (h .scopes)) (s .depth)
-    inside = rw is (pushed-inside ws s (g .names) next (x .bind) (h .scopes) (h .holds) (h .long) (omega (arith, x .shallow)))
+    pub inside : Opened ws es₁ d₁ (inner (g .names) (x .bind .names) next (h .scopes))
+    inside = rw (is, deep) (pushed-opened es d (g .names) (g .fresh) next ws (x .bind) (h .scopes) (h .holds) (omega (arith, x .shallow, h .long)))
 
-    abbrev pub run-row : Row text ws (g .first) (g .have) s′ (g .words) (next + g .fresh)
+    pub inside-length : length es₁ ≡ length es
+    inside-length = ap length is ∙ pushed-length es d (g .names) (g .fresh) next
+
+    pub inside-most : d₁ ≤ d + 1
+    inside-most = omega (arith, deeper-most es d (g .names) (g .fresh) next)
+
+    pub inside-kept : {es₂ : List ℕ} → Kept es₁ es₂ d₁ → Kept es es₂ d
+    inside-kept k = kept-then (rw is (pushed-kept es d (g .names) (g .fresh) next)) (kept-fewer d (omega (arith, deeper-least es d (g .names) (g .fresh) next)) k)
+
+    abbrev pub run-row : Row text ws (g .first) (g .have) es₁ d₁ (g .words) (next + g .fresh)
     run-row = record {
       items = x .items;
       rest = x .rest;
       words = x .words;
       many = x .many;
       scopes = inner (g .names) (x .bind .names) next (h .scopes);
-      holds = inside .holds;
-      long = inside .long;
-      shallow = omega (arith, x .shallow, inside .shallow);
+      holds = inside;
+      long = omega (arith, h .long, inside-length);
+      shallow = omega (arith, x .shallow, inside-most);
       room = omega (arith, x .room, h .room);
       bytes = h .bytes;
     }
@@ -126,9 +100,9 @@ module _ (text : List ℕ) (count : ℕ) (ws : List ℕ) (at : ℕ) (s : Entries
 
     module _ {o₁ : List ℕ} {b₁ : ℕ} {r : Progress} (y : Parsed (operandsW text count (x .items) (g .want) (inner (g .names) (x .bind .names) next (h .scopes)) (next + g .fresh)) (g .words) o′ o₁ b₁ r) where
       pub run-refused : {e : ℕ} (o₂ : List ℕ) → r ≡ Refused e → Parsed (told count (child text (h .spot .tree) .plainly (h .scopes) next)) w o o₂ (most w next (h .spot .tree)) (Refused e)
-      run-refused {e} o₂ d = x .goes o₂ (Refused e) (out-no _ (g .words) o′ o₂ _ y d)
+      run-refused {e} o₂ stop = x .goes o₂ (Refused e) (out-no _ (g .words) o′ o₂ _ y stop)
 
-      module _ {u m : ℕ} (d : r ≡ Done u m) (room : b₁ + factor * endSize (x .final) ≤ most w next (h .spot .tree)) where
+      module _ {u m : ℕ} (done : r ≡ Done u m) (room : b₁ + factor * endSize (x .final) ≤ most w next (h .spot .tree)) where
         pub last-end : (g .last ≡ 0 → ⊥) → End text ws at (g .last) (g .plain) (x .final)
         last-end n = the-end text ws at (g .last) (g .plain) (x .final) (x .ends) n
 
@@ -136,17 +110,17 @@ module _ (text : List ℕ) (count : ℕ) (ws : List ℕ) (at : ℕ) (s : Entries
           abbrev pub last-spot : Spot ws (g .last)
           last-spot = record { tree = e .tree; rest = e .place .rest; words = e .place .words }
 
-          abbrev pub last-here : {q : ℕ} → (k : Seen text (g .plain) ws (g .last) last-spot q) → Here text ws q s′ u m
-          last-here k =
+          abbrev pub last-here : {q : ℕ} → (k : Seen text (g .plain) ws (g .last) last-spot q) {es₂ : List ℕ} → Kept es₁ es₂ d₁ → length es₂ ≡ length es₁ → Here text ws q es₂ d₁ u m
+          last-here k {es₂} kept size =
               let f : endSize (x .final) ≡ length (treeWords (e .tree)) = e .size in
               let f′ : endNesting (x .final) ≡ nesting (e .tree) = e .deep in
               record {
                 spot = k .spot;
                 scopes = inner (g .names) (x .bind .names) next (h .scopes);
-                holds = inside .holds;
-                long = inside .long;
-                shallow = omega (arith, x .endShallow, inside .shallow, f′, k .shallow);
-                room = omega (arith, room, h .room, out-room y d, f, k .short);
+                holds = opened-kept ws es₁ es₂ d₁ (inner (g .names) (x .bind .names) next (h .scopes)) kept inside;
+                long = omega (arith, h .long, inside-length, size);
+                shallow = omega (arith, x .endShallow, inside-most, f′, k .shallow);
+                room = omega (arith, room, h .room, out-room y done, f, k .short);
                 bytes = h .bytes;
               }
 
@@ -156,7 +130,7 @@ module _ (text : List ℕ) (count : ℕ) (ws : List ℕ) (at : ℕ) (s : Entries
           unfolding endW pick
           last-done k {o₂} {a} z =
               let f : endSize (x .final) ≡ length (treeWords (e .tree)) = e .size in
-              x .goes o₂ a (out-after _ y d (rw (e .is count (inner (g .names) (x .bind .names) next (h .scopes)) (x .bind .names) m, k .same) (out-wider (omega (arith, room, out-room y d, f, k .short)) z)))
+              x .goes o₂ a (out-after _ y done (rw (e .is count (inner (g .names) (x .bind .names) next (h .scopes)) (x .bind .names) m, k .same) (out-wider (omega (arith, room, out-room y done, f, k .short)) z)))
 
         pub none-last : g .last ≡ 0 → x .final ≡ noLast
         none-last n = no-end ws at (g .last) (g .plain) (x .final) (x .ends) n
@@ -164,12 +138,12 @@ module _ (text : List ℕ) (count : ℕ) (ws : List ℕ) (at : ℕ) (s : Entries
         pub run-twice : g .last ≡ 0 → repeated text (x .bind .names) ≡ true
             → Parsed (told count (child text (h .spot .tree) .plainly (h .scopes) next)) w o o₁ (most w next (h .spot .tree)) (Refused 10)
         unfolding endW pick
-        run-twice n t = x .goes o₁ (Refused 10) (out-after _ y d (rw (none-last n, t) (refused refl)))
+        run-twice n t = x .goes o₁ (Refused 10) (out-after _ y done (rw (none-last n, t) (refused refl)))
 
         pub run-done : g .last ≡ 0 → repeated text (x .bind .names) ≡ false
             → Parsed (told count (child text (h .spot .tree) .plainly (h .scopes) next)) w o o₁ (most w next (h .spot .tree)) (Done u m)
         unfolding endW laid pick
-        run-done n t = x .goes o₁ (Done u m) (out-after _ y d (rw (none-last n, t) (out-empty u m o₁ _ (omega (arith, room, out-room y d)))))
+        run-done n t = x .goes o₁ (Done u m) (out-after _ y done (rw (none-last n, t) (out-empty u m o₁ _ (omega (arith, room, out-room y done)))))
 
 -- ---- some operands
 
@@ -188,23 +162,23 @@ unfolding trees
 none tnil h = refl
 none (tcons t ts) h = absurd (omega arith)
 
-pub record Going (text : List ℕ) (count : ℕ) (ws : List ℕ) (at have want : ℕ) (s : Entries) (w next : ℕ) (h : Row text ws at have s w next) (o m : List ℕ) (i p n v : ℕ) : Type 0 where
+pub record Going (text : List ℕ) (count : ℕ) (ws : List ℕ) (at have want : ℕ) (es : List ℕ) (d w next : ℕ) (h : Row text ws at have es d w next) (o m : List ℕ) (i p n v : ℕ) : Type 0 where
   pub items : Trees
   pub words : drop p ws ≡ treesWords items ++ h .rest
   pub many : have ≡ i + trees items
   pub within : i ≤ want
   pub forward : at ≤ p
-  pub shallow : s .depth + nestings items ≤ maxLists
+  pub shallow : d + nestings items ≤ maxLists
   pub room : v + n + factor * length (treesWords items) ≤ w + next + factor * length (treesWords (h .items))
   pub goes : (o″ : List ℕ) (q : Progress)
       → Parsed (operandsW text count items (want - i) (h .scopes) n) v m o″ (w + next + factor * length (treesWords (h .items))) q
       → Parsed (operandsW text count (h .items) want (h .scopes) next) w o o″ (w + next + factor * length (treesWords (h .items))) q
 
-module _ (text : List ℕ) (count : ℕ) (ws : List ℕ) (at have want : ℕ) (s : Entries) (w next : ℕ) (h : Row text ws at have s w next) (o : List ℕ) where
+module _ (text : List ℕ) (count : ℕ) (ws : List ℕ) (at have want : ℕ) (es : List ℕ) (d w next : ℕ) (h : Row text ws at have es d w next) (o : List ℕ) where
   same : (k : ℕ) → k - 0 ≡ k
   same k = omega arith
 
-  pub progress-start : Going text count ws at have want s w next h o o 0 at next w
+  pub progress-start : Going text count ws at have want es d w next h o o 0 at next w
   progress-start = record {
     items = h .items;
     words = h .words;
@@ -216,7 +190,7 @@ module _ (text : List ℕ) (count : ℕ) (ws : List ℕ) (at have want : ℕ) (s
     goes = λ o″ q x. subst (λ (k : ℕ). Parsed (operandsW text count (h .items) k (h .scopes) next) w o o″ (w + next + factor * length (treesWords (h .items))) q) (same want) x;
   }
 
-  module _ (m : List ℕ) (i p n v : ℕ) (g : Going text count ws at have want s w next h o m i p n v) where
+  module _ (m : List ℕ) (i p n v : ℕ) (g : Going text count ws at have want es d w next h o m i p n v) where
     -- all are read
     pub progress-end : want ≤ i → Parsed (operandsW text count (h .items) want (h .scopes) next) w o m (w + next + factor * length (treesWords (h .items))) (Done v n)
     unfolding operandsW laid
@@ -255,12 +229,12 @@ module _ (text : List ℕ) (count : ℕ) (ws : List ℕ) (at have want : ℕ) (s
       next-trees = ap trees (next-tree .is)
 
       module _ {q : ℕ} (k : Seen text false ws p next-spot q) where
-        abbrev pub next-here : Here text ws q s v n
-        next-here = record {
+        abbrev pub next-here : {es₁ : List ℕ} → Kept es es₁ d → length es₁ ≡ length es → Here text ws q es₁ d v n
+        next-here {es₁} kept size = record {
           spot = k .spot;
           scopes = h .scopes;
-          holds = h .holds;
-          long = h .long;
+          holds = opened-kept ws es es₁ d (h .scopes) kept (h .holds);
+          long = omega (arith, h .long, size);
           shallow = omega (arith, g .shallow, next-nesting, k .shallow, le-max-left (nesting (next-tree .first)) (nestings (next-tree .others)));
           room = omega (arith, g .room, h .room, next-size, k .short);
           bytes = h .bytes;
@@ -276,7 +250,7 @@ module _ (text : List ℕ) (count : ℕ) (ws : List ℕ) (at have want : ℕ) (s
 
         pub progress-more : {m′ : List ℕ} {r : Progress} {u f : ℕ} → Parsed (told count (child text (k .spot .tree) .plainly (h .scopes) n)) v m m′ (most v n (k .spot .tree)) r → r ≡ Done u f
             → (j : ℕ) → j ≡ length (treeWords (next-tree .first))
-            → Going text count ws at have want s w next h o m′ (i + 1) (p + j) f u
+            → Going text count ws at have want es d w next h o m′ (i + 1) (p + j) f u
         unfolding operandsW pick
         progress-more {m′} {r} {u} {f} x d j is = record {
           items = next-tree .others;

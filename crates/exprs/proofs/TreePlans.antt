@@ -18,7 +18,6 @@ use Rattle.atoms.specs.Spot.{Spot}
 use Rattle.atoms.specs.Scopes.{OpenScopes}
 use Rattle.atoms.specs.Outcome.{bound, Put}
 use Rattle.exprs.specs.Plans.{Wrote, Parsed, wrote, refused, Here, Listed, SomeList, Plans, Planned, PlannedList, most}
-use Rattle.atoms.specs.declared.scopes.Entries.{Entries}
 use Rattle.exprs.specs.declared.expr.Progress.the-variants.{Done, Refused}
 use Rattle.exprs.specs.declared.plan.Plan.{Plan}
 use Rattle.exprs.specs.declared.plan.Plan.the-variants.{Stop, Leaf}
@@ -57,19 +56,19 @@ module _ {ws : List ℕ} {at : ℕ} (p : Spot ws at) where
   pub five-there : getD ws at 0 ≡ 18 → at + 5 ≤ length ws
   five-there n = omega (arith, spot-within p, five-words (p .tree) (p .rest) (sym (word0 p) ∙ n))
 
-module _ (text : List ℕ) (ws : List ℕ) (at : ℕ) (s : Entries) (w next : ℕ) (h : Here text ws at s w next) where
+module _ (text : List ℕ) (ws : List ℕ) (at : ℕ) (es : List ℕ) (d w next : ℕ) (h : Here text ws at es d w next) where
   -- The scopes that are open.
-  abbrev pub here-scopes : OpenScopes ws s
-  here-scopes = record { scopes = h .scopes; holds = h .holds; long = h .long; within = omega (arith, h .shallow) }
+  abbrev pub here-scopes : OpenScopes ws es d
+  here-scopes = record { scopes = h .scopes; holds = h .holds; within = omega (arith, h .shallow, h .long) }
 
-  list-of : (t : Tree) (rest : List ℕ) → drop at ws ≡ treeWords t ++ rest → s .depth + nesting t ≤ maxLists → most w next t ≤ bound → getD (treeWords t ++ rest) 0 0 ≡ 21 → SomeList text ws at w next
+  list-of : (t : Tree) (rest : List ℕ) → drop at ws ≡ treeWords t ++ rest → d + nesting t ≤ maxLists → most w next t ≤ bound → getD (treeWords t ++ rest) 0 0 ≡ 21 → SomeList text ws at w next
   unfolding treeWords atomWords
-  list-of (atom (symbol x)) rest e d r k = absurd (omega arith)
-  list-of (atom (quoted x)) rest e d r k = absurd (omega arith)
-  list-of (atom (integer x)) rest e d r k = absurd (omega arith)
-  list-of (atom (decimal x)) rest e d r k = absurd (omega arith)
-  list-of (atom (boolean x)) rest e d r k = absurd (omega arith)
-  list-of (list ts) rest e d r k = record { items = ts; listed = record { rest = rest; words = e; scopes = h .scopes; depth = s .depth; shallow = d; room = r; bytes = h .bytes } }
+  list-of (atom (symbol x)) rest e l r k = absurd (omega arith)
+  list-of (atom (quoted x)) rest e l r k = absurd (omega arith)
+  list-of (atom (integer x)) rest e l r k = absurd (omega arith)
+  list-of (atom (decimal x)) rest e l r k = absurd (omega arith)
+  list-of (atom (boolean x)) rest e l r k = absurd (omega arith)
+  list-of (list ts) rest e l r k = record { items = ts; listed = record { rest = rest; words = e; scopes = h .scopes; depth = d; shallow = l; room = r; bytes = h .bytes } }
 
   pub here-list : getD ws at 0 ≡ 21 → SomeList text ws at w next
   here-list k = list-of (h .spot .tree) (h .spot .rest) (h .spot .words) (h .shallow) (h .room) (sym (word0 (h .spot)) ∙ k)
@@ -77,22 +76,22 @@ module _ (text : List ℕ) (ws : List ℕ) (at : ℕ) (s : Entries) (w next : �
   module _ (count : ℕ) (o o′ : List ℕ) (r : Plan) where
     -- What a tree is planned as.
     abbrev PlanOf : Tree → Plan → Type 0
-    PlanOf t p = Plans text count ws at (s .depth) next (h .scopes) (told count (ParseExpr.child text t .plainly (h .scopes) next)) w o o′ (most w next t) p
+    PlanOf t p = Plans text count ws at d next (h .scopes) (told count (ParseExpr.child text t .plainly (h .scopes) next)) w o o′ (most w next t) p
 
-    plan-list : (t : Tree) (rest : List ℕ) → drop at ws ≡ treeWords t ++ rest → s .depth + nesting t ≤ maxLists → most w next t ≤ bound → getD (treeWords t ++ rest) 0 0 ≡ 21
+    plan-list : (t : Tree) (rest : List ℕ) → drop at ws ≡ treeWords t ++ rest → d + nesting t ≤ maxLists → most w next t ≤ bound → getD (treeWords t ++ rest) 0 0 ≡ 21
         → ((items : Trees) (h′ : Listed text ws at w next items) → PlannedList text count ws at w next items h′ (told count (ParseExpr.listExpr text (ParseExpr.children text items) (h′ .scopes) next)) o o′ r)
         → PlanOf t r
     unfolding treeWords atomWords ParseExpr.child ParseExpr.listChild
-    plan-list (atom (symbol x)) rest e d m k f = absurd (omega arith)
-    plan-list (atom (quoted x)) rest e d m k f = absurd (omega arith)
-    plan-list (atom (integer x)) rest e d m k f = absurd (omega arith)
-    plan-list (atom (decimal x)) rest e d m k f = absurd (omega arith)
-    plan-list (atom (boolean x)) rest e d m k f = absurd (omega arith)
-    plan-list (list ts) rest e d m k f = f ts (record { rest = rest; words = e; scopes = h .scopes; depth = s .depth; shallow = d; room = m; bytes = h .bytes })
+    plan-list (atom (symbol x)) rest e l m k f = absurd (omega arith)
+    plan-list (atom (quoted x)) rest e l m k f = absurd (omega arith)
+    plan-list (atom (integer x)) rest e l m k f = absurd (omega arith)
+    plan-list (atom (decimal x)) rest e l m k f = absurd (omega arith)
+    plan-list (atom (boolean x)) rest e l m k f = absurd (omega arith)
+    plan-list (list ts) rest e l m k f = f ts (record { rest = rest; words = e; scopes = h .scopes; depth = d; shallow = l; room = m; bytes = h .bytes })
 
     pub planned-list : getD ws at 0 ≡ 21
         → ((items : Trees) (h′ : Listed text ws at w next items) → PlannedList text count ws at w next items h′ (told count (ParseExpr.listExpr text (ParseExpr.children text items) (h′ .scopes) next)) o o′ r)
-        → Planned text count ws at s w next h o o′ r
+        → Planned text count ws at es d w next h o o′ r
     planned-list k f = plan-list (h .spot .tree) (h .spot .rest) (h .spot .words) (h .shallow) (h .room) (sym (word0 (h .spot)) ∙ k) f
 
   module _ (count : ℕ) (o o′ : List ℕ) (u : ℕ) where
@@ -113,7 +112,7 @@ module _ (text : List ℕ) (ws : List ℕ) (at : ℕ) (s : Entries) (w next : �
     plan-symbol (atom (boolean x)) rest e k p l = absurd (omega arith)
     plan-symbol (list ts) rest e k p l = absurd (omega arith)
 
-    pub planned-symbol : getD ws at 0 ≡ 16 → Put o w (exprWords count (Scope.symbolExpr text (record { start = getD ws (at + 1) 0; len = getD ws (at + 2) 0 }) (h .scopes))) o′ u → u ≤ w + 3 → Planned text count ws at s w next h o o′ (Leaf u)
+    pub planned-symbol : getD ws at 0 ≡ 16 → Put o w (exprWords count (Scope.symbolExpr text (record { start = getD ws (at + 1) 0; len = getD ws (at + 2) 0 }) (h .scopes))) o′ u → u ≤ w + 3 → Planned text count ws at es d w next h o o′ (Leaf u)
     planned-symbol k p l = plan-symbol (h .spot .tree) (h .spot .rest) (h .spot .words) (sym (word0 (h .spot)) ∙ k) p l
 
     plan-integer : (t : Tree) (rest : List ℕ) → drop at ws ≡ treeWords t ++ rest → getD (treeWords t ++ rest) 0 0 ≡ 18
@@ -128,7 +127,7 @@ module _ (text : List ℕ) (ws : List ℕ) (at : ℕ) (s : Entries) (w next : �
     plan-integer (list ts) rest e k p l = absurd (omega arith)
 
     pub planned-integer : getD ws at 0 ≡ 18 → Put o w (exprWords count (numeral (record { a = getD ws (at + 1) 0; b = getD ws (at + 2) 0; c = getD ws (at + 3) 0; d = getD ws (at + 4) 0 }))) o′ u → u ≤ w + 6
-        → Planned text count ws at s w next h o o′ (Leaf u)
+        → Planned text count ws at es d w next h o o′ (Leaf u)
     planned-integer k p l = plan-integer (h .spot .tree) (h .spot .rest) (h .spot .words) (sym (word0 (h .spot)) ∙ k) p l
 
     plan-boolean : (t : Tree) (rest : List ℕ) → drop at ws ≡ treeWords t ++ rest → getD (treeWords t ++ rest) 0 0 ≡ 20 → Put o w (33 ∷ getD ws (at + 1) 0 ∷ []) o′ u → LeafOf t
@@ -140,7 +139,7 @@ module _ (text : List ℕ) (ws : List ℕ) (at : ℕ) (s : Entries) (w next : �
     plan-boolean (atom (boolean x)) rest e k p = leaf-made (atom (boolean x)) (rw (sym (at-one (atom (boolean x)) rest e 1)) p) (omega (arith, p .is))
     plan-boolean (list ts) rest e k p = absurd (omega arith)
 
-    pub planned-boolean : getD ws at 0 ≡ 20 → Put o w (33 ∷ getD ws (at + 1) 0 ∷ []) o′ u → Planned text count ws at s w next h o o′ (Leaf u)
+    pub planned-boolean : getD ws at 0 ≡ 20 → Put o w (33 ∷ getD ws (at + 1) 0 ∷ []) o′ u → Planned text count ws at es d w next h o o′ (Leaf u)
     planned-boolean k p = plan-boolean (h .spot .tree) (h .spot .rest) (h .spot .words) (sym (word0 (h .spot)) ∙ k) p
 
     plan-quoted : (t : Tree) (rest : List ℕ) → drop at ws ≡ treeWords t ++ rest → getD (treeWords t ++ rest) 0 0 ≡ 17 → Put o w (34 ∷ getD ws (at + 1) 0 ∷ getD ws (at + 2) 0 ∷ []) o′ u → LeafOf t
@@ -152,7 +151,7 @@ module _ (text : List ℕ) (ws : List ℕ) (at : ℕ) (s : Entries) (w next : �
     plan-quoted (atom (boolean x)) rest e k p = absurd (omega arith)
     plan-quoted (list ts) rest e k p = absurd (omega arith)
 
-    pub planned-quoted : getD ws at 0 ≡ 17 → Put o w (34 ∷ getD ws (at + 1) 0 ∷ getD ws (at + 2) 0 ∷ []) o′ u → Planned text count ws at s w next h o o′ (Leaf u)
+    pub planned-quoted : getD ws at 0 ≡ 17 → Put o w (34 ∷ getD ws (at + 1) 0 ∷ getD ws (at + 2) 0 ∷ []) o′ u → Planned text count ws at es d w next h o o′ (Leaf u)
     planned-quoted k p = plan-quoted (h .spot .tree) (h .spot .rest) (h .spot .words) (sym (word0 (h .spot)) ∙ k) p
 
   module _ (count : ℕ) (o o′ : List ℕ) where
@@ -167,5 +166,5 @@ module _ (text : List ℕ) (ws : List ℕ) (at : ℕ) (s : Entries) (w next : �
     plan-decimal (atom (boolean x)) rest e a b c d f = absurd (d e)
     plan-decimal (list ts) rest e a b c d f = absurd (a e)
 
-    pub planned-decimal : (getD ws at 0 ≡ 21 → ⊥) → (getD ws at 0 ≡ 16 → ⊥) → (getD ws at 0 ≡ 18 → ⊥) → (getD ws at 0 ≡ 20 → ⊥) → (getD ws at 0 ≡ 17 → ⊥) → Planned text count ws at s w next h o o′ (Stop 9)
+    pub planned-decimal : (getD ws at 0 ≡ 21 → ⊥) → (getD ws at 0 ≡ 16 → ⊥) → (getD ws at 0 ≡ 18 → ⊥) → (getD ws at 0 ≡ 20 → ⊥) → (getD ws at 0 ≡ 17 → ⊥) → Planned text count ws at es d w next h o o′ (Stop 9)
     planned-decimal a b c d f = plan-decimal (h .spot .tree) (h .spot .rest) (word0 (h .spot)) a b c d f

@@ -12,10 +12,9 @@ use Rattle.grammar.specs.Scope.{Scope}
 use Rattle.grammar.specs.ParseExpr.{child}
 use Rattle.grammar.specs.Written.{W, told, after, operandsW, endW, Last, noLast, seenLast, plainLast}
 use Rattle.atoms.specs.Spot.{Spot}
-use Rattle.atoms.specs.Scopes.{Bound, Opened, inner}
+use Rattle.atoms.specs.Scopes.{Pairs, Opened, inner, slots}
 use Rattle.writing.specs.Laid.{laid}
 use Rattle.atoms.specs.Outcome.{bound}
-use Rattle.atoms.specs.declared.scopes.Entries.{Entries}
 use Rattle.exprs.specs.declared.expr.Progress.{Progress}
 use Rattle.exprs.specs.declared.expr.Progress.the-variants.{Done, Refused}
 use Rattle.exprs.specs.declared.plan.Plan.{Plan}
@@ -42,25 +41,25 @@ abbrev pub most : ℕ → ℕ → Tree → ℕ
 most w next t = w + next + factor * length (treeWords t)
 
 -- Where a tree stands, the scopes round it, and room for its words and numbers.
-pub record Here (text ws : List ℕ) (at : ℕ) (s : Entries) (w next : ℕ) : Type 0 where
+pub record Here (text ws : List ℕ) (at : ℕ) (es : List ℕ) (d w next : ℕ) : Type 0 where
   pub spot : Spot ws at
   pub scopes : List Scope
-  pub holds : Opened ws (s .entries) (s .depth) scopes
-  pub long : length (s .entries) ≡ maxLists
-  pub shallow : s .depth + nesting (spot .tree) ≤ maxLists
+  pub holds : Opened ws es d scopes
+  pub long : slots ≤ length es
+  pub shallow : d + nesting (spot .tree) ≤ maxLists
   pub room : most w next (spot .tree) ≤ bound
   pub bytes : length text ≤ maxBytes
 
 -- The same of some trees, one after the other.
-pub record Row (text ws : List ℕ) (at have : ℕ) (s : Entries) (w next : ℕ) : Type 0 where
+pub record Row (text ws : List ℕ) (at have : ℕ) (es : List ℕ) (d w next : ℕ) : Type 0 where
   pub items : Trees
   pub rest : List ℕ
   pub words : drop at ws ≡ treesWords items ++ rest
   pub many : have ≡ trees items
   pub scopes : List Scope
-  pub holds : Opened ws (s .entries) (s .depth) scopes
-  pub long : length (s .entries) ≡ maxLists
-  pub shallow : s .depth + nestings items ≤ maxLists
+  pub holds : Opened ws es d scopes
+  pub long : slots ≤ length es
+  pub shallow : d + nestings items ≤ maxLists
   pub room : w + next + factor * length (treesWords items) ≤ bound
   pub bytes : length text ≤ maxBytes
 
@@ -123,7 +122,7 @@ pub record Running (text : List ℕ) (count : ℕ) (ws : List ℕ) (at depth nex
   pub beyond : at < r .first
   pub final : Last
   pub ends : EndsAt ws at (r .last) (r .plain) final
-  pub bind : Bound ws (r .names)
+  pub bind : Pairs ws (r .names) (r .fresh)
   pub shallow : depth + 1 + nestings items ≤ maxLists
   pub endShallow : depth + 1 + endNesting final ≤ maxLists
   pub room : r .words + (next + r .fresh) + factor * length (treesWords items) + factor * endSize final ≤ b
@@ -139,9 +138,9 @@ Plans text count ws at depth next sc x w o o′ b (Leaf u) = Parsed x w o o′ b
 Plans text count ws at depth next sc x w o o′ b (Go r) = Running text count ws at depth next sc x w o o′ b r
 
 -- The plan of a tree.
-abbrev pub Planned : (text : List ℕ) (count : ℕ) (ws : List ℕ) (at : ℕ) (s : Entries) (w next : ℕ) (h : Here text ws at s w next) (o o′ : List ℕ) → Plan → Type 0
-Planned text count ws at s w next h o o′ r =
-    Plans text count ws at (s .depth) next (h .scopes) (told count (child text (h .spot .tree) .plainly (h .scopes) next)) w o o′ (most w next (h .spot .tree)) r
+abbrev pub Planned : (text : List ℕ) (count : ℕ) (ws : List ℕ) (at : ℕ) (es : List ℕ) (d w next : ℕ) (h : Here text ws at es d w next) (o o′ : List ℕ) → Plan → Type 0
+Planned text count ws at es d w next h o o′ r =
+    Plans text count ws at d next (h .scopes) (told count (child text (h .spot .tree) .plainly (h .scopes) next)) w o o′ (most w next (h .spot .tree)) r
 
 -- The plan of a list, which is to be written as x.
 abbrev pub PlannedList : (text : List ℕ) (count : ℕ) (ws : List ℕ) (at w next : ℕ) (items : Trees) (h : Listed text ws at w next items) (x : W) (o o′ : List ℕ) → Plan → Type 0

@@ -47,7 +47,7 @@ pub fn exists_plan(
             want: 1,
             last: 0,
             plain: false,
-            names: vars,
+            names: first,
             fresh: long(n),
             words: u,
         }),

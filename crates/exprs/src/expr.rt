@@ -4,6 +4,7 @@ ghost use lib.ListN.{length};
 ghost use Rattle.reading.specs.Tree.{treesWords};
 ghost use Rattle.grammar.specs.ParseExpr.{child};
 ghost use Rattle.grammar.specs.Written.{told, operandsW};
+ghost use Rattle.atoms.specs.Scopes.{Kept};
 ghost use Rattle.exprs.specs.Plans.{Parsed, Here, Row, factor, most};
 use crate::plan::Plan;
 use crate::plan::Run;
@@ -11,8 +12,8 @@ use crate::plan::planned;
 use atoms::place::reach;
 use atoms::place::through;
 use atoms::place::words_at;
-use atoms::scopes::Entries;
 use atoms::scopes::opened;
+use atoms::scopes::size;
 use atoms::scopes::twice;
 
 // The place behind the words written and the next fresh number, or a refusal.
@@ -27,26 +28,28 @@ pub fn expr(
     text: &[u8],
     tree: &[u32],
     at: usize,
-    scopes: Entries,
+    scopes: &mut [u64],
+    depth: usize,
     count: u64,
     next: u64,
     out: &mut [u32],
     w: usize,
 ) -> Progress
-    requires { ⌜ Here (now text) (now tree) at scopes w next ⌝ }
-    ensures { λ r. ⌜ ((h : Here (now (text .entry)) (now (tree .entry)) at scopes w next) → Parsed (told count (child (now (text .entry)) (h .spot .tree) .plainly (h .scopes) next)) w (now (out .entry)) (now (out .exit)) (most w next (h .spot .tree)) r) ⌝ }
+    requires { ⌜ Here (now text) (now tree) at (now scopes) depth w next ⌝ }
+    ensures { λ r. ⌜ (Kept (now (scopes .entry)) (now (scopes .exit)) depth) × ((h : Here (now (text .entry)) (now (tree .entry)) at (now (scopes .entry)) depth w next) → Parsed (told count (child (now (text .entry)) (h .spot .tree) .plainly (h .scopes) next)) w (now (out .entry)) (now (out .exit)) (most w next (h .spot .tree)) r) ⌝ }
 {
-    match planned(text, tree, at, scopes, count, next, out, w) {
+    match planned(text, tree, at, scopes, depth, count, next, out, w) {
         Plan::Stop(e) => Progress::Refused(e),
         Plan::Leaf(u) => Progress::Done(u, next),
         Plan::Go(run) => {
-            let inner = opened(scopes, run.names, next);
+            let inner = opened(scopes, depth, run.names, run.fresh, next);
             match operands(
                 text,
                 tree,
                 run.first,
                 run.have,
                 run.want,
+                scopes,
                 inner,
                 count,
                 next + run.fresh,
@@ -57,9 +60,9 @@ pub fn expr(
                 Progress::Done(u, m) => {
                     if run.last != 0 {
                         let q = reach(text, tree, run.last, run.plain);
-                        return expr(text, tree, q, inner, count, m, out, u);
+                        return expr(text, tree, q, scopes, inner, count, m, out, u);
                     }
-                    if twice(text, tree, run.names) {
+                    if twice(text, tree, run.names, size(run.fresh)) {
                         return Progress::Refused(10);
                     }
                     Progress::Done(u, m)
@@ -76,14 +79,15 @@ fn operands(
     at: usize,
     have: usize,
     want: usize,
-    scopes: Entries,
+    scopes: &mut [u64],
+    depth: usize,
     count: u64,
     next: u64,
     out: &mut [u32],
     w: usize,
 ) -> Progress
-    requires { ⌜ Row (now text) (now tree) at have scopes w next ⌝ }
-    ensures { λ r. ⌜ ((h : Row (now (text .entry)) (now (tree .entry)) at have scopes w next) → Parsed (operandsW (now (text .entry)) count (h .items) want (h .scopes) next) w (now (out .entry)) (now (out .exit)) (w + next + factor * length (treesWords (h .items))) r) ⌝ }
+    requires { ⌜ Row (now text) (now tree) at have (now scopes) depth w next ⌝ }
+    ensures { λ r. ⌜ (Kept (now (scopes .entry)) (now (scopes .exit)) depth) × ((h : Row (now (text .entry)) (now (tree .entry)) at have (now (scopes .entry)) depth w next) → Parsed (operandsW (now (text .entry)) count (h .items) want (h .scopes) next) w (now (out .entry)) (now (out .exit)) (w + next + factor * length (treesWords (h .items))) r) ⌝ }
 {
     let mut i: usize = 0;
     let mut p = at;
@@ -94,7 +98,7 @@ fn operands(
             return Progress::Refused(8);
         }
         let q = through(text, tree, p);
-        match expr(text, tree, q, scopes, count, n, out, v) {
+        match expr(text, tree, q, scopes, depth, count, n, out, v) {
             Progress::Refused(e) => {
                 return Progress::Refused(e);
             }

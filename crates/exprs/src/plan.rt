@@ -7,14 +7,13 @@ use atoms::expr_words::VarName;
 use atoms::expr_words::put_name;
 use atoms::expr_words::put_numeral;
 use atoms::expr_words::put2;
-use atoms::scopes::Entries;
 use atoms::variable::variable;
 use lexing::quad::Quad;
 use sorts::tree;
 
 // Operands that are left to read: where the first is, how many there are, how many are wanted; where one more stands behind them and
-// whether it is not seen through; the place of the names of a new scope, and how many numbers it takes; the place behind the words that
-// are written.
+// whether it is not seen through; the place of the first pair of a new scope, 0 if there is none, and how many pairs it has; the place behind
+// the words that are written.
 pub struct Run {
     pub first: usize,
     pub have: usize,
@@ -38,14 +37,15 @@ pub fn planned(
     text: &[u8],
     tree: &[u32],
     at: usize,
-    scopes: Entries,
+    scopes: &[u64],
+    depth: usize,
     count: u64,
     next: u64,
     out: &mut [u32],
     w: usize,
 ) -> Plan
-    requires { ⌜ Here (now text) (now tree) at scopes w next ⌝ }
-    ensures { λ r. ⌜ ((h : Here (now (text .entry)) (now (tree .entry)) at scopes w next) → Planned (now (text .entry)) count (now (tree .entry)) at scopes w next h (now (out .entry)) (now (out .exit)) r) ⌝ }
+    requires { ⌜ Here (now text) (now tree) at (now scopes) depth w next ⌝ }
+    ensures { λ r. ⌜ ((h : Here (now (text .entry)) (now (tree .entry)) at (now (scopes .entry)) depth w next) → Planned (now (text .entry)) count (now (tree .entry)) at (now (scopes .entry)) depth w next h (now (out .entry)) (now (out .exit)) r) ⌝ }
 {
     let kind = tree[at];
     if kind == tree::LIST {
@@ -53,7 +53,7 @@ pub fn planned(
     }
     if kind == tree::SYMBOL {
         let name = VarName(tree[at + 1], tree[at + 2]);
-        return Plan::Leaf(variable(text, tree, name, scopes, count, out, w));
+        return Plan::Leaf(variable(text, tree, name, scopes, depth, count, out, w));
     }
     if kind == tree::INTEGER {
         let q = Quad {

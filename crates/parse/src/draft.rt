@@ -10,11 +10,11 @@ ghost use Rattle.parse.specs.PredWords.{Whole};
 ghost use Rattle.parse.specs.DraftWords.{BodyHere, bodyOf, BodyDone, PartsDone, judgedBy, AttemptedDraft, clearedBy};
 use crate::Drafted;
 use crate::ending::MAX_NUMBER;
-use crate::ending::no_scopes;
 use atoms::expr_words::put1;
 use atoms::place::Node;
 use atoms::place::node_at;
 use atoms::place::words_at;
+use atoms::scopes::SLOTS;
 use atoms::scopes::opened;
 use atoms::scopes::twice;
 use exprs::binders::binder_words;
@@ -54,24 +54,26 @@ fn all_pairs(tree: &[u32], at: usize, n: usize) -> bool
 fn body_at(
     text: &[u8],
     tree: &[u32],
-    params: usize,
+    pairs: usize,
+    n: usize,
     body: usize,
     count: u64,
-    next: u64,
     draft: &mut [u32],
     u: usize,
 ) -> Parts
-    requires { ⌜ BodyHere (now text) (now tree) params body next ⌝ }
-    ensures { λ r. ⌜ ((h : BodyHere (now (text .entry)) (now (tree .entry)) params body next) → BodyDone count u (now (draft .entry)) (now (draft .exit)) (bodyOf (now (text .entry)) (h .spot .tree) (h .names) next) r) ⌝ }
+    requires { ⌜ BodyHere (now text) (now tree) pairs n body ⌝ }
+    ensures { λ r. ⌜ ((h : BodyHere (now (text .entry)) (now (tree .entry)) pairs n body) → BodyDone count u (now (draft .entry)) (now (draft .exit)) (bodyOf (now (text .entry)) (h .spot .tree) (h .names) n) r) ⌝ }
 {
-    let scopes = opened(no_scopes(), params, 0);
-    match expr(text, tree, body, scopes, count, next, draft, 0) {
+    let next = long(n);
+    let mut scopes = [0u64; SLOTS];
+    let depth = opened(&mut scopes, 0, pairs, next, 0);
+    match expr(text, tree, body, &mut scopes, depth, count, next, draft, 0) {
         Progress::Refused(e) => Parts::Refused(e),
-        Progress::Done(w, n) => {
-            if twice(text, tree, params) {
+        Progress::Done(w, m) => {
+            if twice(text, tree, pairs, n) {
                 return Parts::Refused(10);
             }
-            Parts::Done(u, w, n)
+            Parts::Done(u, w, m)
         }
     }
 }
@@ -100,7 +102,7 @@ fn parts_at(text: &[u8], tree: &[u32], count: u64, draft: &mut [u32], out: &mut 
         Answer::Refused(e) => Parts::Refused(e),
         Answer::Done(u) => {
             let body = params + words_at(tree, params);
-            body_at(text, tree, params, body, count, long(m), draft, u)
+            body_at(text, tree, pairs, m, body, count, draft, u)
         }
     }
 }

@@ -1,28 +1,13 @@
-// What an operation that takes fresh numbers begins with, and what it decides in the end.
+// What an operation that takes fresh numbers decides in the end.
 ghost use mathlib.Core.Path.{_≡_};
-ghost use lib.ListN.{length};
-ghost use Rattle.reading.specs.Limits.{maxLists};
 ghost use Rattle.reading.specs.Answer.{zeros};
 ghost use Rattle.parse.specs.Answers.{finishedBy, closedBy};
 use crate::Counted;
-use atoms::scopes::Entries;
-use atoms::scopes::Entry;
 use exprs::expr::Progress;
 use lexing::words::clear;
 
 // The largest count that a reader holds.
 pub const MAX_NUMBER: u64 = 18446744073709551615;
-
-// No scope is open.
-pub fn no_scopes() -> Entries
-    ensures { λ r. ⌜ (r .depth ≡ 0) × (length (r .entries) ≡ maxLists) ⌝ }
-{
-    let none = Entry { names: 0, first: 0 };
-    Entries {
-        entries: [none; 64],
-        depth: 0,
-    }
-}
 
 // 13 if the numbers run out, then 7 if there is room for fewer words.
 pub fn finished(p: Progress, count: u64, room: usize) -> Counted

@@ -8,8 +8,8 @@ ghost use Rattle.parse.specs.Answers.{sortSaid, exprSaid, bindSaid, Atte
 use crate::Counted;
 use crate::ending::close;
 use crate::ending::finished;
-use crate::ending::no_scopes;
 use crate::preds::bind_at;
+use atoms::scopes::SLOTS;
 use exprs::expr::expr;
 use lexing::words::clear;
 use sorts::Answer;
@@ -59,7 +59,8 @@ fn attempt_expression(text: &[u8], tree: &mut [u32], out: &mut [u32], count: u64
     match read_one(text, tree) {
         text::Answer::Refused(n) => Counted::Refused(n),
         text::Answer::Accepted(words, _) => {
-            let p = expr(text, &tree[..words], 0, no_scopes(), count, 0, out, 0);
+            let mut scopes = [0u64; SLOTS];
+            let p = expr(text, &tree[..words], 0, &mut scopes, 0, count, 0, out, 0);
             finished(p, count, out.len())
         }
     }

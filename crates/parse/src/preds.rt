@@ -6,10 +6,11 @@ ghost use Rattle.grammar.specs.Expr.{bindItems};
 ghost use Rattle.grammar.specs.ParseExpr.{child, children, symbols};
 ghost use Rattle.grammar.specs.ParseBind.{parseBind};
 ghost use Rattle.grammar.specs.Written.{toldOf};
+ghost use lib.ListN.{length};
+ghost use Rattle.atoms.specs.Scopes.{slots};
 ghost use Rattle.atoms.specs.Outcome.{bound, Put, OutcomeAt};
 ghost use Rattle.exprs.specs.Plans.{Parsed};
 ghost use Rattle.parse.specs.PredWords.{Whole, PredHere, KvarHere, countedPreds, Stepped, NameRow, namesWords};
-use crate::ending::no_scopes;
 use atoms::expr_words::NAMED;
 use atoms::expr_words::VarName;
 use atoms::expr_words::put_name;
@@ -20,6 +21,7 @@ use atoms::place::Node;
 use atoms::place::node_at;
 use atoms::place::through;
 use atoms::place::words_at;
+use atoms::scopes::SLOTS;
 use atoms::sort_at::sort_at;
 use exprs::expr::Progress;
 use exprs::expr::expr;
@@ -94,12 +96,13 @@ fn pred(
     text: &[u8],
     tree: &[u32],
     at: usize,
+    scopes: &mut [u64],
     count: u64,
     next: u64,
     out: &mut [u32],
     w: usize,
 ) -> Step
-    requires { ⌜ PredHere (now text) (now tree) at w next ⌝ }
+    requires { ⌜ (PredHere (now text) (now tree) at w next) × (slots ≤ length (now scopes)) ⌝ }
     ensures { λ r. ⌜ ((h : PredHere (now (text .entry)) (now (tree .entry)) at w next) → Stepped (now (text .entry)) count (h .spot .tree) at w next (now (out .entry)) (now (out .exit)) r) ⌝ }
 {
     let Node::List(n, first) = node_at(tree, at) else {
@@ -119,7 +122,7 @@ fn pred(
     }
     let v = put1(out, w, EXPR);
     let q = through(text, tree, at);
-    match expr(text, tree, q, no_scopes(), count, next, out, v) {
+    match expr(text, tree, q, scopes, 0, count, next, out, v) {
         Progress::Refused(e) => Step::Refused(e),
         Progress::Done(u, m) => Step::On(at + words_at(tree, at), u, m, 1),
     }
@@ -135,8 +138,9 @@ fn preds(text: &[u8], tree: &[u32], at: usize, count: u64, out: &mut [u32], w: u
     let mut v = w + 1;
     let mut next: u64 = 0;
     let mut n: u32 = 0;
+    let mut scopes = [0u64; SLOTS];
     while p < end {
-        match pred(text, tree, p, count, next, out, v) {
+        match pred(text, tree, p, &mut scopes, count, next, out, v) {
             Step::Refused(e) => {
                 return Progress::Refused(e);
             }

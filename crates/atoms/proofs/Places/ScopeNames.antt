@@ -1,5 +1,5 @@
 -- The names of scopes: walks over the pairs of a list of binders, and searches in the open scopes.
-use Prim.Native.Nat.{ℕ, zero, suc, _+_, _-_, _%_, _^_, _<_, _≤_}
+use Prim.Native.Nat.{ℕ, zero, suc, _+_, _*_, _-_, _%_, _^_, _<_, _≤_}
 use mathlib.Core.Path.{_≡_, refl, sym, ap, _∙_}
 use mathlib.Core.Bool.{Bool, true, false}
 use mathlib.Core.List.{List, [], _∷_, _++_, append-assoc}
@@ -9,15 +9,12 @@ use lib.Dec.{ltb}
 use lib.ListN.{length, getD, drop}
 use lib.Seq.{drop-drop, drop-at}
 use borrow.Author.Tests.{lt-ltb, le-ltb, ltb-true, ltb-false}
-use Rattle.reading.specs.Limits.{maxLists}
 use Rattle.reading.specs.Pick.{pick}
 use Rattle.reading.specs.Bytes.{Span, nothing, just}
 use Rattle.reading.specs.Tree.{Tree, Trees, atomWords, symbol, atom, list, tnil, tcons, trees, treeWords, treesWords}
 use Rattle.grammar.specs.Scope.{Scope, sameName, numberAmong, numberIn, isAmong, repeated}
 use Rattle.atoms.specs.Spot.{Spot}
-use Rattle.atoms.specs.Scopes.{Named, none, more, NameList, Pairs, IsScope, Opened, OpenScopes, blank, placeAmong, Meant}
-use Rattle.atoms.specs.declared.scopes.Entry.{Entry}
-use Rattle.atoms.specs.declared.scopes.Entries.{Entries}
+use Rattle.atoms.specs.Scopes.{Named, none, more, NameList, Pairs, IsScope, Opened, OpenScopes, placeAmong, Meant}
 use Rattle.atoms.specs.declared.scopes.Found.the-variants.{At, Nothing}
 use Rattle.atoms.proofs.Places.Spots.{word, word0, spot-within, list-there, list-size}
 
@@ -57,7 +54,7 @@ pair-at ws p n (tcons t ts) (s ∷ ss) rest (more {u = u} x) e m h =
 pub first-pair : {ws : List ℕ} {p n : ℕ} (h : Pairs ws p n) → 0 < n → PairAt ws p n (h .names)
 first-pair {ws} {p} {n} h l = pair-at ws p n (h .pairs) (h .names) (h .rest) (h .named) (h .words) (h .many) l
 
-named-trees : (pairs : Trees) (names : List Span) → Named pairs names → trees pairs ≡ length names
+pub named-trees : (pairs : Trees) (names : List Span) → Named pairs names → trees pairs ≡ length names
 unfolding trees
 named-trees tnil [] none = refl
 named-trees (tcons t ts) (s ∷ ss) (more x) = ap suc (named-trees ts ss x)
@@ -159,14 +156,12 @@ pub record Left (text ws : List ℕ) (names : List Span) (n i p : ℕ) : Type 0 
   pub within : i ≤ n
 
 module _ (text ws : List ℕ) (names : List Span) (n : ℕ) where
-  pub left-start : {k : ℕ} (x : NameList ws k names) → n ≡ getD ws (k + 1) 0 → Left text ws names n 0 (k + 3)
-  left-start x e =
-      let h : Pairs ws _ n = list-pairs x n e in
-      record {
-        left = record { names = names; pairs = h .pairs; rest = h .rest; words = h .words; named = h .named; many = omega (arith, h .many) };
-        same = refl;
-        within = omega arith;
-      }
+  pub left-start : {k : ℕ} (h : Pairs ws k n) → h .names ≡ names → Left text ws names n 0 k
+  left-start h e = record {
+    left = record { names = h .names; pairs = h .pairs; rest = h .rest; words = h .words; named = h .named; many = omega (arith, h .many) };
+    same = ap (repeated text) (sym e);
+    within = omega arith;
+  }
 
   module _ (i p : ℕ) (x : Left text ws names n i p) where
     pub left-end : n ≤ i → false ≡ repeated text names
@@ -226,57 +221,69 @@ number-miss text s xs k h = number-place text s xs k ∙ rw (le-ltb (placeAmong 
 
 -- ---- a search in scopes
 
-pub record Top (ws : List ℕ) (es : List Entry) (d : ℕ) (fs : List Scope) : Type 0 where
+pub record Top (ws es : List ℕ) (d : ℕ) (fs : List Scope) : Type 0 where
   pub scope : Scope
   pub below : List Scope
   pub is : fs ≡ scope ∷ below
-  pub entry : IsScope ws (getD es (d - 1) blank) scope
+  pub entry : IsScope ws (getD es (3 * (d - 1)) 0) (getD es (3 * (d - 1) + 1) 0) (getD es (3 * (d - 1) + 2) 0) scope
   pub holds : Opened ws es (d - 1) below
 
-pub top : (ws : List ℕ) (es : List Entry) (d : ℕ) (fs : List Scope) → 0 < d → Opened ws es d fs → Top ws es d fs
+top : (ws es : List ℕ) (d : ℕ) (fs : List Scope) → 0 < d → Opened ws es d fs → Top ws es d fs
 top ws es zero fs h o = absurd (omega arith)
 top ws es (suc d) [] h o = absurd o
 top ws es (suc d) (f ∷ fs) h o =
     let e : suc d - 1 ≡ d = omega arith in
     record { scope = f; below = fs; is = refl; entry = rw e (o .0); holds = rw e (o .1) }
 
-pub record Search (text ws : List ℕ) (s : Entries) (h : OpenScopes ws s) (name : Span) (d : ℕ) : Type 0 where
+pub record Search (text ws es : List ℕ) (depth : ℕ) (h : OpenScopes ws es depth) (name : Span) (d : ℕ) : Type 0 where
   pub scopes : List Scope
-  pub holds : Opened ws (s .entries) d scopes
+  pub holds : Opened ws es d scopes
   pub same : numberIn text name (h .scopes) ≡ numberIn text name scopes
-  pub within : d ≤ maxLists
+  pub within : 3 * d ≤ length es
 
-module _ (text ws : List ℕ) (s : Entries) (h : OpenScopes ws s) (name : Span) where
-  pub search-start : Search text ws s h name (s .depth)
+module _ (text ws es : List ℕ) (depth : ℕ) (h : OpenScopes ws es depth) (name : Span) where
+  pub search-start : Search text ws es depth h name depth
   search-start = record { scopes = h .scopes; holds = h .holds; same = refl; within = h .within }
 
-  module _ (d : ℕ) (x : Search text ws s h name d) where
+  module _ (d : ℕ) (x : Search text ws es depth h name d) where
     pub search-end : (count : ℕ) → d ≤ 0 → Meant count (numberIn text name (h .scopes)) Nothing
     unfolding numberIn
     search-end count e = rw (x .same) (go d (x .scopes) (omega arith) (x .holds))
       where
-        go : (k : ℕ) (fs : List Scope) → k ≡ 0 → Opened ws (s .entries) k fs → Meant count (numberIn text name fs) Nothing
+        go : (k : ℕ) (fs : List Scope) → k ≡ 0 → Opened ws es k fs → Meant count (numberIn text name fs) Nothing
         go zero [] e o = refl
         go zero (f ∷ fs) e o = absurd o
         go (suc k) [] e o = absurd o
         go (suc k) (f ∷ fs) e o = absurd (omega arith)
 
     module _ (l : 0 < d) where
-      pub search-top : Top ws (s .entries) d (x .scopes)
-      search-top = top ws (s .entries) d (x .scopes) l (x .holds)
+      pub search-top : Top ws es d (x .scopes)
+      search-top = top ws es d (x .scopes) l (x .holds)
 
-      module _ {r n : ℕ} (many : n ≡ length (search-top .scope .names)) (e : r ≡ placeAmong text name (search-top .scope .names)) where
-        pub search-hit : (count : ℕ) {k : ℕ} → r < n → k ≡ (count + (getD (s .entries) (d - 1) blank .first + r)) % 2 ^ 64 → Meant count (numberIn text name (h .scopes)) (At k)
+      pub search-pairs : {a n : ℕ} → a ≡ getD es (3 * (d - 1)) 0 → n ≡ getD es (3 * (d - 1) + 1) 0 → Pairs ws a n
+      search-pairs e f = rw (e, f) (search-top .entry .place)
+
+      module _ {r a n : ℕ} (e : a ≡ getD es (3 * (d - 1)) 0) (f : n ≡ getD es (3 * (d - 1) + 1) 0) (k : ((p : Pairs ws a n) → r ≡ placeAmong text name (p .names))) where
+        search-place : r ≡ placeAmong text name (search-top .scope .names)
+        search-place = go a n e f k ∙ ap (placeAmong text name) (sym (search-top .entry .names))
+          where
+            go : (a n : ℕ) → a ≡ getD es (3 * (d - 1)) 0 → n ≡ getD es (3 * (d - 1) + 1) 0 → ((p : Pairs ws a n) → r ≡ placeAmong text name (p .names)) → r ≡ placeAmong text name (search-top .entry .place .names)
+            go a n e f k = (rw (e, f) at k) (search-top .entry .place)
+
+        search-many : n ≡ length (search-top .scope .names)
+        search-many = f ∙ search-top .entry .place .many ∙ ap length (sym (search-top .entry .names))
+
+        pub search-hit : (count : ℕ) {j : ℕ} → r < n → j ≡ (count + (getD es (3 * (d - 1) + 2) 0 + r)) % 2 ^ 64 → Meant count (numberIn text name (h .scopes)) (At j)
         unfolding numberIn
         search-hit count u p =
-            rw (x .same, search-top .is, number-hit text name (search-top .scope .names) (search-top .scope .first) (omega arith)) (ap At (p ∙ rw (search-top .entry .first, e) refl))
+            rw (x .same, search-top .is, number-hit text name (search-top .scope .names) (search-top .scope .first) (omega (arith, search-place, search-many))) (ap At (p ∙ rw (search-top .entry .first, search-place) refl))
 
-        pub search-more : n ≤ r → Search text ws s h name (d - 1)
+        pub search-more : n ≤ r → Search text ws es depth h name (d - 1)
         unfolding numberIn
         search-more u = record {
           scopes = search-top .below;
           holds = search-top .holds;
-          same = x .same ∙ ap (numberIn text name) (search-top .is) ∙ rw (number-miss text name (search-top .scope .names) (search-top .scope .first) (omega arith)) refl;
+          same = x .same ∙ ap (numberIn text name) (search-top .is) ∙ rw (number-miss text name (search-top .scope .names) (search-top .scope .first) (omega (arith, search-place, search-many))) refl;
           within = omega (arith, x .within);
         }
 

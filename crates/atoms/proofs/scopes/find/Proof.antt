@@ -1,71 +1,115 @@
-use Rattle.atoms.proofs.Places.ScopeNames.{list-in, list-trees, list-pairs, Search, search-start, search-end, search-top, search-hit, search-more, wraps}
-use Rattle.atoms.specs.Scopes.{OpenScopes}
-use native.Mathlib.Omega.{arith}
-use Prim.Native.Nat.{_-_}
-use mathlib.Core.Path.{_∙_}
 use borrow.Author.Needs.{needs}
+use mathlib.Core.Path.{refl}
+use Prim.Native.Nat.{_-_}
+use native.Mathlib.Omega.{arith}
+use Rattle.atoms.specs.Scopes.{OpenScopes}
+use Rattle.atoms.proofs.Places.ScopeNames.{Search, search-start, search-end, search-top, search-pairs, search-hit, search-more, wraps}
 use Rattle.atoms.proofs.scopes.find.Statement.{statement}
 use Rattle.atoms.proofs.scopes.find.Tie as tie
+use Rattle.atoms.proofs.scopes.find.Reads as reads
+use Rattle.atoms.proofs.scopes.find.Lts as lts
+use Rattle.atoms.proofs.scopes.place_among.Reads as place-among-reads
+use Rattle.atoms.proofs.scopes.size.Reads as size-reads
+use Rattle.sorts.proofs.number.long.Reads as long-reads
+use Rattle.std.proofs.num.wrapping_add_u64.Reads as wrapping-add-u64-reads
 
 abbrev Inv-loop : tie.InvT-loop
-Inv-loop text tree base start len scopes d₀ d = (h : OpenScopes tree scopes) → Search text tree scopes h (record { start = start; len = len }) d
+Inv-loop text tree scopes depth count start len d₀ d = (h : OpenScopes tree scopes depth) → Search text tree scopes depth h (record { start = start; len = len }) d
 
 abbrev μ-loop : tie.MeasureT-loop
-μ-loop text tree base start len scopes d₀ d = d
+μ-loop text tree scopes depth count start len d₀ d = d
 
+-- src/scopes.rt:79:5
 loop-holds : tie.Need-loop-holds Inv-loop μ-loop
-loop-holds c = λ h. search-start _ _ _ h _
+loop-holds c = λ h. search-start _ _ _ _ h _
 
-sub-e : tie.Need-sub-e Inv-loop μ-loop
-sub-e c = omega (arith, c .before .loop .inv (c .before .before .before .before .pre) .within, c .before .before .before .before .pre .long)
-
-mul-e : tie.Need-mul-e Inv-loop μ-loop
-mul-e c = omega (arith, c .before .loop .inv (c .before .before .before .before .pre) .within, c .before .before .before .before .pre .long)
-
-element-copy-out-e : tie.Need-element-copy-out-e Inv-loop μ-loop
-element-copy-out-e c = omega (arith, c .before .loop .inv (c .before .before .before .before .pre) .within, c .before .before .before .before .pre .long)
-
-add-wide : tie.Need-add-wide Inv-loop μ-loop
-add-wide c = let x = (search-top _ _ _ (c .before .before .before .before .before .pre) _ _ (c .before .before .loop .inv (c .before .before .before .before .before .pre)) (c .before .loop-test .taken)) in omega (arith, list-in (x .entry .place))
-
-mul-wide : tie.Need-mul-wide Inv-loop μ-loop
-mul-wide c = let x = (search-top _ _ _ (c .before .before .before .before .before .pre) _ _ (c .before .before .loop .inv (c .before .before .before .before .before .pre)) (c .before .loop-test .taken)) in omega (arith, list-in (x .entry .place))
-
-shared-slice-read-wide : tie.Need-shared-slice-read-wide Inv-loop μ-loop
-shared-slice-read-wide c = let x = (search-top _ _ _ (c .before .before .before .before .before .before .pre) _ _ (c .before .before .before .loop .inv (c .before .before .before .before .before .before .pre)) (c .before .before .loop-test .taken)) in omega (arith, list-in (x .entry .place))
-
-wide-requires : tie.Need-wide-requires Inv-loop μ-loop
-wide-requires c κs = search needs
-
-add-place-among : tie.Need-add-place-among Inv-loop μ-loop
-add-place-among c = let x = (search-top _ _ _ (c .before .before .before .before .before .before .before .pre) _ _ (c .before .before .before .before .loop .inv (c .before .before .before .before .before .before .before .pre)) (c .before .before .before .loop-test .taken)) in omega (arith, list-in (x .entry .place))
-
-place-among-requires : tie.Need-place-among-requires Inv-loop μ-loop
-place-among-requires c κs = let x = (search-top _ _ _ (c .before .before .before .before .before .before .before .pre) _ _ (c .before .before .before .before .loop .inv (c .before .before .before .before .before .before .before .pre)) (c .before .before .before .loop-test .taken)) in list-pairs (x .entry .place) _ (c .wide .ensures .0)
-
-long-requires : tie.Need-long-requires Inv-loop μ-loop
-long-requires c κs = search needs
-
-wrapping-add-u64-requires : tie.Need-wrapping-add-u64-requires Inv-loop μ-loop
-wrapping-add-u64-requires c κs = search needs
-
-wrapping-add-u64-requires-2 : tie.Need-wrapping-add-u64-requires-2 Inv-loop μ-loop
-wrapping-add-u64-requires-2 c κs = search needs
-
-returns : tie.Need-returns Inv-loop μ-loop
-returns c h = let x = (search-top _ _ _ h _ _ (c .before .before .before .before .before .before .before .before .before .loop .inv h) (c .before .before .before .before .before .before .before .before .loop-test .taken)) in search-hit _ _ _ h _ _ (c .before .before .before .before .before .before .before .before .before .loop .inv h) (c .before .before .before .before .before .before .before .before .loop-test .taken) (c .before .before .before .before .before .wide .ensures .0 ∙ list-trees (x .entry .place)) (c .before .before .before .before .place-among .ensures (list-pairs (x .entry .place) _ (c .before .before .before .before .before .wide .ensures .0))) _ (c .before .before .before .if1 .taken) (wraps _ _ _ _ _ _ (c .before .before .long .ensures) (c .before .wrapping-add-u64 .ensures) (c .wrapping-add-u642 .ensures))
-
+-- src/scopes.rt:80:9
 sub-d : tie.Need-sub-d Inv-loop μ-loop
 sub-d c = search needs
 
+-- src/scopes.rt:81:30
+mul-size : tie.Need-mul-size Inv-loop μ-loop
+mul-size c = omega (arith, c .before .loop .inv (c .before .before .before .before .before .pre) .within)
+
+-- src/scopes.rt:81:23
+mul-size-2 : tie.Need-mul-size-2 Inv-loop μ-loop
+mul-size-2 c = omega (arith, c .before .loop .inv (c .before .before .before .before .before .pre) .within)
+
+-- src/scopes.rt:81:23
+shared-slice-read-size : tie.Need-shared-slice-read-size Inv-loop μ-loop
+shared-slice-read-size c = omega (arith, c .before .before .loop .inv (c .before .before .before .before .before .before .pre) .within)
+
+-- src/scopes.rt:81:13
+size-requires : tie.Need-size-requires Inv-loop μ-loop
+size-requires c κs = search needs
+
+-- src/scopes.rt:82:29
+mul-size-3 : tie.Need-mul-size-3 Inv-loop μ-loop
+mul-size-3 c = omega (arith, c .before .before .before .loop .inv (c .before .before .before .before .before .before .before .pre) .within)
+
+-- src/scopes.rt:82:29
+add-size : tie.Need-add-size Inv-loop μ-loop
+add-size c = omega (arith, c .before .before .before .loop .inv (c .before .before .before .before .before .before .before .pre) .within)
+
+-- src/scopes.rt:82:22
+mul-size-4 : tie.Need-mul-size-4 Inv-loop μ-loop
+mul-size-4 c = omega (arith, c .before .before .before .loop .inv (c .before .before .before .before .before .before .before .pre) .within)
+
+-- src/scopes.rt:82:22
+shared-slice-read-size-2 : tie.Need-shared-slice-read-size-2 Inv-loop μ-loop
+shared-slice-read-size-2 c = omega (arith, c .before .before .before .before .loop .inv (c .before .before .before .before .before .before .before .before .pre) .within)
+
+-- src/scopes.rt:82:13
+size-requires-2 : tie.Need-size-requires-2 Inv-loop μ-loop
+size-requires-2 c κs = search needs
+
+-- src/scopes.rt:83:13
+place-among-requires : tie.Need-place-among-requires Inv-loop μ-loop
+place-among-requires c κs = search-pairs _ _ _ _ (c .before .before .before .before .before .before .before .before .before .pre) _ _ (c .before .before .before .before .before .loop .inv (c .before .before .before .before .before .before .before .before .before .pre)) (c .before .before .before .before .loop-test .taken) (c .before .before .size .ensures) (c .size2 .ensures)
+
+-- src/scopes.rt:85:55
+mul-wrapping-add-u64 : tie.Need-mul-wrapping-add-u64 Inv-loop μ-loop
+mul-wrapping-add-u64 c = omega (arith, c .before .before .before .before .before .before .before .loop .inv (c .before .before .before .before .before .before .before .before .before .before .before .pre) .within)
+
+-- src/scopes.rt:85:55
+add-wrapping-add-u64 : tie.Need-add-wrapping-add-u64 Inv-loop μ-loop
+add-wrapping-add-u64 c = omega (arith, c .before .before .before .before .before .before .before .loop .inv (c .before .before .before .before .before .before .before .before .before .before .before .pre) .within)
+
+-- src/scopes.rt:85:48
+mul-wrapping-add-u64-2 : tie.Need-mul-wrapping-add-u64-2 Inv-loop μ-loop
+mul-wrapping-add-u64-2 c = omega (arith, c .before .before .before .before .before .before .before .loop .inv (c .before .before .before .before .before .before .before .before .before .before .before .pre) .within)
+
+-- src/scopes.rt:85:48
+shared-slice-read-wrapping-add-u64 : tie.Need-shared-slice-read-wrapping-add-u64 Inv-loop μ-loop
+shared-slice-read-wrapping-add-u64 c = omega (arith, c .before .before .before .before .before .before .before .before .loop .inv (c .before .before .before .before .before .before .before .before .before .before .before .before .pre) .within)
+
+-- src/scopes.rt:85:67
+long-requires : tie.Need-long-requires Inv-loop μ-loop
+long-requires c κs = search needs
+
+-- src/scopes.rt:85:17
+wrapping-add-u64-requires : tie.Need-wrapping-add-u64-requires Inv-loop μ-loop
+wrapping-add-u64-requires c κs = search needs
+
+-- src/scopes.rt:86:30
+wrapping-add-u64-requires-2 : tie.Need-wrapping-add-u64-requires-2 Inv-loop μ-loop
+wrapping-add-u64-requires-2 c κs = search needs
+
+-- src/scopes.rt:86:13
+returns : tie.Need-returns Inv-loop μ-loop
+returns c h = search-hit _ _ _ _ h _ _ (c .before .before .before .before .before .before .before .before .before .before .before .loop .inv h) (c .before .before .before .before .before .before .before .before .before .before .loop-test .taken) (c .before .before .before .before .before .before .before .before .size .ensures) (c .before .before .before .before .before .before .size2 .ensures) (c .before .before .before .before .before .place-among .ensures) _ (c .before .before .before .before .if1 .taken) (wraps _ _ _ _ _ _ (c .before .before .long .ensures) (c .before .wrapping-add-u64 .ensures) (c .wrapping-add-u642 .ensures))
+
+-- src/scopes.rt:79:5
 loop-less : tie.Need-loop-less Inv-loop μ-loop
-loop-less c = search needs
+loop-less c = omega arith
 
+-- src/scopes.rt:79:5
 loop-again : tie.Need-loop-again Inv-loop μ-loop
-loop-again c = λ h. (let x = (search-top _ _ _ h _ _ (c .before .before .before .before .before .before .loop .inv h) (c .before .before .before .before .before .loop-test .taken)) in search-more _ _ _ h _ _ (c .before .before .before .before .before .before .loop .inv h) (c .before .before .before .before .before .loop-test .taken) (c .before .before .wide .ensures .0 ∙ list-trees (x .entry .place)) (c .before .place-among .ensures (list-pairs (x .entry .place) _ (c .before .before .wide .ensures .0))) (c .if1 .left))
+loop-again c = λ h. search-more _ _ _ _ h _ _ (c .before .before .before .before .before .before .before .loop .inv h) (c .before .before .before .before .before .before .loop-test .taken) (c .before .before .before .before .size .ensures) (c .before .before .size2 .ensures) (c .before .place-among .ensures) (c .if1 .left)
 
+-- src/scopes.rt:66:1
 returns-2 : tie.Need-returns-2 Inv-loop μ-loop
-returns-2 c h = search-end _ _ _ h _ _ (c .before .loop .inv h) _ (c .loop-test .left)
+returns-2 c h = search-end _ _ _ _ h _ _ (c .before .loop .inv h) _ (c .loop-test .left)
 
 pub find-spec : {M : Type 1} → statement M
 find-spec =
@@ -74,20 +118,25 @@ find-spec =
     Inv-loop
     μ-loop
     loop-holds
-    sub-e
-    mul-e
-    element-copy-out-e
-    add-wide
-    mul-wide
-    shared-slice-read-wide
-    wide-requires
-    add-place-among
+    sub-d
+    mul-size
+    mul-size-2
+    shared-slice-read-size
+    size-requires
+    mul-size-3
+    add-size
+    mul-size-4
+    shared-slice-read-size-2
+    size-requires-2
     place-among-requires
+    mul-wrapping-add-u64
+    add-wrapping-add-u64
+    mul-wrapping-add-u64-2
+    shared-slice-read-wrapping-add-u64
     long-requires
     wrapping-add-u64-requires
     wrapping-add-u64-requires-2
     returns
-    sub-d
     loop-less
     loop-again
     returns-2)

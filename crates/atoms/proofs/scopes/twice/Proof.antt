@@ -1,102 +1,107 @@
-use Rattle.atoms.proofs.Places.ScopeNames.{list-in, Left, left-start, left-end, left-pair, left-rest, left-hit, left-more}
-use Rattle.atoms.specs.Scopes.{Bound}
-use Rattle.grammar.specs.Scope.{repeated}
-use native.Mathlib.Omega.{arith}
-use Prim.Native.Nat.{ℕ, _+_, _-_}
-use mathlib.Core.Path.{refl, sym, ap}
 use borrow.Author.Needs.{needs}
+use mathlib.Core.Path.{refl}
+use Prim.Native.Nat.{ℕ, _+_, _-_}
+use native.Mathlib.Omega.{arith}
+use Rattle.atoms.specs.Scopes.{Pairs}
+use Rattle.atoms.proofs.Places.ScopeNames.{Left, left-start, left-end, left-pair, left-rest, left-hit, left-more}
 use Rattle.atoms.proofs.scopes.twice.Statement.{statement}
 use Rattle.atoms.proofs.scopes.twice.Tie as tie
+use Rattle.atoms.proofs.scopes.twice.Reads as reads
+use Rattle.atoms.proofs.scopes.twice.Lts as lts
+use Rattle.atoms.proofs.scopes.place_among.Reads as place-among-reads
+use Rattle.sorts.proofs.number.wide.Reads as wide-reads
 
 abbrev Inv-loop : tie.InvT-loop
-Inv-loop text tree names n p₀ i₀ p i = (b : Bound tree names) → Left text tree (b .names) n i p
+Inv-loop text tree at n p₀ i₀ p i = (b : Pairs tree at n) → Left text tree (b .names) n i p
 
 abbrev μ-loop : tie.MeasureT-loop
-μ-loop text tree names n p₀ i₀ p i = n - i
+μ-loop text tree at n p₀ i₀ p i = n - i
 
-returns : tie.Need-returns Inv-loop μ-loop
-unfolding repeated
-returns c b = sym (ap (repeated _) (b .without (c .if1 .taken)))
+-- src/scopes.rt:99:5
+loop-holds : tie.Need-loop-holds Inv-loop μ-loop
+loop-holds c = λ b. left-start _ _ (b .names) _ b refl
 
+-- src/scopes.rt:100:22
+add-s : tie.Need-add-s Inv-loop μ-loop
+add-s c = let x = (left-pair _ _ _ _ _ _ (c .before .loop .inv (c .before .before .before .before .pre)) (c .loop-test .taken)) in omega (arith, x .six)
+
+-- src/scopes.rt:100:17
+mul-s : tie.Need-mul-s Inv-loop μ-loop
+mul-s c = let x = (left-pair _ _ _ _ _ _ (c .before .loop .inv (c .before .before .before .before .pre)) (c .loop-test .taken)) in omega (arith, x .six)
+
+-- src/scopes.rt:100:17
+shared-slice-read-s : tie.Need-shared-slice-read-s Inv-loop μ-loop
+shared-slice-read-s c = let x = (left-pair _ _ _ _ _ _ (c .before .before .loop .inv (c .before .before .before .before .before .pre)) (c .before .loop-test .taken)) in omega (arith, x .six)
+
+-- src/scopes.rt:101:22
+add-l : tie.Need-add-l Inv-loop μ-loop
+add-l c = let x = (left-pair _ _ _ _ _ _ (c .before .before .loop .inv (c .before .before .before .before .before .pre)) (c .before .loop-test .taken)) in omega (arith, x .six)
+
+-- src/scopes.rt:101:17
+mul-l : tie.Need-mul-l Inv-loop μ-loop
+mul-l c = let x = (left-pair _ _ _ _ _ _ (c .before .before .loop .inv (c .before .before .before .before .before .pre)) (c .before .loop-test .taken)) in omega (arith, x .six)
+
+-- src/scopes.rt:101:17
+shared-slice-read-l : tie.Need-shared-slice-read-l Inv-loop μ-loop
+shared-slice-read-l c = let x = (left-pair _ _ _ _ _ _ (c .before .before .before .loop .inv (c .before .before .before .before .before .before .pre)) (c .before .before .loop-test .taken)) in omega (arith, x .six)
+
+-- src/scopes.rt:102:24
 add-wide : tie.Need-add-wide Inv-loop μ-loop
-add-wide c = omega (arith, (list-in (c .before .before .before .pre .place (c .if1 .left))))
+add-wide c = let x = (left-pair _ _ _ _ _ _ (c .before .before .before .loop .inv (c .before .before .before .before .before .before .pre)) (c .before .before .loop-test .taken)) in omega (arith, x .six)
 
+-- src/scopes.rt:102:19
 mul-wide : tie.Need-mul-wide Inv-loop μ-loop
-mul-wide c = omega (arith, (list-in (c .before .before .before .pre .place (c .if1 .left))))
+mul-wide c = let x = (left-pair _ _ _ _ _ _ (c .before .before .before .loop .inv (c .before .before .before .before .before .before .pre)) (c .before .before .loop-test .taken)) in omega (arith, x .six)
 
+-- src/scopes.rt:102:19
 shared-slice-read-wide : tie.Need-shared-slice-read-wide Inv-loop μ-loop
-shared-slice-read-wide c = omega (arith, (list-in (c .before .before .before .before .pre .place (c .before .if1 .left))))
+shared-slice-read-wide c = let x = (left-pair _ _ _ _ _ _ (c .before .before .before .before .loop .inv (c .before .before .before .before .before .before .before .pre)) (c .before .before .before .loop-test .taken)) in omega (arith, x .six)
 
+-- src/scopes.rt:102:14
 wide-requires : tie.Need-wide-requires Inv-loop μ-loop
 wide-requires c κs = search needs
 
+-- src/scopes.rt:102:14
 add-p : tie.Need-add-p Inv-loop μ-loop
-add-p c = omega (arith, (list-in (c .before .before .before .before .before .pre .place (c .before .before .if1 .left))))
+add-p c = let x = (left-pair _ _ _ _ _ _ (c .before .before .before .before .before .loop .inv (c .before .before .before .before .before .before .before .before .pre)) (c .before .before .before .before .loop-test .taken)) in omega (arith, x .fits, c .wide .ensures .0)
 
-loop-holds : tie.Need-loop-holds Inv-loop μ-loop
-loop-holds c = λ b. left-start _ _ (b .names) _ (b .place (c .before .before .if1 .left)) (c .wide .ensures .0)
-
-add-s : tie.Need-add-s Inv-loop μ-loop
-add-s c = let x = (left-pair _ _ _ _ _ _ (c .before .loop .inv (c .before .before .before .before .before .before .before .pre)) (c .loop-test .taken)) in omega (arith, x .six)
-
-mul-s : tie.Need-mul-s Inv-loop μ-loop
-mul-s c = let x = (left-pair _ _ _ _ _ _ (c .before .loop .inv (c .before .before .before .before .before .before .before .pre)) (c .loop-test .taken)) in omega (arith, x .six)
-
-shared-slice-read-s : tie.Need-shared-slice-read-s Inv-loop μ-loop
-shared-slice-read-s c = let x = (left-pair _ _ _ _ _ _ (c .before .before .loop .inv (c .before .before .before .before .before .before .before .before .pre)) (c .before .loop-test .taken)) in omega (arith, x .six)
-
-add-l : tie.Need-add-l Inv-loop μ-loop
-add-l c = let x = (left-pair _ _ _ _ _ _ (c .before .before .loop .inv (c .before .before .before .before .before .before .before .before .pre)) (c .before .loop-test .taken)) in omega (arith, x .six)
-
-mul-l : tie.Need-mul-l Inv-loop μ-loop
-mul-l c = let x = (left-pair _ _ _ _ _ _ (c .before .before .loop .inv (c .before .before .before .before .before .before .before .before .pre)) (c .before .loop-test .taken)) in omega (arith, x .six)
-
-shared-slice-read-l : tie.Need-shared-slice-read-l Inv-loop μ-loop
-shared-slice-read-l c = let x = (left-pair _ _ _ _ _ _ (c .before .before .before .loop .inv (c .before .before .before .before .before .before .before .before .before .pre)) (c .before .before .loop-test .taken)) in omega (arith, x .six)
-
-add-wide-2 : tie.Need-add-wide-2 Inv-loop μ-loop
-add-wide-2 c = let x = (left-pair _ _ _ _ _ _ (c .before .before .before .loop .inv (c .before .before .before .before .before .before .before .before .before .pre)) (c .before .before .loop-test .taken)) in omega (arith, x .six)
-
-mul-wide-2 : tie.Need-mul-wide-2 Inv-loop μ-loop
-mul-wide-2 c = let x = (left-pair _ _ _ _ _ _ (c .before .before .before .loop .inv (c .before .before .before .before .before .before .before .before .before .pre)) (c .before .before .loop-test .taken)) in omega (arith, x .six)
-
-shared-slice-read-wide-2 : tie.Need-shared-slice-read-wide-2 Inv-loop μ-loop
-shared-slice-read-wide-2 c = let x = (left-pair _ _ _ _ _ _ (c .before .before .before .before .loop .inv (c .before .before .before .before .before .before .before .before .before .before .pre)) (c .before .before .before .loop-test .taken)) in omega (arith, x .six)
-
-wide-requires-2 : tie.Need-wide-requires-2 Inv-loop μ-loop
-wide-requires-2 c κs = search needs
-
+-- src/scopes.rt:102:9
 add-p-2 : tie.Need-add-p-2 Inv-loop μ-loop
-add-p-2 c = let x = (left-pair _ _ _ _ _ _ (c .before .before .before .before .before .loop .inv (c .before .before .before .before .before .before .before .before .before .before .before .pre)) (c .before .before .before .before .loop-test .taken)) in omega (arith, x .fits, c .wide2 .ensures .0)
+add-p-2 c = let x = (left-pair _ _ _ _ _ _ (c .before .before .before .before .before .loop .inv (c .before .before .before .before .before .before .before .before .pre)) (c .before .before .before .before .loop-test .taken)) in omega (arith, x .fits, c .wide .ensures .0)
 
-add-p-3 : tie.Need-add-p-3 Inv-loop μ-loop
-add-p-3 c = let x = (left-pair _ _ _ _ _ _ (c .before .before .before .before .before .loop .inv (c .before .before .before .before .before .before .before .before .before .before .before .pre)) (c .before .before .before .before .loop-test .taken)) in omega (arith, x .fits, c .wide2 .ensures .0)
-
+-- src/scopes.rt:103:9
 add-i : tie.Need-add-i Inv-loop μ-loop
 add-i c = omega arith
 
+-- src/scopes.rt:104:39
 sub-place-among : tie.Need-sub-place-among Inv-loop μ-loop
 sub-place-among c = omega arith
 
+-- src/scopes.rt:104:12
 place-among-requires : tie.Need-place-among-requires Inv-loop μ-loop
-place-among-requires c κs = (left-rest _ _ _ _ _ _ (c .before .before .before .before .before .loop .inv (c .before .before .before .before .before .before .before .before .before .before .before .pre)) (c .before .before .before .before .loop-test .taken) _ (rw (c .wide2 .ensures .0) refl))
+place-among-requires c κs = left-rest _ _ _ _ _ _ (c .before .before .before .before .before .loop .inv (c .before .before .before .before .before .before .before .before .pre)) (c .before .before .before .before .loop-test .taken) _ (rw (c .wide .ensures .0) refl)
 
-sub-if2 : tie.Need-sub-if2 Inv-loop μ-loop
-sub-if2 c = omega arith
+-- src/scopes.rt:104:54
+sub-if1 : tie.Need-sub-if1 Inv-loop μ-loop
+sub-if1 c = omega arith
 
-returns-2 : tie.Need-returns-2 Inv-loop μ-loop
-returns-2 c b =
-    let q : ℕ = c .before .before .before .before .before .before .before .loop .p + (c .before .before .wide2 .result + 3) in
-    left-hit _ _ _ _ _ _ (c .before .before .before .before .before .before .before .loop .inv b) (c .before .before .before .before .before .before .loop-test .taken) (c .before .before .before .before .before .before .before .loop .p + (c .before .before .wide2 .result + 3)) (rw (c .before .before .wide2 .ensures .0) refl) (c .before .place-among .ensures (left-rest _ _ _ _ _ _ (c .before .before .before .before .before .before .before .loop .inv b) (c .before .before .before .before .before .before .loop-test .taken) (c .before .before .before .before .before .before .before .loop .p + (c .before .before .wide2 .result + 3)) (rw (c .before .before .wide2 .ensures .0) refl))) (c .if2 .taken)
+-- src/scopes.rt:105:13
+returns : tie.Need-returns Inv-loop μ-loop
+returns c b =
+    let q : ℕ = c .before .before .before .before .before .before .before .loop .p + (c .before .before .wide .result + 3) in
+    left-hit _ _ _ _ _ _ (c .before .before .before .before .before .before .before .loop .inv b) (c .before .before .before .before .before .before .loop-test .taken) (c .before .before .before .before .before .before .before .loop .p + (c .before .before .wide .result + 3)) (rw (c .before .before .wide .ensures .0) refl) (c .before .place-among .ensures (left-rest _ _ _ _ _ _ (c .before .before .before .before .before .before .before .loop .inv b) (c .before .before .before .before .before .before .loop-test .taken) (c .before .before .before .before .before .before .before .loop .p + (c .before .before .wide .result + 3)) (rw (c .before .before .wide .ensures .0) refl))) (c .if1 .taken)
 
+-- src/scopes.rt:99:5
 loop-less : tie.Need-loop-less Inv-loop μ-loop
 loop-less c = omega arith
 
+-- src/scopes.rt:99:5
 loop-again : tie.Need-loop-again Inv-loop μ-loop
-loop-again c = λ b. left-more _ _ _ _ _ _ (c .before .before .before .before .before .before .before .loop .inv b) (c .before .before .before .before .before .before .loop-test .taken) _ (rw (c .before .before .wide2 .ensures .0) refl) (c .before .place-among .ensures (left-rest _ _ _ _ _ _ (c .before .before .before .before .before .before .before .loop .inv b) (c .before .before .before .before .before .before .loop-test .taken) _ (rw (c .before .before .wide2 .ensures .0) refl))) (c .if2 .left)
+loop-again c = λ b. left-more _ _ _ _ _ _ (c .before .before .before .before .before .before .before .loop .inv b) (c .before .before .before .before .before .before .loop-test .taken) _ (rw (c .before .before .wide .ensures .0) refl) (c .before .place-among .ensures (left-rest _ _ _ _ _ _ (c .before .before .before .before .before .before .before .loop .inv b) (c .before .before .before .before .before .before .loop-test .taken) _ (rw (c .before .before .wide .ensures .0) refl))) (c .if1 .left)
 
-returns-3 : tie.Need-returns-3 Inv-loop μ-loop
-returns-3 c b = left-end _ _ _ _ _ _ (c .before .loop .inv b) (c .loop-test .left)
+-- src/scopes.rt:93:1
+returns-2 : tie.Need-returns-2 Inv-loop μ-loop
+returns-2 c b = left-end _ _ _ _ _ _ (c .before .loop .inv b) (c .loop-test .left)
 
 pub twice-spec : {M : Type 1} → statement M
 twice-spec =
@@ -104,12 +109,6 @@ twice-spec =
     (tie.spec
     Inv-loop
     μ-loop
-    returns
-    add-wide
-    mul-wide
-    shared-slice-read-wide
-    wide-requires
-    add-p
     loop-holds
     add-s
     mul-s
@@ -117,17 +116,17 @@ twice-spec =
     add-l
     mul-l
     shared-slice-read-l
-    add-wide-2
-    mul-wide-2
-    shared-slice-read-wide-2
-    wide-requires-2
+    add-wide
+    mul-wide
+    shared-slice-read-wide
+    wide-requires
+    add-p
     add-p-2
-    add-p-3
     add-i
     sub-place-among
     place-among-requires
-    sub-if2
-    returns-2
+    sub-if1
+    returns
     loop-less
     loop-again
-    returns-3)
+    returns-2)

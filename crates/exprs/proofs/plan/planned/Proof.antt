@@ -4,141 +4,193 @@ use Rattle.exprs.proofs.TreePlans.{three-there, five-there, here-scopes
 use borrow.Author.Needs.{needs}
 use Rattle.exprs.proofs.plan.planned.Statement.{statement}
 use Rattle.exprs.proofs.plan.planned.Tie as tie
+use Rattle.exprs.proofs.plan.planned.Reads as reads
+use Rattle.exprs.proofs.plan.planned.Lts as lts
+use Rattle.atoms.proofs.expr_words.put2.Reads as put2-reads
+use Rattle.atoms.proofs.expr_words.put_name.Reads as put-name-reads
+use Rattle.atoms.proofs.expr_words.put_numeral.Reads as put-numeral-reads
+use Rattle.atoms.proofs.variable.variable.Reads as variable-reads
+use Rattle.exprs.proofs.lists.list_plan.Reads as list-plan-reads
 
+-- src/plan.rt:50:16
 mul-kind : tie.Need-mul-kind
-mul-kind c = omega (arith, two-there (c .before .before .before .pre .spot))
+mul-kind c = omega (arith, two-there (c .before .before .before .before .pre .spot))
 
+-- src/plan.rt:50:16
 shared-slice-read-kind : tie.Need-shared-slice-read-kind
-shared-slice-read-kind c = omega (arith, two-there (c .before .before .before .before .pre .spot))
+shared-slice-read-kind c = omega (arith, two-there (c .before .before .before .before .before .pre .spot))
 
+-- src/plan.rt:52:9
 list-plan-requires : tie.Need-list-plan-requires
-list-plan-requires c κs = here-list _ _ _ _ _ _ (c .before .before .before .before .before .before .pre) (c .before .if1 .taken)
+list-plan-requires c κs = here-list _ _ _ _ _ _ _ (c .before .before .before .before .before .before .before .pre) (c .before .if1 .taken)
 
+-- src/plan.rt:52:9
 same-length : tie.Need-same-length
 same-length c = search needs
 
+-- src/plan.rt:52:9
 returns : tie.Need-returns
-returns c h = planned-list _ _ _ _ _ _ h _ _ _ (c .before .before .list-plan .result) (c .before .before .before .before .if1 .taken) (c .before .before .list-plan .ensures)
+returns c h = planned-list _ _ _ _ _ _ _ h _ _ _ (c .before .before .list-plan .result) (c .before .before .before .before .if1 .taken) (c .before .before .list-plan .ensures)
 
-add-t19 : tie.Need-add-t19
-add-t19 c = omega (arith, three-there (c .before .before .before .before .before .before .pre .spot) (λ e. omega (arith, c .if2 .taken)))
+-- src/plan.rt:55:33
+add-t20 : tie.Need-add-t20
+add-t20 c = omega (arith, three-there (c .before .before .before .before .before .before .before .pre .spot) (λ e. omega (arith, c .if2 .taken)))
 
-mul-t20 : tie.Need-mul-t20
-mul-t20 c = omega (arith, three-there (c .before .before .before .before .before .before .pre .spot) (λ e. omega (arith, c .if2 .taken)))
+-- src/plan.rt:55:28
+mul-t21 : tie.Need-mul-t21
+mul-t21 c = omega (arith, three-there (c .before .before .before .before .before .before .before .pre .spot) (λ e. omega (arith, c .if2 .taken)))
 
-shared-slice-read-t22 : tie.Need-shared-slice-read-t22
-shared-slice-read-t22 c = omega (arith, three-there (c .before .before .before .before .before .before .before .pre .spot) (λ e. omega (arith, c .before .if2 .taken)))
+-- src/plan.rt:55:28
+shared-slice-read-t23 : tie.Need-shared-slice-read-t23
+shared-slice-read-t23 c = omega (arith, three-there (c .before .before .before .before .before .before .before .before .pre .spot) (λ e. omega (arith, c .before .if2 .taken)))
 
-add-t23 : tie.Need-add-t23
-add-t23 c = omega (arith, three-there (c .before .before .before .before .before .before .before .pre .spot) (λ e. omega (arith, c .before .if2 .taken)))
+-- src/plan.rt:55:47
+add-t24 : tie.Need-add-t24
+add-t24 c = omega (arith, three-there (c .before .before .before .before .before .before .before .before .pre .spot) (λ e. omega (arith, c .before .if2 .taken)))
 
-mul-t24 : tie.Need-mul-t24
-mul-t24 c = omega (arith, three-there (c .before .before .before .before .before .before .before .pre .spot) (λ e. omega (arith, c .before .if2 .taken)))
+-- src/plan.rt:55:42
+mul-t25 : tie.Need-mul-t25
+mul-t25 c = omega (arith, three-there (c .before .before .before .before .before .before .before .before .pre .spot) (λ e. omega (arith, c .before .if2 .taken)))
 
-shared-slice-read-t26 : tie.Need-shared-slice-read-t26
-shared-slice-read-t26 c = omega (arith, three-there (c .before .before .before .before .before .before .before .before .pre .spot) (λ e. omega (arith, c .before .before .if2 .taken)))
+-- src/plan.rt:55:42
+shared-slice-read-t27 : tie.Need-shared-slice-read-t27
+shared-slice-read-t27 c = omega (arith, three-there (c .before .before .before .before .before .before .before .before .before .pre .spot) (λ e. omega (arith, c .before .before .if2 .taken)))
 
+-- src/plan.rt:56:27
 variable-requires : tie.Need-variable-requires
-variable-requires c κs = (here-scopes _ _ _ _ _ _ (c .before .before .before .before .before .before .before .before .before .pre), omega (arith, c .before .before .before .before .before .before .before .before .before .pre .room))
+variable-requires c κs = (here-scopes _ _ _ _ _ _ _ (c .before .before .before .before .before .before .before .before .before .before .pre), omega (arith, c .before .before .before .before .before .before .before .before .before .before .pre .room))
 
+-- src/plan.rt:56:9
 same-length-2 : tie.Need-same-length-2
 same-length-2 c = search needs
 
+-- src/plan.rt:56:9
 returns-2 : tie.Need-returns-2
-returns-2 c h = let v = c .before .before .variable .ensures (here-scopes _ _ _ _ _ _ h) in planned-symbol _ _ _ _ _ _ h _ _ _ _ (c .before .before .before .before .before .before .if2 .taken) (v .0) (v .1)
+returns-2 c h = let v = c .before .before .variable .ensures (here-scopes _ _ _ _ _ _ _ h) in planned-symbol _ _ _ _ _ _ _ h _ _ _ _ (c .before .before .before .before .before .before .if2 .taken) (v .0) (v .1)
 
-add-t29 : tie.Need-add-t29
-add-t29 c = omega (arith, five-there (c .before .before .before .before .before .before .before .pre .spot) (c .if3 .taken))
+-- src/plan.rt:60:21
+add-t30 : tie.Need-add-t30
+add-t30 c = omega (arith, five-there (c .before .before .before .before .before .before .before .before .pre .spot) (c .if3 .taken))
 
-mul-t30 : tie.Need-mul-t30
-mul-t30 c = omega (arith, five-there (c .before .before .before .before .before .before .before .pre .spot) (c .if3 .taken))
+-- src/plan.rt:60:16
+mul-t31 : tie.Need-mul-t31
+mul-t31 c = omega (arith, five-there (c .before .before .before .before .before .before .before .before .pre .spot) (c .if3 .taken))
 
-shared-slice-read-t32 : tie.Need-shared-slice-read-t32
-shared-slice-read-t32 c = omega (arith, five-there (c .before .before .before .before .before .before .before .before .pre .spot) (c .before .if3 .taken))
+-- src/plan.rt:60:16
+shared-slice-read-t33 : tie.Need-shared-slice-read-t33
+shared-slice-read-t33 c = omega (arith, five-there (c .before .before .before .before .before .before .before .before .before .pre .spot) (c .before .if3 .taken))
 
-add-t33 : tie.Need-add-t33
-add-t33 c = omega (arith, five-there (c .before .before .before .before .before .before .before .before .pre .spot) (c .before .if3 .taken))
+-- src/plan.rt:61:21
+add-t34 : tie.Need-add-t34
+add-t34 c = omega (arith, five-there (c .before .before .before .before .before .before .before .before .before .pre .spot) (c .before .if3 .taken))
 
-mul-t34 : tie.Need-mul-t34
-mul-t34 c = omega (arith, five-there (c .before .before .before .before .before .before .before .before .pre .spot) (c .before .if3 .taken))
+-- src/plan.rt:61:16
+mul-t35 : tie.Need-mul-t35
+mul-t35 c = omega (arith, five-there (c .before .before .before .before .before .before .before .before .before .pre .spot) (c .before .if3 .taken))
 
-shared-slice-read-t36 : tie.Need-shared-slice-read-t36
-shared-slice-read-t36 c = omega (arith, five-there (c .before .before .before .before .before .before .before .before .before .pre .spot) (c .before .before .if3 .taken))
+-- src/plan.rt:61:16
+shared-slice-read-t37 : tie.Need-shared-slice-read-t37
+shared-slice-read-t37 c = omega (arith, five-there (c .before .before .before .before .before .before .before .before .before .before .pre .spot) (c .before .before .if3 .taken))
 
-add-t37 : tie.Need-add-t37
-add-t37 c = omega (arith, five-there (c .before .before .before .before .before .before .before .before .before .pre .spot) (c .before .before .if3 .taken))
+-- src/plan.rt:62:21
+add-t38 : tie.Need-add-t38
+add-t38 c = omega (arith, five-there (c .before .before .before .before .before .before .before .before .before .before .pre .spot) (c .before .before .if3 .taken))
 
-mul-t38 : tie.Need-mul-t38
-mul-t38 c = omega (arith, five-there (c .before .before .before .before .before .before .before .before .before .pre .spot) (c .before .before .if3 .taken))
+-- src/plan.rt:62:16
+mul-t39 : tie.Need-mul-t39
+mul-t39 c = omega (arith, five-there (c .before .before .before .before .before .before .before .before .before .before .pre .spot) (c .before .before .if3 .taken))
 
-shared-slice-read-t40 : tie.Need-shared-slice-read-t40
-shared-slice-read-t40 c = omega (arith, five-there (c .before .before .before .before .before .before .before .before .before .before .pre .spot) (c .before .before .before .if3 .taken))
+-- src/plan.rt:62:16
+shared-slice-read-t41 : tie.Need-shared-slice-read-t41
+shared-slice-read-t41 c = omega (arith, five-there (c .before .before .before .before .before .before .before .before .before .before .before .pre .spot) (c .before .before .before .if3 .taken))
 
-add-t41 : tie.Need-add-t41
-add-t41 c = omega (arith, five-there (c .before .before .before .before .before .before .before .before .before .before .pre .spot) (c .before .before .before .if3 .taken))
+-- src/plan.rt:63:21
+add-t42 : tie.Need-add-t42
+add-t42 c = omega (arith, five-there (c .before .before .before .before .before .before .before .before .before .before .before .pre .spot) (c .before .before .before .if3 .taken))
 
-mul-t42 : tie.Need-mul-t42
-mul-t42 c = omega (arith, five-there (c .before .before .before .before .before .before .before .before .before .before .pre .spot) (c .before .before .before .if3 .taken))
+-- src/plan.rt:63:16
+mul-t43 : tie.Need-mul-t43
+mul-t43 c = omega (arith, five-there (c .before .before .before .before .before .before .before .before .before .before .before .pre .spot) (c .before .before .before .if3 .taken))
 
-shared-slice-read-t44 : tie.Need-shared-slice-read-t44
-shared-slice-read-t44 c = omega (arith, five-there (c .before .before .before .before .before .before .before .before .before .before .before .pre .spot) (c .before .before .before .before .if3 .taken))
+-- src/plan.rt:63:16
+shared-slice-read-t45 : tie.Need-shared-slice-read-t45
+shared-slice-read-t45 c = omega (arith, five-there (c .before .before .before .before .before .before .before .before .before .before .before .before .pre .spot) (c .before .before .before .before .if3 .taken))
 
+-- src/plan.rt:65:27
 put-numeral-requires : tie.Need-put-numeral-requires
 put-numeral-requires c κs = search needs
 
+-- src/plan.rt:65:9
 same-length-3 : tie.Need-same-length-3
 same-length-3 c = search needs
 
+-- src/plan.rt:65:9
 returns-3 : tie.Need-returns-3
-returns-3 c h = let v = c .before .before .put-numeral .ensures (c .before .before .before .before .before .before .before .before .before .before .before .before .before .before .before .args .count) in planned-integer _ _ _ _ _ _ h _ _ _ _ (c .before .before .before .before .before .before .before .before .if3 .taken) (v .0) (v .1)
+returns-3 c h = let v = c .before .before .put-numeral .ensures (c .before .before .before .before .before .before .before .before .before .before .before .before .before .before .before .before .args .count) in planned-integer _ _ _ _ _ _ _ h _ _ _ _ (c .before .before .before .before .before .before .before .before .if3 .taken) (v .0) (v .1)
 
+-- src/plan.rt:68:54
 add-put2 : tie.Need-add-put2
-add-put2 c = omega (arith, two-there (c .before .before .before .before .before .before .before .before .before .pre .spot))
+add-put2 c = omega (arith, two-there (c .before .before .before .before .before .before .before .before .before .before .pre .spot))
 
+-- src/plan.rt:68:49
 mul-put2 : tie.Need-mul-put2
-mul-put2 c = omega (arith, two-there (c .before .before .before .before .before .before .before .before .before .pre .spot))
+mul-put2 c = omega (arith, two-there (c .before .before .before .before .before .before .before .before .before .before .pre .spot))
 
+-- src/plan.rt:68:49
 shared-slice-read-put2 : tie.Need-shared-slice-read-put2
-shared-slice-read-put2 c = omega (arith, two-there (c .before .before .before .before .before .before .before .before .before .before .pre .spot))
+shared-slice-read-put2 c = omega (arith, two-there (c .before .before .before .before .before .before .before .before .before .before .before .pre .spot))
 
+-- src/plan.rt:68:27
 put2-requires : tie.Need-put2-requires
 put2-requires c κs = search needs
 
+-- src/plan.rt:68:9
 same-length-4 : tie.Need-same-length-4
 same-length-4 c = search needs
 
+-- src/plan.rt:68:9
 returns-4 : tie.Need-returns-4
-returns-4 c h = planned-boolean _ _ _ _ _ _ h _ _ _ _ (c .before .before .before .before .before .if4 .taken) (c .before .before .put2 .ensures)
+returns-4 c h = planned-boolean _ _ _ _ _ _ _ h _ _ _ _ (c .before .before .before .before .before .if4 .taken) (c .before .before .put2 .ensures)
 
-add-t54 : tie.Need-add-t54
-add-t54 c = omega (arith, three-there (c .before .before .before .before .before .before .before .before .before .pre .spot) (λ e. omega (arith, c .if5 .taken)))
+-- src/plan.rt:71:33
+add-t55 : tie.Need-add-t55
+add-t55 c = omega (arith, three-there (c .before .before .before .before .before .before .before .before .before .before .pre .spot) (λ e. omega (arith, c .if5 .taken)))
 
-mul-t55 : tie.Need-mul-t55
-mul-t55 c = omega (arith, three-there (c .before .before .before .before .before .before .before .before .before .pre .spot) (λ e. omega (arith, c .if5 .taken)))
+-- src/plan.rt:71:28
+mul-t56 : tie.Need-mul-t56
+mul-t56 c = omega (arith, three-there (c .before .before .before .before .before .before .before .before .before .before .pre .spot) (λ e. omega (arith, c .if5 .taken)))
 
-shared-slice-read-t57 : tie.Need-shared-slice-read-t57
-shared-slice-read-t57 c = omega (arith, three-there (c .before .before .before .before .before .before .before .before .before .before .pre .spot) (λ e. omega (arith, c .before .if5 .taken)))
+-- src/plan.rt:71:28
+shared-slice-read-t58 : tie.Need-shared-slice-read-t58
+shared-slice-read-t58 c = omega (arith, three-there (c .before .before .before .before .before .before .before .before .before .before .before .pre .spot) (λ e. omega (arith, c .before .if5 .taken)))
 
-add-t58 : tie.Need-add-t58
-add-t58 c = omega (arith, three-there (c .before .before .before .before .before .before .before .before .before .before .pre .spot) (λ e. omega (arith, c .before .if5 .taken)))
+-- src/plan.rt:71:47
+add-t59 : tie.Need-add-t59
+add-t59 c = omega (arith, three-there (c .before .before .before .before .before .before .before .before .before .before .before .pre .spot) (λ e. omega (arith, c .before .if5 .taken)))
 
-mul-t59 : tie.Need-mul-t59
-mul-t59 c = omega (arith, three-there (c .before .before .before .before .before .before .before .before .before .before .pre .spot) (λ e. omega (arith, c .before .if5 .taken)))
+-- src/plan.rt:71:42
+mul-t60 : tie.Need-mul-t60
+mul-t60 c = omega (arith, three-there (c .before .before .before .before .before .before .before .before .before .before .before .pre .spot) (λ e. omega (arith, c .before .if5 .taken)))
 
-shared-slice-read-t61 : tie.Need-shared-slice-read-t61
-shared-slice-read-t61 c = omega (arith, three-there (c .before .before .before .before .before .before .before .before .before .before .before .pre .spot) (λ e. omega (arith, c .before .before .if5 .taken)))
+-- src/plan.rt:71:42
+shared-slice-read-t62 : tie.Need-shared-slice-read-t62
+shared-slice-read-t62 c = omega (arith, three-there (c .before .before .before .before .before .before .before .before .before .before .before .before .pre .spot) (λ e. omega (arith, c .before .before .if5 .taken)))
 
+-- src/plan.rt:72:27
 put-name-requires : tie.Need-put-name-requires
 put-name-requires c κs = search needs
 
+-- src/plan.rt:72:9
 same-length-5 : tie.Need-same-length-5
 same-length-5 c = search needs
 
+-- src/plan.rt:72:9
 returns-5 : tie.Need-returns-5
-returns-5 c h = planned-quoted _ _ _ _ _ _ h _ _ _ _ (c .before .before .before .before .before .before .if5 .taken) (c .before .before .put-name .ensures)
+returns-5 c h = planned-quoted _ _ _ _ _ _ _ h _ _ _ _ (c .before .before .before .before .before .before .if5 .taken) (c .before .before .put-name .ensures)
 
+-- src/plan.rt:36:1
 returns-6 : tie.Need-returns-6
-returns-6 c h = planned-decimal _ _ _ _ _ _ h _ _ _ (c .before .before .before .before .if1 .left) (c .before .before .before .if2 .left) (c .before .before .if3 .left) (c .before .if4 .left) (c .if5 .left)
+returns-6 c h = planned-decimal _ _ _ _ _ _ _ h _ _ _ (c .before .before .before .before .if1 .left) (c .before .before .before .if2 .left) (c .before .before .if3 .left) (c .before .if4 .left) (c .if5 .left)
 
 pub planned-spec : {M : Type 1} → statement M
 planned-spec =
@@ -149,27 +201,27 @@ planned-spec =
     list-plan-requires
     same-length
     returns
-    add-t19
-    mul-t20
-    shared-slice-read-t22
-    add-t23
-    mul-t24
-    shared-slice-read-t26
+    add-t20
+    mul-t21
+    shared-slice-read-t23
+    add-t24
+    mul-t25
+    shared-slice-read-t27
     variable-requires
     same-length-2
     returns-2
-    add-t29
-    mul-t30
-    shared-slice-read-t32
-    add-t33
-    mul-t34
-    shared-slice-read-t36
-    add-t37
-    mul-t38
-    shared-slice-read-t40
-    add-t41
-    mul-t42
-    shared-slice-read-t44
+    add-t30
+    mul-t31
+    shared-slice-read-t33
+    add-t34
+    mul-t35
+    shared-slice-read-t37
+    add-t38
+    mul-t39
+    shared-slice-read-t41
+    add-t42
+    mul-t43
+    shared-slice-read-t45
     put-numeral-requires
     same-length-3
     returns-3
@@ -179,12 +231,12 @@ planned-spec =
     put2-requires
     same-length-4
     returns-4
-    add-t54
-    mul-t55
-    shared-slice-read-t57
-    add-t58
-    mul-t59
-    shared-slice-read-t61
+    add-t55
+    mul-t56
+    shared-slice-read-t58
+    add-t59
+    mul-t60
+    shared-slice-read-t62
     put-name-requires
     same-length-5
     returns-5
