@@ -20,10 +20,10 @@ use Rattle.grammar.specs.ParseBind.{parseBind}
 use Rattle.grammar.specs.Written.{toldOf}
 use Rattle.grammar.specs.Operations.{theTree, makeExpr, exprFinal, makeBind, bindFinal}
 use Rattle.writing.specs.Laid.{laid}
+use Rattle.atoms.specs.Scopes.{slots}
 use Rattle.exprs.specs.Plans.{Parsed, wrote, refused, Here}
 use Rattle.parse.specs.PredWords.{Whole}
 use Rattle.parse.specs.Answers.{Laid, AttemptedAt, countedBy, finishedBy, closedBy, raisedWords}
-use Rattle.atoms.specs.declared.scopes.Entries.{Entries}
 use Rattle.parse.specs.declared.Counted.{Counted}
 use Rattle.parse.specs.declared.Counted.the-variants.{Done, Refused}
 use Rattle.exprs.specs.declared.expr.Progress.{Progress}
@@ -80,13 +80,13 @@ module _ {text tree tree′ : List ℕ} {n : ℕ} (x : TreeIn text tree tree′ 
   in-size = sym (rw length-take (omega (arith, x .within))) ∙ ap length (x .there)
 
   -- What an expression asks for: no scope is open.
-  abbrev pub here-in : (s : Entries) → s .depth ≡ 0 → length (s .entries) ≡ 64 → Here text (take n tree′) 0 s 0 0
-  here-in s d l = record {
+  abbrev pub here-in : {es : List ℕ} → slots ≤ length es → Here text (take n tree′) 0 es 0 0 0
+  here-in l = record {
     spot = record { tree = x .it; rest = []; words = x .there ∙ sym (append-nil (treeWords (x .it))) };
     scopes = [];
-    holds = rw d tt;
+    holds = tt;
     long = l;
-    shallow = omega (arith, d, x .fit .nests);
+    shallow = omega (arith, x .fit .nests);
     room = omega (arith, in-size, x .small);
     bytes = x .fit .short;
   }

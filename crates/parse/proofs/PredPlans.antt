@@ -16,12 +16,11 @@ use Rattle.grammar.specs.ParseExpr
 use Rattle.grammar.specs.ParseExpr.{child, children, childAt, eachPred, kvarForm, exprPred, atomChild}
 use Rattle.grammar.specs.Written.{exprWords, told}
 use Rattle.atoms.specs.Spot.{Seen}
-use Rattle.atoms.specs.Scopes.{Opened}
+use Rattle.atoms.specs.Scopes.{slots}
 use Rattle.writing.specs.Laid.{laid}
 use Rattle.atoms.specs.Outcome.{bound, Put}
 use Rattle.exprs.specs.Plans.{Parsed, wrote, refused, Here, most}
 use Rattle.parse.specs.PredWords.{PredHere, KvarHere, ReadPred, Stepped, stepRead, stepInto, stepRefused}
-use Rattle.atoms.specs.declared.scopes.Entries.{Entries}
 use Rattle.exprs.specs.declared.expr.Progress.{Progress}
 use Rattle.exprs.specs.declared.expr.Progress.the-variants.{Done, Refused}
 use Rattle.parse.specs.declared.preds.Step.{Step}
@@ -156,18 +155,16 @@ module _ {text ws : List ℕ} {at w next : ℕ} (h : PredHere text ws at w next)
   -- ---- an expression
 
   module _ {q : ℕ} (k : Seen text false ws at (h .spot) q) where
-    module _ (s : Entries) (d : s .depth ≡ 0) (l : length (s .entries) ≡ maxLists) {v : ℕ} (vs : v ≡ w + 1) where
-      pub none-open : Opened ws (s .entries) (s .depth) []
-      none-open = rw d tt
+    pub expr-shallow : 0 + nesting (k .spot .tree) ≤ maxLists
+    expr-shallow = omega (arith, h .nests, k .shallow)
 
-      pub expr-shallow : s .depth + nesting (k .spot .tree) ≤ maxLists
-      expr-shallow = omega (arith, h .nests, k .shallow)
-
+    module _ {v : ℕ} (vs : v ≡ w + 1) where
       pub expr-room : most v next (k .spot .tree) ≤ bound
       expr-room = omega (arith, h .room, k .short, tree-two (h .spot .tree))
 
-      abbrev pub expr-here : Here text ws q s v next
-      expr-here = record { spot = k .spot; scopes = []; holds = none-open; long = l; shallow = expr-shallow; room = expr-room; bytes = h .bytes }
+      -- No scope is open.
+      abbrev pub expr-here : (es : List ℕ) → slots ≤ length es → Here text ws q es 0 v next
+      expr-here es l = record { spot = k .spot; scopes = []; holds = tt; long = l; shallow = expr-shallow; room = expr-room; bytes = h .bytes }
 
     module _ (is : child text (h .spot .tree) .preds ≡ exprPred (child text (h .spot .tree) .nested)) where
       expr-is : child text (h .spot .tree) .preds next ≡ chain (child text (k .spot .tree) .plainly [] next) (λ e m. ok (expr e ∷ []) m)

@@ -1,5 +1,5 @@
 -- The body of a solution: it is read under the parameters as its one scope, and then no name may stand there twice.
-use Prim.Native.Nat.{ℕ}
+use Prim.Native.Nat.{ℕ, _+_, _≤_}
 use mathlib.Core.Path.{_≡_, refl, sym, ap, _∙_}
 use mathlib.Core.Bool.{Bool, true, false}
 use mathlib.Core.List.{List, [], _∷_}
@@ -10,21 +10,21 @@ use borrow.Author.Tests.{ne-eqb}
 use Rattle.reading.specs.Limits.{maxLists}
 use Rattle.reading.specs.Pick.{pick}
 use Rattle.reading.specs.Bytes.{Span}
+use Rattle.reading.specs.Tree.{nesting}
 use Rattle.reading.specs.Answer.{number, Res, ok, no, chain, lifted}
 use Rattle.grammar.specs.Expr.{Expr, exprItems}
 use Rattle.grammar.specs.Scope.{Scope, repeated, distinct}
 use Rattle.grammar.specs.ParseExpr
-use Rattle.atoms.specs.Scopes.{Bound, pushed, inner}
+use Rattle.atoms.specs.Scopes.{Opened, slots, pushed, deeper, inner}
 use Rattle.exprs.specs.Plans.{Parsed, wrote, refused, Here}
 use Rattle.grammar.specs.Written.{told}
 use Rattle.parse.specs.Answers.{raisedWords}
 use Rattle.parse.specs.DraftWords.{BodyHere, bodyOf, BodyDone, bodyWrote, bodyRefused}
-use Rattle.atoms.specs.declared.scopes.Entries.{Entries}
 use Rattle.exprs.specs.declared.expr.Progress.{Progress}
 use Rattle.exprs.specs.declared.expr.Progress.the-variants as progress
 use Rattle.parse.specs.declared.draft.Parts.the-variants.{Done, Refused}
 use Rattle.exprs.proofs.Laid.{never, same-words, same-next}
-use Rattle.exprs.proofs.Steps.{Inside, pushed-inside}
+use Rattle.atoms.proofs.Places.Entries.{pushed-length, pushed-opened, deeper-most}
 
 module _ (text : List ℕ) (names : List Span) where
   -- 10 comes behind it.
@@ -49,48 +49,52 @@ module _ (text : List ℕ) (names : List Span) where
         rw (t, a, z) (bodyWrote refl (y .words))
     done-wrote (no r) (refused y) q t = never q y
 
-module _ {text ws : List ℕ} {params body next : ℕ} (h : BodyHere text ws params body next) where
-  abbrev pub names-bound : Bound ws params
-  names-bound = record { names = h .names; without = λ z. absurd (h .there z); place = λ _. h .place }
-
+module _ {text ws : List ℕ} {pairs n body next : ℕ} (h : BodyHere text ws pairs n body) (ns : next ≡ n) where
   abbrev pub body-scopes : List Scope
-  body-scopes = record { names = h .names; first = 0 } ∷ []
+  body-scopes = record { names = h .params .names; first = 0 } ∷ []
 
   abbrev pub body-read : Res Expr
   body-read = ParseExpr.child text (h .spot .tree) .plainly body-scopes next
 
-  module _ (s : Entries) {s′ : Entries} (d : s .depth ≡ 0) (l : length (s .entries) ≡ maxLists) (is : s′ ≡ pushed s params 0) where
-    pub body-inside : Inside ws s′ body-scopes (s .depth)
+  module _ (es : List ℕ) {es₁ : List ℕ} {d : ℕ} (l : slots ≤ length es) (is : es₁ ≡ pushed es 0 pairs next 0) (deep : d ≡ deeper 0 pairs) where
+    pub body-inside : Opened ws es₁ d body-scopes
     unfolding inner pick
     body-inside =
-        let i : Inside ws (pushed s params 0) (inner params (h .names) 0 []) (s .depth) = pushed-inside ws s params 0 names-bound [] (rw d tt) l (omega (arith, d)) in
-        let e : inner params (h .names) 0 [] ≡ body-scopes = rw (ne-eqb params 0 (h .there)) refl in
-        rw is (rw e at i)
+        let i : Opened ws (pushed es 0 pairs n 0) (deeper 0 pairs) (inner pairs (h .params .names) 0 []) = pushed-opened es 0 pairs n 0 ws (h .params) [] tt (omega arith) in
+        let e : inner pairs (h .params .names) 0 [] ≡ body-scopes = rw (ne-eqb pairs 0 (h .there)) refl in
+        let is′ : es₁ ≡ pushed es 0 pairs n 0 = is ∙ ap (λ (k : ℕ). pushed es 0 pairs k 0) ns in
+        rw (is′, deep) (rw e at i)
+
+    pub body-slots : slots ≤ length es₁
+    body-slots = omega (arith, ap length is, pushed-length es 0 pairs next 0)
+
+    pub body-shallow : d + nesting (h .spot .tree) ≤ maxLists
+    body-shallow = omega (arith, h .nests, deep, deeper-most es 0 pairs next 0)
 
     -- The parameters are its one scope.
-    abbrev pub body-here : Here text ws body s′ 0 next
+    abbrev pub body-here : Here text ws body es₁ d 0 next
     body-here = record {
       spot = h .spot;
       scopes = body-scopes;
-      holds = body-inside .holds;
-      long = body-inside .long;
-      shallow = omega (arith, h .nests, body-inside .shallow, d);
+      holds = body-inside;
+      long = body-slots;
+      shallow = body-shallow;
       room = omega (arith, h .room);
       bytes = h .bytes;
     }
 
   module _ {count u b : ℕ} {d d′ : List ℕ} {p : Progress} (y : Parsed (told count body-read) 0 d d′ b p) where
     -- It is refused.
-    pub body-refused : {k : ℕ} → p ≡ progress.Refused k → BodyDone count u d d′ (bodyOf text (h .spot .tree) (h .names) next) (Refused k)
+    pub body-refused : {k : ℕ} → p ≡ progress.Refused k → BodyDone count u d d′ (bodyOf text (h .spot .tree) (h .params .names) n) (Refused k)
     unfolding bodyOf
-    body-refused q = done-refused text (h .names) count u body-read y q
+    body-refused q = rw (sym ns) (done-refused text (h .params .names) count u body-read y q)
 
-    module _ {w n : ℕ} (q : p ≡ progress.Done w n) {t : Bool} (e : t ≡ repeated text (h .names)) where
+    module _ {w m : ℕ} (q : p ≡ progress.Done w m) {t : Bool} (e : t ≡ repeated text (h .params .names)) where
       -- A name stands there twice.
-      pub body-twice : t ≡ true → BodyDone count u d d′ (bodyOf text (h .spot .tree) (h .names) next) (Refused 10)
+      pub body-twice : t ≡ true → BodyDone count u d d′ (bodyOf text (h .spot .tree) (h .params .names) n) (Refused 10)
       unfolding bodyOf
-      body-twice z = done-twice text (h .names) count u body-read y q (sym e ∙ z)
+      body-twice z = rw (sym ns) (done-twice text (h .params .names) count u body-read y q (sym e ∙ z))
 
-      pub body-wrote : t ≡ false → BodyDone count u d d′ (bodyOf text (h .spot .tree) (h .names) next) (Done u w n)
+      pub body-wrote : t ≡ false → BodyDone count u d d′ (bodyOf text (h .spot .tree) (h .params .names) n) (Done u w m)
       unfolding bodyOf
-      body-wrote z = done-wrote text (h .names) count u body-read y q (sym e ∙ z)
+      body-wrote z = rw (sym ns) (done-wrote text (h .params .names) count u body-read y q (sym e ∙ z))

@@ -34,6 +34,7 @@ use Rattle.exprs.proofs.BinderPairs.{ReadFrom, read-from}
 use Rattle.exprs.proofs.ExistsForm.{numbered-length}
 use Rattle.grammar.proofs.TreeHead.{Three, three-trees, alone, no-list}
 use Rattle.atoms.proofs.Places.Spots.{word0, spot-within, as-list, IsList}
+use Rattle.atoms.proofs.Places.ScopeNames.{named-trees}
 use Rattle.atoms.proofs.Places.Inside.{ListNode, items-there, first-there, others-there, list-length}
 use Rattle.parse.proofs.ParamNames.{Some, names-bad, names-got, names-binders, split-got, split-bad}
 
@@ -209,9 +210,9 @@ module _ {text ws : List ℕ} (h : Whole text ws) where
                   pub read : ReadFrom (pairs .items) (t .value)
                   read = every-got (ReadFrom (pairs .items)) (read-from text (pairs .items)) (t .is)
 
-                  module _ {i next : ℕ} (ls : i ≡ length (treeWords (items .second))) (ns : next ≡ m) where
-                    pub fresh-many : next ≡ length (t .value .sorts)
-                    fresh-many = ns ∙ pairs-many ∙ sym (read .many)
+                  module _ {i : ℕ} (ls : i ≡ length (treeWords (items .second))) where
+                    pub fresh-many : m ≡ length (t .value .sorts)
+                    fresh-many = pairs-many ∙ sym (read .many)
 
                     pub body-there : drop (f + j + i) ws ≡ treeWords (items .third) ++ (treesWords tnil ++ [])
                     body-there = first-there ws (f + j + i) (items .third) tnil [] (others-there ws (f + j) (items .second) (tcons (items .third) tnil) [] from-second i ls)
@@ -219,11 +220,17 @@ module _ {text ws : List ℕ} (h : Whole text ws) where
                     abbrev pub body-spot : Spot ws (f + j + i)
                     body-spot = record { tree = items .third; rest = treesWords tnil ++ []; words = body-there }
 
-                    abbrev pub parts-body : BodyHere text ws (f + j) (f + j + i) next
+                    abbrev pub parts-body : BodyHere text ws g m (f + j + i)
                     parts-body = record {
-                      names = t .value .names;
-                      place = record { pairs = pairs .items; rest = treesWords (tcons (items .third) tnil) ++ []; words = pairs-there; named = read .named };
-                      there = λ z. omega (arith, l .first);
+                      params = record {
+                        names = t .value .names;
+                        pairs = pairs .items;
+                        rest = treesWords (tcons (items .third) tnil) ++ [];
+                        words = pairs-row 0 (omega arith) .words;
+                        named = read .named;
+                        many = pairs-many ∙ named-trees (pairs .items) (t .value .names) (read .named);
+                      };
+                      there = λ z. omega (arith, v .first);
                       spot = body-spot;
                       nests = body-deep;
                       room = omega (arith, spot-within body-spot, h .small, read .short 0 0, pairs-few, read .many, fresh-many);
@@ -231,10 +238,10 @@ module _ {text ws : List ℕ} (h : Whole text ws) where
                     }
 
                     -- The body under the parameters.
-                    pub parts-done : {d d′ : List ℕ} {q : Parts} → BodyDone count u d d′ (bodyOf text (items .third) (t .value .names) next) q → PartsDone count d d′ o o′ (parseSolution text (h .tree) 0) q
+                    pub parts-done : {d d′ : List ℕ} {q : Parts} → BodyDone count u d d′ (bodyOf text (items .third) (t .value .names) m) q → PartsDone count d d′ o o′ (parseSolution text (h .tree) 0) q
                     parts-done {d} {d′} {q} y =
                         let bs = t .value in
-                        let kn : k ≡ length (bs .sorts) = sym ms ∙ sym ns ∙ fresh-many in
+                        let kn : k ≡ length (bs .sorts) = sym ms ∙ fresh-many in
                         let z : BodyDone count u d d′ (bodyOf text (items .third) (bs .names) (length (bs .sorts))) q = rw fresh-many at y in
                         rw (tree-is ∙ solution-body text (items .first) (pairs .items) (items .third) (names .is) (t .is))
                         (parts-made count bs (bodyOf text (items .third) (bs .names) (length (bs .sorts))) (put-append (length (bs .sorts) ∷ []) (bindersWords count 0 bs) (rw kn at p) (t .put)) z)

@@ -13,7 +13,7 @@ use Rattle.grammar.specs.Expr.{Expr, Solution, exprItems}
 use Rattle.grammar.specs.Scope.{distinct}
 use Rattle.grammar.specs.ParseExpr.{child}
 use Rattle.atoms.specs.Spot.{Spot}
-use Rattle.atoms.specs.Scopes.{NameList}
+use Rattle.atoms.specs.Scopes.{Pairs}
 use Rattle.writing.specs.Laid.{laid}
 use Rattle.atoms.specs.Outcome.{bound}
 use Rattle.exprs.specs.Plans.{factor}
@@ -23,14 +23,13 @@ use Rattle.parse.specs.declared.Drafted.the-variants as drafted
 use Rattle.parse.specs.declared.draft.Parts.{Parts}
 use Rattle.parse.specs.declared.draft.Parts.the-variants as parts
 
--- Where the parameters and the body of a solution stand.
-pub record BodyHere (text ws : List ℕ) (params body next : ℕ) : Type 0 where
-  pub names : List Span
-  pub place : NameList ws params names
-  pub there : params ≡ 0 → ⊥
+-- Where the n parameters of a solution and its body stand.
+pub record BodyHere (text ws : List ℕ) (pairs n body : ℕ) : Type 0 where
+  pub params : Pairs ws pairs n
+  pub there : pairs ≡ 0 → ⊥
   pub spot : Spot ws body
   pub nests : 1 + nesting (spot .tree) ≤ maxLists
-  pub room : next + factor * length (treeWords (spot .tree)) ≤ bound
+  pub room : n + factor * length (treeWords (spot .tree)) ≤ bound
   pub bytes : length text ≤ maxBytes
 
 -- The body under its parameters; 10 comes behind it.

@@ -62,7 +62,7 @@ fn body_at(
     u: usize,
 ) -> Parts
     requires { ⌜ BodyHere (now text) (now tree) pairs n body ⌝ }
-    ensures { λ r. ⌜ ((h : BodyHere (now (text .entry)) (now (tree .entry)) pairs n body) → BodyDone count u (now (draft .entry)) (now (draft .exit)) (bodyOf (now (text .entry)) (h .spot .tree) (h .names) n) r) ⌝ }
+    ensures { λ r. ⌜ ((h : BodyHere (now (text .entry)) (now (tree .entry)) pairs n body) → BodyDone count u (now (draft .entry)) (now (draft .exit)) (bodyOf (now (text .entry)) (h .spot .tree) (h .params .names) n) r) ⌝ }
 {
     let next = long(n);
     let mut scopes = [0u64; SLOTS];
