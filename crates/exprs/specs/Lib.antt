@@ -1,2 +1,3 @@
 pub mod Plans
 pub mod BinderWords
+pub mod Whole

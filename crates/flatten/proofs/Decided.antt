@@ -22,7 +22,9 @@ use Rattle.grammar.proofs.Items.{words-append}
 use Rattle.grammar.proofs.Lengths.{size-solution}
 use Rattle.grammar.proofs.Raise.{raise-append, words-raise, items-raise}
 use Rattle.writing.specs.Laid.{laid}
-use Rattle.parse.specs.Answers.{Attempted, AttemptedAt, raisedWords, paramItems, bodyItems, draftSaid}
+use Rattle.grammar.specs.Item.{raisedWords}
+use Rattle.grammar.specs.Expr.{paramItems, bodyItems}
+use Rattle.parse.specs.Answers.{Attempted, AttemptedAt, draftSaid}
 use Rattle.writing.proofs.Laid.{over-start}
 use Rattle.parse.specs.declared.Counted.the-variants as counted
 use Rattle.parse.specs.declared.Drafted.the-variants as drafted

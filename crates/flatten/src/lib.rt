@@ -3,7 +3,7 @@
 // says which words are an expression, specs/Uncurry.antt what flattening makes of it.
 ghost use mathlib.Core.Path.{_≡_};
 ghost use Rattle.reading.specs.Answer.{zeros, outputOf};
-ghost use Rattle.parse.specs.Answers.{raisedWords};
+ghost use Rattle.grammar.specs.Item.{raisedWords};
 ghost use Rattle.flatten.specs.Operations.{flattenFinal, flattenOut, flatItems, solutionFinal};
 ghost use Rattle.flatten.specs.Answers.{flattenAnswer, solutionAnswer};
 use parse::Counted;

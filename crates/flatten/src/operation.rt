@@ -1,7 +1,8 @@
 // The operations: words judged and flattened; a text parsed into a draft, which is flattened into the output.
 ghost use mathlib.Core.Path.{_≡_};
 ghost use Rattle.reading.specs.Answer.{zeros, outputOf};
-ghost use Rattle.parse.specs.Answers.{Attempted, AttemptedAt, raisedWords};
+ghost use Rattle.grammar.specs.Item.{raisedWords};
+ghost use Rattle.parse.specs.Answers.{Attempted, AttemptedAt};
 ghost use Rattle.flatten.specs.Operations.{exprWords, flattenFinal, flattenOut, flatItems, solutionFinal};
 ghost use Rattle.flatten.specs.Answers.{flattenAnswer, solutionAnswer};
 use crate::write::flat;
@@ -13,7 +14,7 @@ use lexing::words::clear;
 use parse::Counted;
 use parse::Drafted;
 use parse::ending::close;
-use parse::solution_draft;
+use parse::solution::solution_draft;
 use sorts::Answer;
 
 // The flattened words; the output is not cleared yet.

@@ -162,3 +162,10 @@ bindItems b = spanItems (b .name .span) ++ (sortItems (b .sort) ++ (plain (lengt
 
 unfoldable pub solutionItems : Solution → List Item
 solutionItems s = plain (length (s .params)) ∷ binderItems (s .params) ++ exprItems (s .body)
+
+-- What a draft leaves in the output, and in the draft slice: the parameters, and the body before flattening.
+abbrev pub paramItems : Solution → List Item
+paramItems s = plain (length (s .params)) ∷ binderItems (s .params)
+
+abbrev pub bodyItems : Solution → List Item
+bodyItems s = exprItems (s .body)

@@ -15,7 +15,7 @@ use Rattle.sorts.specs.Outcome.{IsTree, Outcome, wrote, refused}
 use Rattle.parse.specs.Answers.{saidBy, Laid, Attempted}
 use Rattle.sorts.specs.declared.Answer.{Answer}
 use Rattle.sorts.specs.declared.Answer.the-variants.{Done, Refused}
-use Rattle.parse.proofs.ReadTree.{TreeIn, NoTree}
+use Rattle.parse.specs.TreeOf.{TreeIn, NoTree}
 
 module _ (text tree out : List ℕ) where
   abbrev whole : Final Sort

@@ -16,13 +16,16 @@ use Rattle.grammar.specs.Item.{wordsOf}
 use Rattle.grammar.specs.Expr.{Solution, exprItems}
 use Rattle.grammar.specs.ParseSolution.{parseSolution}
 use Rattle.grammar.specs.Operations.{theTree, makeSolution, draftFinal}
-use Rattle.parse.specs.Answers.{Laid, draftSaid, raisedWords, paramItems, bodyItems}
-use Rattle.parse.specs.DraftWords.{PartsDone, partsWrote, partsRefused, judgedBy, AttemptedDraft, clearedBy}
+use Rattle.grammar.specs.Item.{raisedWords}
+use Rattle.grammar.specs.Expr.{paramItems, bodyItems}
+use Rattle.parse.specs.Answers.{Laid, draftSaid}
+use Rattle.solutions.specs.PartsWords.{PartsDone, partsWrote, partsRefused}
+use Rattle.parse.specs.DraftAnswers.{judgedBy, AttemptedDraft, clearedBy}
 use Rattle.parse.specs.declared.Drafted.{Drafted}
 use Rattle.parse.specs.declared.Drafted.the-variants.{Done, Refused}
-use Rattle.parse.specs.declared.draft.Parts.{Parts}
+use Rattle.solutions.specs.declared.parts.Parts.{Parts}
 use Rattle.grammar.proofs.Raise.{words-raise}
-use Rattle.parse.proofs.ReadTree.{NoTree}
+use Rattle.parse.specs.TreeOf.{NoTree}
 use Rattle.writing.proofs.Laid.{over-start}
 
 module _ (c : ℕ) (d d′ o o′ : List ℕ) (m : c ≤ maxNumber) where

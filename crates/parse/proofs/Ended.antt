@@ -22,14 +22,15 @@ use Rattle.grammar.specs.Operations.{theTree, makeExpr, exprFinal, makeBind, bi
 use Rattle.writing.specs.Laid.{laid}
 use Rattle.atoms.specs.Scopes.{slots}
 use Rattle.exprs.specs.Plans.{Parsed, wrote, refused, Here}
-use Rattle.parse.specs.PredWords.{Whole}
-use Rattle.parse.specs.Answers.{Laid, AttemptedAt, countedBy, finishedBy, closedBy, raisedWords}
+use Rattle.exprs.specs.Whole.{Whole}
+use Rattle.grammar.specs.Item.{raisedWords}
+use Rattle.parse.specs.Answers.{Laid, AttemptedAt, countedBy, finishedBy, closedBy}
 use Rattle.parse.specs.declared.Counted.{Counted}
 use Rattle.parse.specs.declared.Counted.the-variants.{Done, Refused}
 use Rattle.exprs.specs.declared.expr.Progress.{Progress}
 use Rattle.grammar.proofs.Raise.{words-raise}
 use Rattle.writing.proofs.Laid.{over-start}
-use Rattle.parse.proofs.ReadTree.{TreeIn, NoTree}
+use Rattle.parse.specs.TreeOf.{TreeIn, NoTree}
 
 -- ---- the end of an operation
 
@@ -73,7 +74,7 @@ module _ {A : Type 0} {items : A → List Item} {c : ℕ} {f : Final A} {out out
 module _ {text tree tree′ : List ℕ} {n : ℕ} (x : TreeIn text tree tree′ n) where
   -- What bind asks for.
   abbrev pub whole-in : Whole text (take n tree′)
-  whole-in = record { tree = x .it; words = x .there; small = rw length-take (omega (arith, x .small)); nests = x .fit .nests; bytes = x .fit .short }
+  whole-in = record { tree = x .it; words = x .there; small = rw length-take (omega (arith, x .small)); nests = x .nests; bytes = x .short }
 
   -- So many words it has.
   pub in-size : n ≡ length (treeWords (x .it))
@@ -86,9 +87,9 @@ module _ {text tree tree′ : List ℕ} {n : ℕ} (x : TreeIn text tree tree′ 
     scopes = [];
     holds = tt;
     long = l;
-    shallow = omega (arith, x .fit .nests);
+    shallow = omega (arith, x .nests);
     room = omega (arith, in-size, x .small);
-    bytes = x .fit .short;
+    bytes = x .short;
   }
 
 module _ (text tree out : List ℕ) (c : ℕ) where

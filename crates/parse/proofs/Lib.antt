@@ -2,11 +2,3 @@ pub mod ReadTree
 pub mod Answered
 pub mod Ended
 pub mod Drafts
-pub mod ListHead
-pub mod PredNames
-pub mod PredPlans
-pub mod PredLoop
-pub mod BindOf
-pub mod ParamNames
-pub mod SolutionBody
-pub mod SolutionParts

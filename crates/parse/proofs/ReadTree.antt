@@ -1,6 +1,6 @@
 -- The tree that read one leaves in a slice.
 use Prim.Native.Nat.{ℕ, _^_, _≤_, _<_}
-use mathlib.Core.Path.{_≡_, refl, sym, ap, _∙_}
+use mathlib.Core.Path.{_≡_, refl, sym, ap, subst, _∙_}
 use mathlib.Core.Bool.{Bool, true, false}
 use mathlib.Core.List.{List, append-nil}
 use native.Mathlib.Omega.{arith}
@@ -16,24 +16,12 @@ use Rattle.text.specs.declared.Answer.the-variants as Answers
 use Rattle.reading.proofs.Finish.{finish-short, finish-long}
 use Rattle.reading.proofs.Over.{over-fits, over-length}
 use Rattle.reading.proofs.Read.{read-size, read-short}
-use Rattle.reading.proofs.TextTree.{TextTree, text-tree}
+use Rattle.reading.proofs.TextTree.{text-tree}
 use Rattle.grammar.specs.ParseSort.{treeAt}
 use Rattle.grammar.specs.Operations.{theTree}
-
--- The first words of the slice are those of the tree.
-pub record TreeIn (text tree tree′ : List ℕ) (n : ℕ) : Type 0 where
-  pub it : Tree
-  pub is : theTree text tree ≡ got it
-  pub there : take n tree′ ≡ treeWords it
-  pub within : n ≤ length tree′
-  pub small : n < 2 ^ 32
-  pub fit : TextTree text it
-
--- There is no tree, or no room for it.
-pub record NoTree (text tree : List ℕ) (n : ℕ) : Type 0 where
-  pub why : Refusal
-  pub is : theTree text tree ≡ bad why
-  pub tells : n ≡ number why
+use Rattle.sorts.specs.declared.Answer.{Answer as SaidAnswer}
+use Rattle.sorts.specs.declared.Answer.the-variants as Said
+use Rattle.parse.specs.TreeOf.{TreeIn, NoTree, TreeOf}
 
 module _ (text tree : List ℕ) where
   final-bad : (e : Refusal) → readText false text ≡ bad e → readFinal false text tree ≡ refuses (number e)
@@ -65,7 +53,8 @@ module _ (text tree : List ℕ) where
         is = rw (p, b) (ap (λ (ts : Trees). treeAt ts 0) (t .1));
         there = ap (take n) (o ∙ over-fits (readWords q) tree f) ∙ take-at (readWords q) (drop (length (readWords q)) tree) n (sym k) ∙ w;
         within = omega arith;
-        fit = t .2;
+        nests = t .2 .nests;
+        short = t .2 .short;
         small = omega (arith, read-size false text q p, read-short false text q p);
       }
 
@@ -96,3 +85,13 @@ module _ {text tree tree′ : List ℕ} {r : Answer} (a : r ≡ asAnswer (readSa
       go : (x : Ans Read) → readText false text ≡ x → NoTree text tree n
       go (bad w) p = let s = said-of text tree (final-bad text tree w p) in record { why = w; is = rw p refl; tells = cc }
       go (got q) p = room q p (fitsIn tree (readWords q)) refl
+
+-- ---- the same of what the operations ask for
+
+-- The words of the tree are there.
+pub there-is : {text tree tree′ : List ℕ} {r : SaidAnswer} {n : ℕ} → TreeOf text tree tree′ r → r ≡ Said.Done n → TreeIn text tree tree′ n
+there-is {text} {tree} {tree′} x e = subst (λ (z : SaidAnswer). TreeOf text tree tree′ z) e x
+
+-- There is none.
+pub there-none : {text tree : List ℕ} (tree′ : List ℕ) {r : SaidAnswer} {n : ℕ} → TreeOf text tree tree′ r → r ≡ Said.Refused n → NoTree text tree n
+there-none {text} {tree} tree′ x e = subst (λ (z : SaidAnswer). TreeOf text tree tree′ z) e x

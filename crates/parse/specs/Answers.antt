@@ -1,14 +1,14 @@
 -- What an operation decides, as the code answers it, and what it has left in the output before it clears.
 use Prim.Native.Nat.{ℕ, _+_, _-_}
 use mathlib.Core.Path.{_≡_}
-use mathlib.Core.List.{List, _∷_}
+use mathlib.Core.List.{List}
 use lib.Dec.{ltb}
 use lib.ListN.{length}
 use Rattle.reading.specs.Limits.{maxNumber}
 use Rattle.reading.specs.Pick.{pick}
 use Rattle.reading.specs.Answer.{Final, accepts, refuses, over, zeros}
-use Rattle.grammar.specs.Item.{Item, plain, raise, wordsOf}
-use Rattle.grammar.specs.Expr.{Expr, exprItems, Bind, bindItems, Solution, binderItems}
+use Rattle.grammar.specs.Item.{Item, wordsOf, raisedWords}
+use Rattle.grammar.specs.Expr.{Expr, exprItems, Bind, bindItems, Solution, paramItems, bodyItems}
 use Rattle.grammar.specs.Sort.{Sort, sortWords}
 use Rattle.sorts.specs.declared.Answer.{Answer}
 use Rattle.sorts.specs.declared.Answer.the-variants.{Done, Refused}
@@ -38,10 +38,6 @@ pub record Attempted {A : Type 0} (words : A → List ℕ) (f : Final A) (out ou
   pub answer : r ≡ saidBy words f
   pub left : Laid words f out out′
 
--- The words of a value at the reader's count, by which each fresh number is raised.
-abbrev pub raisedWords : {A : Type 0} → (A → List Item) → ℕ → A → List ℕ
-raisedWords items c a = wordsOf (raise c (items a))
-
 -- How many words a value has, and the reader's count afterwards; or the refusal's number.
 abbrev pub countedBy : {A : Type 0} → (A → List Item) → ℕ → Final A → Counted
 countedBy items c (accepts a n) = counted.Done (length (wordsOf (items a))) (c + n)
@@ -68,13 +64,6 @@ finishedBy (progress.Done w n) c room = pick (ltb (maxNumber - c) n) (counted.Re
 abbrev pub closedBy : Counted → List ℕ → List ℕ
 closedBy (counted.Done w n) out = out
 closedBy (counted.Refused e) out = zeros out
-
--- What a draft leaves in the output, and in the draft slice: the parameters, and the body before flattening.
-abbrev pub paramItems : Solution → List Item
-paramItems s = plain (length (s .params)) ∷ binderItems (s .params)
-
-abbrev pub bodyItems : Solution → List Item
-bodyItems s = exprItems (s .body)
 
 -- The answer of a draft: how many words the parameters and the body have, and the count afterwards.
 abbrev pub draftSaid : ℕ → Final Solution → Drafted

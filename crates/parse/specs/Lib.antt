@@ -1,3 +1,3 @@
 pub mod Answers
-pub mod PredWords
-pub mod DraftWords
+pub mod DraftAnswers
+pub mod TreeOf

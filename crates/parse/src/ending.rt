@@ -27,13 +27,13 @@ pub fn finished(p: Progress, count: u64, room: usize) -> Counted
     }
 }
 
-// The tree is cleared, and the output too after a refusal.
-pub fn close(tree: &mut [u32], out: &mut [u32], answer: Counted) -> Counted
+// The working slice is cleared, and the output too after a refusal.
+pub fn close(working: &mut [u32], out: &mut [u32], answer: Counted) -> Counted
     ensures answer { λ r. ⌜ r ≡ answer ⌝ }
-    ensures working { λ _. ⌜ now (tree .exit) ≡ zeros (now (tree .entry)) ⌝ }
+    ensures working { λ _. ⌜ now (working .exit) ≡ zeros (now (working .entry)) ⌝ }
     ensures output { λ _. ⌜ now (out .exit) ≡ closedBy answer (now (out .entry)) ⌝ }
 {
-    clear(tree);
+    clear(working);
     match answer {
         Counted::Done(w, c) => Counted::Done(w, c),
         Counted::Refused(n) => {

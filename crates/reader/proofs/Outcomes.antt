@@ -19,7 +19,7 @@ use Rattle.grammar.specs.Operations.{theTree, makeSort, makeExpr, makeBind, mak
 use Rattle.grammar.proofs.Items.{words-plains}
 use Rattle.grammar.proofs.Raise.{raise-plains}
 use Rattle.grammar.proofs.Post.{Post, any-post}
-use Rattle.parse.specs.Answers.{raisedWords}
+use Rattle.grammar.specs.Item.{raisedWords}
 use Rattle.flatten.specs.Operations.{flatItems, solutionFits, solutionFinal}
 use Rattle.session.specs.Session.{Call, Term, aRead, aSort, anExpr, aBind, aSolution, termItems, draftItems, termWords, report, make, made, roomFor, final, outcome}
 use Rattle.reader.specs.Calls.{oneCall, allCall, sortCall, exprCall, bindCall, solutionCall}

@@ -77,7 +77,7 @@ impl Reader {
     pub fn sort(self, text: &[u8], tree: &mut [u32], out: &mut [u32]) -> Answer
         ensures { λ r. ⌜ Promised (sortCall (now (text .entry)) (now (tree .entry)) (now (out .entry))) (self .next) (replied r (now (tree .exit)) [] (now (out .exit))) ⌝ }
     {
-        match parse::sort(text, tree, out) {
+        match parse::sort::sort(text, tree, out) {
             sorts::Answer::Done(size) => Answer {
                 reader: self,
                 said: Said::Accepted(size, 0),
@@ -95,7 +95,7 @@ impl Reader {
         ensures { λ r. ⌜ Promised (exprCall (now (text .entry)) (now (tree .entry)) (now (out .entry))) (self .next) (replied r (now (tree .exit)) [] (now (out .exit))) ⌝ }
     {
         let start = self.next;
-        match parse::expression(text, tree, out, start) {
+        match parse::expression::expression(text, tree, out, start) {
             Counted::Done(words, next) => Answer {
                 reader: Reader { next },
                 said: Said::Accepted(words, 0),
@@ -113,7 +113,7 @@ impl Reader {
         ensures { λ r. ⌜ Promised (bindCall (now (text .entry)) (now (tree .entry)) (now (out .entry))) (self .next) (replied r (now (tree .exit)) [] (now (out .exit))) ⌝ }
     {
         let first = self.next;
-        match parse::bind(text, tree, out, first) {
+        match parse::bind::bind(text, tree, out, first) {
             Counted::Done(words, after) => Answer {
                 reader: Reader { next: after },
                 said: Said::Accepted(words, 0),

@@ -1,0 +1,3 @@
+pub mod ParamNames
+pub mod SolutionBody
+pub mod SolutionParts
