@@ -5,9 +5,9 @@ ghost use Rattle.reading.specs.Bytes.{Span};
 ghost use Rattle.grammar.specs.Scope.{sameName, numberIn, repeated};
 ghost use Rattle.atoms.specs.Scopes.{Bound, pushed, Pairs, placeAmong, OpenScopes, Meant};
 use lexing::byte::same;
-use sorts::number::long;
-use sorts::number::wide;
-use sorts::span::bytes_at;
+use words::number::long;
+use words::number::wide;
+use words::span::bytes_at;
 
 // An open scope: the place of its list of names in the tree, and its first fresh number.
 pub struct Entry {

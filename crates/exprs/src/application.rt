@@ -7,17 +7,17 @@ ghost use Rattle.atoms.specs.Spot.{Spot};
 ghost use Rattle.exprs.specs.Plans.{Listed, Filled, PlannedList};
 use crate::plan::Plan;
 use crate::plan::Run;
-use atoms::expr_words::APP;
 use atoms::expr_words::put3;
 use atoms::place::Node;
 use atoms::place::node_at;
 use atoms::place::words_at;
 use atoms::sort_at::sort_at;
 use lexing::byte::same;
-use sorts::Answer;
-use sorts::number::wide;
-use sorts::span::bytes_at;
-use sorts::tree::SYMBOL;
+use words::Answer;
+use words::expr_kinds::APP;
+use words::number::wide;
+use words::span::bytes_at;
+use words::tree_kinds::SYMBOL;
 
 // Whether a tree is the symbol `apply`.
 fn is_apply(text: &[u8], tree: &[u32], at: usize) -> bool

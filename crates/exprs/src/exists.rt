@@ -7,14 +7,14 @@ ghost use Rattle.exprs.specs.Plans.{Listed, Headed, PlannedList};
 use crate::binders::binder_words;
 use crate::plan::Plan;
 use crate::plan::Run;
-use atoms::expr_words::EXISTS;
 use atoms::expr_words::put2;
 use atoms::place::Node;
 use atoms::place::node_at;
 use atoms::place::words_at;
-use sorts::Answer;
-use sorts::number::long;
-use sorts::number::wide;
+use words::Answer;
+use words::expr_kinds::EXISTS;
+use words::number::long;
+use words::number::wide;
 
 // `(exists (binders) body)`, and nothing more. The numbers of the binders are taken before the body is read.
 pub fn exists_plan(

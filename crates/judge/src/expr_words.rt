@@ -9,9 +9,7 @@ ghost use Rattle.judge.specs.Ends.{endOf, headOf, operandsAt, behindOf};
 use crate::sort_words::binders_end;
 use crate::sort_words::sort_end;
 use crate::sort_words::span_end;
-
-// So many expressions may stand inside one another.
-pub const MAX_NODES: u32 = 128;
+use words::limits::MAX_NODES;
 
 // The limit of spans where no text is lent with the words: no span ends behind it.
 pub const NO_TEXT: u64 = 8589934592;

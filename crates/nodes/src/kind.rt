@@ -1,8 +1,8 @@
 // The kind of an expression and its fields, told as values to a walk over words that were judged before.
 ghost use mathlib.Core.Path.{_≡_};
-ghost use Prim.Native.Nat.{_+_, _*_, _^_};
 ghost use lib.ListN.{getD};
 ghost use Rattle.nodes.specs.Node.{nodeAt};
+use words::number::words_to_long;
 
 // A kind and its fields: of a numeral its four words, of a name or a string the words of its span, of a fresh variable its number, of an
 // exists how many binders it has. An application is none of these.
@@ -39,13 +39,6 @@ pub fn word_at(words: &[u32], at: usize) -> u32
     0
 }
 
-// A number of 64 bits by its words.
-pub fn two(low: u32, high: u32) -> u64
-    ensures { λ r. ⌜ r ≡ low + high * 2 ^ 32 ⌝ }
-{
-    low as u64 + high as u64 * 4294967296
-}
-
 // The kind whose word stands at a place, and the fields behind it.
 pub fn kind_at(words: &[u32], at: usize) -> Node
     ensures { λ r. ⌜ r ≡ nodeAt (now (words .entry)) at ⌝ }
@@ -71,7 +64,7 @@ pub fn kind_at(words: &[u32], at: usize) -> Node
             word_at(words, a + 3),
             word_at(words, a + 4),
         ),
-        36 => Node::Fresh(two(first, second)),
+        36 => Node::Fresh(words_to_long(first, second)),
         37 => Node::Named(first, second),
         38 => Node::Other,
         39 => Node::Neg,

@@ -9,7 +9,6 @@ ghost use Rattle.exprs.specs.BinderWords.{BinderRow};
 ghost use Rattle.parse.specs.PredWords.{Whole};
 ghost use Rattle.parse.specs.DraftWords.{BodyHere, bodyOf, BodyDone, PartsDone, judgedBy, AttemptedDraft, clearedBy};
 use crate::Drafted;
-use crate::ending::MAX_NUMBER;
 use crate::ending::no_scopes;
 use atoms::expr_words::put1;
 use atoms::place::Node;
@@ -21,11 +20,12 @@ use exprs::binders::binder_words;
 use exprs::binders::is_pair;
 use exprs::expr::Progress;
 use exprs::expr::expr;
-use lexing::words::clear;
-use sorts::Answer;
-use sorts::number::long;
-use sorts::number::wide;
 use text::read_one;
+use words::Answer;
+use words::limits::MAX_NUMBER;
+use words::number::long;
+use words::number::wide;
+use words::output::clear;
 
 // How many words the parameters and the body have, and how many fresh numbers they take; or a refusal.
 pub enum Parts {

@@ -8,10 +8,8 @@ use crate::Counted;
 use atoms::scopes::Entries;
 use atoms::scopes::Entry;
 use exprs::expr::Progress;
-use lexing::words::clear;
-
-// The largest count that a reader holds.
-pub const MAX_NUMBER: u64 = 18446744073709551615;
+use words::limits::MAX_NUMBER;
+use words::output::clear;
 
 // No scope is open.
 pub fn no_scopes() -> Entries

@@ -7,7 +7,7 @@ ghost use Rattle.grammar.specs.Sort.{sortWords};
 ghost use Rattle.grammar.specs.Expr.{exprItems, bindItems};
 ghost use Rattle.grammar.specs.Operations.{sortFinal, exprFinal, bindFinal, draftFinal};
 ghost use Rattle.parse.specs.Answers.{sortSaid, exprSaid, bindSaid, draftSaid, raisedWords, paramItems, bodyItems};
-use sorts::Answer;
+use words::Answer;
 
 mod draft;
 pub mod ending;

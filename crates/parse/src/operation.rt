@@ -11,9 +11,9 @@ use crate::ending::finished;
 use crate::ending::no_scopes;
 use crate::preds::bind_at;
 use exprs::expr::expr;
-use lexing::words::clear;
-use sorts::Answer;
 use text::read_one;
+use words::Answer;
+use words::output::clear;
 
 // The sort and its words; no slice is cleared yet.
 fn attempt_sort(text: &[u8], tree: &mut [u32], out: &mut [u32]) -> Answer

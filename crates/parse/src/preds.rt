@@ -10,7 +10,6 @@ ghost use Rattle.atoms.specs.Outcome.{bound, Put, OutcomeAt};
 ghost use Rattle.exprs.specs.Plans.{Parsed};
 ghost use Rattle.parse.specs.PredWords.{Whole, PredHere, KvarHere, countedPreds, Stepped, NameRow, namesWords};
 use crate::ending::no_scopes;
-use atoms::expr_words::NAMED;
 use atoms::expr_words::VarName;
 use atoms::expr_words::put_name;
 use atoms::expr_words::put1;
@@ -25,16 +24,14 @@ use exprs::expr::Progress;
 use exprs::expr::expr;
 use lexing::byte::begins_with;
 use lexing::byte::same;
-use lexing::words::put;
-use sorts::Answer;
-use sorts::number::wide;
-use sorts::span::bytes_at;
-use sorts::tree::SYMBOL;
-
-// The kinds of predicates.
-const KVAR: u32 = 64;
-
-const EXPR: u32 = 65;
+use words::Answer;
+use words::expr_kinds::NAMED;
+use words::number::wide;
+use words::output::put;
+use words::pred_kinds::EXPR;
+use words::pred_kinds::KVAR;
+use words::span::bytes_at;
+use words::tree_kinds::SYMBOL;
 
 // The name of a kvar, a span of the text that begins with `$`.
 pub struct KvarName(pub u32, pub u32);

@@ -1,4 +1,4 @@
-use Rattle.grammar.proofs.TreeHead.{tree-two}
+use Rattle.reading.proofs.TreeHead.{tree-two}
 use Rattle.atoms.proofs.Places.Spots.{spot-within}
 use Rattle.exprs.proofs.Steps.{as-stop, as-leaf, as-run, run-row, run-refused, last-end, last-spot, last-here, last-done, run-twice, run-done, Going, progress-start, progress-end, progress-short, next-spot, next-here, progress-refused, progress-more}
 use Rattle.exprs.specs.Plans.{Row}

@@ -9,7 +9,7 @@ use Rattle.nodes.proofs.kind.kind_at.Statement.{statement}
 use Rattle.nodes.proofs.kind.kind_at.Tie as tie
 use Rattle.nodes.proofs.kind.kind_at.Reads as reads
 use Rattle.nodes.proofs.kind.kind_at.Lts as lts
-use Rattle.nodes.proofs.kind.two.Reads as two-reads
+use Rattle.words.proofs.number.words_to_long.Reads as words-to-long-reads
 use Rattle.nodes.proofs.kind.word_at.Reads as word-at-reads
 
 -- src/kind.rt:54:9
@@ -85,8 +85,8 @@ word-at-requires-7 : tie.Need-word-at-requires-7
 word-at-requires-7 c κs = search needs
 
 -- src/kind.rt:74:27
-two-requires : tie.Need-two-requires
-two-requires c κs = search needs
+words-to-long-requires : tie.Need-words-to-long-requires
+words-to-long-requires c κs = search needs
 
 -- src/kind.rt:50:1
 returns-3 : tie.Need-returns-3
@@ -111,7 +111,7 @@ returns-6 c = told-at _ _ 35 (omega arith) (c .before .before .before .match .ke
 -- src/kind.rt:50:1
 returns-7 : tie.Need-returns-7
 unfolding nodesAt
-returns-7 c = told-at _ _ 36 (omega arith) (c .before .match .keys5) (rw (c .two .ensures, c .before .before .before .word-at .ensures, c .before .before .word-at2 .ensures) refl)
+returns-7 c = told-at _ _ 36 (omega arith) (c .before .match .keys5) (rw (c .words-to-long .ensures, c .before .before .before .word-at .ensures, c .before .before .word-at2 .ensures) refl)
 
 -- src/kind.rt:50:1
 returns-8 : tie.Need-returns-8
@@ -216,7 +216,7 @@ kind-at-spec =
     word-at-requires-6
     add-word-at-6
     word-at-requires-7
-    two-requires
+    words-to-long-requires
     returns-3
     returns-4
     returns-5

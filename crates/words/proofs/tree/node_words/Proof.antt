@@ -1,8 +1,8 @@
 use native.Mathlib.Omega.{arith}
-use Rattle.grammar.proofs.TreeHead.{head-two, size-list, size-integer, size-boolean, size-other}
+use Rattle.reading.proofs.TreeHead.{head-two, size-list, size-integer, size-boolean, size-other}
 use borrow.Author.Needs.{needs}
-use Rattle.sorts.proofs.tree.node_words.Statement.{statement}
-use Rattle.sorts.proofs.tree.node_words.Tie as tie
+use Rattle.words.proofs.tree.node_words.Statement.{statement}
+use Rattle.words.proofs.tree.node_words.Tie as tie
 
 shared-slice-read-kind : tie.Need-shared-slice-read-kind
 shared-slice-read-kind c =

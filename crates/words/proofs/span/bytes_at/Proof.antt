@@ -1,8 +1,8 @@
 use Rattle.reading.specs.Bytes.{bytesAt}
-use Rattle.sorts.proofs.Lend.{clipped}
+use Rattle.words.proofs.Clip.{clipped}
 use borrow.Author.Needs.{needs}
-use Rattle.sorts.proofs.span.bytes_at.Statement.{statement}
-use Rattle.sorts.proofs.span.bytes_at.Tie as tie
+use Rattle.words.proofs.span.bytes_at.Statement.{statement}
+use Rattle.words.proofs.span.bytes_at.Tie as tie
 
 wide-requires : tie.Need-wide-requires
 wide-requires c κs = tt
