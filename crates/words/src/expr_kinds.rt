@@ -39,3 +39,6 @@ pub const THEORY: u32 = 49;
 pub const IS_CTOR: u32 = 50;
 
 pub const EXISTS: u32 = 51;
+
+// The word behind the last kind.
+pub const KINDS_END: u32 = EXISTS + 1;
