@@ -5,8 +5,8 @@ ghost use Rattle.reading.specs.Bytes.{Span};
 ghost use Rattle.grammar.specs.Scope.{sameName, numberIn, repeated};
 ghost use Rattle.atoms.specs.Scopes.{Bound, pushed, Pairs, placeAmong, OpenScopes, Meant};
 use lexing::byte::same;
-use words::number::long;
-use words::number::wide;
+use words::number::length_to_long;
+use words::number::word_to_length;
 use words::span::bytes_at;
 
 // An open scope: the place of its list of names in the tree, and its first fresh number.
@@ -62,7 +62,7 @@ fn place_among(text: &[u8], tree: &[u32], at: usize, n: usize, start: u32, len: 
         if same_name(text, start, len, tree[p + 4], tree[p + 5]) {
             return i;
         }
-        p += wide(tree[p + 2]) + 3;
+        p += word_to_length(tree[p + 2]) + 3;
         i += 1;
     }
     i
@@ -77,10 +77,10 @@ pub fn find(text: &[u8], tree: &[u32], scopes: Entries, count: u64, start: u32, 
     while 0 < d {
         let e = scopes.entries[d - 1];
         let at = e.names;
-        let n = wide(tree[at + 1]);
+        let n = word_to_length(tree[at + 1]);
         let i = place_among(text, tree, at + 3, n, start, len);
         if i < n {
-            let k = std::num::wrapping_add_u64(e.first, long(i));
+            let k = std::num::wrapping_add_u64(e.first, length_to_long(i));
             return Found::At(std::num::wrapping_add_u64(count, k));
         }
         d -= 1;
@@ -96,13 +96,13 @@ pub fn twice(text: &[u8], tree: &[u32], names: usize) -> bool
     if names == 0 {
         return false;
     }
-    let n = wide(tree[names + 1]);
+    let n = word_to_length(tree[names + 1]);
     let mut p = names + 3;
     let mut i: usize = 0;
     while i < n {
         let s = tree[p + 4];
         let l = tree[p + 5];
-        p += wide(tree[p + 2]) + 3;
+        p += word_to_length(tree[p + 2]) + 3;
         i += 1;
         if place_among(text, tree, p, n - i, s, l) < n - i {
             return true;

@@ -25,7 +25,7 @@ use atoms::keywords::form_named;
 use words::expr_kinds::BINARY;
 use words::expr_kinds::IS_CTOR;
 use words::expr_kinds::NEG;
-use words::number::wide;
+use words::number::word_to_length;
 use words::span::bytes_at;
 use words::tree_kinds::SYMBOL;
 
@@ -36,7 +36,7 @@ fn behind(n: u32, at: usize, want: usize, words: usize) -> Plan
 {
     Plan::Go(Run {
         first: at + 6,
-        have: wide(n - 1),
+        have: word_to_length(n - 1),
         want: want,
         last: 0,
         plain: false,
@@ -97,7 +97,7 @@ fn named_plan(
     match form_named(bytes_at(text, start, len)) {
         Form::One(kind, want) => behind(n, at, want, put1(out, w, kind)),
         Form::Two(kind, code, want) => behind(n, at, want, put2(out, w, kind, code)),
-        Form::Many(kind) => behind(n, at, wide(n - 1), put2(out, w, kind, n - 1)),
+        Form::Many(kind) => behind(n, at, word_to_length(n - 1), put2(out, w, kind, n - 1)),
         Form::Cast => only(n, at, w),
         Form::IsCtor => only(
             n,

@@ -23,8 +23,8 @@ use exprs::expr::expr;
 use text::read_one;
 use words::Answer;
 use words::limits::MAX_NUMBER;
-use words::number::long;
-use words::number::wide;
+use words::number::length_to_long;
+use words::number::word_to_length;
 use words::output::clear;
 
 // How many words the parameters and the body have, and how many fresh numbers they take; or a refusal.
@@ -91,7 +91,7 @@ fn parts_at(text: &[u8], tree: &[u32], count: u64, draft: &mut [u32], out: &mut 
     let Node::List(k, pairs) = node_at(tree, params) else {
         return Parts::Refused(8);
     };
-    let m = wide(k);
+    let m = word_to_length(k);
     if !all_pairs(tree, pairs, m) {
         return Parts::Refused(8);
     }
@@ -100,7 +100,7 @@ fn parts_at(text: &[u8], tree: &[u32], count: u64, draft: &mut [u32], out: &mut 
         Answer::Refused(e) => Parts::Refused(e),
         Answer::Done(u) => {
             let body = params + words_at(tree, params);
-            body_at(text, tree, params, body, count, long(m), draft, u)
+            body_at(text, tree, params, body, count, length_to_long(m), draft, u)
         }
     }
 }

@@ -26,7 +26,7 @@ use lexing::byte::begins_with;
 use lexing::byte::same;
 use words::Answer;
 use words::expr_kinds::NAMED;
-use words::number::wide;
+use words::number::word_to_length;
 use words::output::put;
 use words::pred_kinds::EXPR;
 use words::pred_kinds::KVAR;
@@ -80,7 +80,7 @@ fn kvar(text: &[u8], tree: &[u32], at: usize, next: u64, out: &mut [u32], w: usi
         return Step::Refused(8);
     }
     let v = put_kvar(out, w, KvarName(tree[at + 4], tree[at + 5]), n - 1);
-    match names(text, tree, at + 6, wide(n - 1), out, v) {
+    match names(text, tree, at + 6, word_to_length(n - 1), out, v) {
         Answer::Refused(e) => Step::Refused(e),
         Answer::Done(u) => Step::On(at + words_at(tree, at), u, next, 1),
     }

@@ -30,7 +30,7 @@ use words::Answer;
 use words::limits::MAX_FUNC;
 use words::number::fewer;
 use words::number::least;
-use words::number::wide;
+use words::number::word_to_length;
 use words::sort_kinds::BOOL;
 use words::sort_kinds::INT;
 use words::sort_kinds::REAL;
@@ -143,7 +143,7 @@ fn func_number(a: u32, b: u32, c: u32, d: u32) -> Arity
     if MAX_FUNC < a {
         return Arity::Out;
     }
-    Arity::In(wide(a))
+    Arity::In(word_to_length(a))
 }
 
 // The sort that a tree is.

@@ -28,14 +28,14 @@ pub fn word_to_long(w: u32) -> u64
 }
 
 // A word as a length.
-pub fn wide(w: u32) -> usize
+pub fn word_to_length(w: u32) -> usize
     ensures { λ r. ⌜ (r ≡ w) × (r < 2 ^ 32) ⌝ }
 {
     w as usize
 }
 
 // A length as a long number.
-pub fn long(x: usize) -> u64
+pub fn length_to_long(x: usize) -> u64
     ensures { λ r. ⌜ r ≡ x ⌝ }
 {
     x as u64

@@ -5,7 +5,7 @@ ghost use Prim.Native.Nat.{ℕ};
 ghost use lib.ListN.{length};
 ghost use Rattle.reading.specs.Tree.{Tree, treeWords};
 ghost use Rattle.words.specs.Begins.{Begins};
-use crate::number::wide;
+use crate::number::word_to_length;
 use crate::tree_kinds::BOOLEAN;
 use crate::tree_kinds::INTEGER;
 use crate::tree_kinds::LIST;
@@ -17,7 +17,7 @@ pub fn node_words(items: &[u32]) -> usize
 {
     let kind = items[0];
     if kind == LIST {
-        return wide(items[2]) + 3;
+        return word_to_length(items[2]) + 3;
     }
     if kind == INTEGER {
         return 5;

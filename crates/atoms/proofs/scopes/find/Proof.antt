@@ -25,26 +25,26 @@ mul-e c = omega (arith, c .before .loop .inv (c .before .before .before .before 
 element-copy-out-e : tie.Need-element-copy-out-e Inv-loop μ-loop
 element-copy-out-e c = omega (arith, c .before .loop .inv (c .before .before .before .before .pre) .within, c .before .before .before .before .pre .long)
 
-add-wide : tie.Need-add-wide Inv-loop μ-loop
-add-wide c = let x = (search-top _ _ _ (c .before .before .before .before .before .pre) _ _ (c .before .before .loop .inv (c .before .before .before .before .before .pre)) (c .before .loop-test .taken)) in omega (arith, list-in (x .entry .place))
+add-word-to-length : tie.Need-add-word-to-length Inv-loop μ-loop
+add-word-to-length c = let x = (search-top _ _ _ (c .before .before .before .before .before .pre) _ _ (c .before .before .loop .inv (c .before .before .before .before .before .pre)) (c .before .loop-test .taken)) in omega (arith, list-in (x .entry .place))
 
-mul-wide : tie.Need-mul-wide Inv-loop μ-loop
-mul-wide c = let x = (search-top _ _ _ (c .before .before .before .before .before .pre) _ _ (c .before .before .loop .inv (c .before .before .before .before .before .pre)) (c .before .loop-test .taken)) in omega (arith, list-in (x .entry .place))
+mul-word-to-length : tie.Need-mul-word-to-length Inv-loop μ-loop
+mul-word-to-length c = let x = (search-top _ _ _ (c .before .before .before .before .before .pre) _ _ (c .before .before .loop .inv (c .before .before .before .before .before .pre)) (c .before .loop-test .taken)) in omega (arith, list-in (x .entry .place))
 
-shared-slice-read-wide : tie.Need-shared-slice-read-wide Inv-loop μ-loop
-shared-slice-read-wide c = let x = (search-top _ _ _ (c .before .before .before .before .before .before .pre) _ _ (c .before .before .before .loop .inv (c .before .before .before .before .before .before .pre)) (c .before .before .loop-test .taken)) in omega (arith, list-in (x .entry .place))
+shared-slice-read-word-to-length : tie.Need-shared-slice-read-word-to-length Inv-loop μ-loop
+shared-slice-read-word-to-length c = let x = (search-top _ _ _ (c .before .before .before .before .before .before .pre) _ _ (c .before .before .before .loop .inv (c .before .before .before .before .before .before .pre)) (c .before .before .loop-test .taken)) in omega (arith, list-in (x .entry .place))
 
-wide-requires : tie.Need-wide-requires Inv-loop μ-loop
-wide-requires c κs = search needs
+word-to-length-requires : tie.Need-word-to-length-requires Inv-loop μ-loop
+word-to-length-requires c κs = search needs
 
 add-place-among : tie.Need-add-place-among Inv-loop μ-loop
 add-place-among c = let x = (search-top _ _ _ (c .before .before .before .before .before .before .before .pre) _ _ (c .before .before .before .before .loop .inv (c .before .before .before .before .before .before .before .pre)) (c .before .before .before .loop-test .taken)) in omega (arith, list-in (x .entry .place))
 
 place-among-requires : tie.Need-place-among-requires Inv-loop μ-loop
-place-among-requires c κs = let x = (search-top _ _ _ (c .before .before .before .before .before .before .before .pre) _ _ (c .before .before .before .before .loop .inv (c .before .before .before .before .before .before .before .pre)) (c .before .before .before .loop-test .taken)) in list-pairs (x .entry .place) _ (c .wide .ensures .0)
+place-among-requires c κs = let x = (search-top _ _ _ (c .before .before .before .before .before .before .before .pre) _ _ (c .before .before .before .before .loop .inv (c .before .before .before .before .before .before .before .pre)) (c .before .before .before .loop-test .taken)) in list-pairs (x .entry .place) _ (c .word-to-length .ensures .0)
 
-long-requires : tie.Need-long-requires Inv-loop μ-loop
-long-requires c κs = search needs
+length-to-long-requires : tie.Need-length-to-long-requires Inv-loop μ-loop
+length-to-long-requires c κs = search needs
 
 wrapping-add-u64-requires : tie.Need-wrapping-add-u64-requires Inv-loop μ-loop
 wrapping-add-u64-requires c κs = search needs
@@ -53,7 +53,7 @@ wrapping-add-u64-requires-2 : tie.Need-wrapping-add-u64-requires-2 Inv-loop μ-l
 wrapping-add-u64-requires-2 c κs = search needs
 
 returns : tie.Need-returns Inv-loop μ-loop
-returns c h = let x = (search-top _ _ _ h _ _ (c .before .before .before .before .before .before .before .before .before .loop .inv h) (c .before .before .before .before .before .before .before .before .loop-test .taken)) in search-hit _ _ _ h _ _ (c .before .before .before .before .before .before .before .before .before .loop .inv h) (c .before .before .before .before .before .before .before .before .loop-test .taken) (c .before .before .before .before .before .wide .ensures .0 ∙ list-trees (x .entry .place)) (c .before .before .before .before .place-among .ensures (list-pairs (x .entry .place) _ (c .before .before .before .before .before .wide .ensures .0))) _ (c .before .before .before .if1 .taken) (wraps _ _ _ _ _ _ (c .before .before .long .ensures) (c .before .wrapping-add-u64 .ensures) (c .wrapping-add-u642 .ensures))
+returns c h = let x = (search-top _ _ _ h _ _ (c .before .before .before .before .before .before .before .before .before .loop .inv h) (c .before .before .before .before .before .before .before .before .loop-test .taken)) in search-hit _ _ _ h _ _ (c .before .before .before .before .before .before .before .before .before .loop .inv h) (c .before .before .before .before .before .before .before .before .loop-test .taken) (c .before .before .before .before .before .word-to-length .ensures .0 ∙ list-trees (x .entry .place)) (c .before .before .before .before .place-among .ensures (list-pairs (x .entry .place) _ (c .before .before .before .before .before .word-to-length .ensures .0))) _ (c .before .before .before .if1 .taken) (wraps _ _ _ _ _ _ (c .before .before .length-to-long .ensures) (c .before .wrapping-add-u64 .ensures) (c .wrapping-add-u642 .ensures))
 
 sub-d : tie.Need-sub-d Inv-loop μ-loop
 sub-d c = search needs
@@ -62,7 +62,7 @@ loop-less : tie.Need-loop-less Inv-loop μ-loop
 loop-less c = search needs
 
 loop-again : tie.Need-loop-again Inv-loop μ-loop
-loop-again c = λ h. (let x = (search-top _ _ _ h _ _ (c .before .before .before .before .before .before .loop .inv h) (c .before .before .before .before .before .loop-test .taken)) in search-more _ _ _ h _ _ (c .before .before .before .before .before .before .loop .inv h) (c .before .before .before .before .before .loop-test .taken) (c .before .before .wide .ensures .0 ∙ list-trees (x .entry .place)) (c .before .place-among .ensures (list-pairs (x .entry .place) _ (c .before .before .wide .ensures .0))) (c .if1 .left))
+loop-again c = λ h. (let x = (search-top _ _ _ h _ _ (c .before .before .before .before .before .before .loop .inv h) (c .before .before .before .before .before .loop-test .taken)) in search-more _ _ _ h _ _ (c .before .before .before .before .before .before .loop .inv h) (c .before .before .before .before .before .loop-test .taken) (c .before .before .word-to-length .ensures .0 ∙ list-trees (x .entry .place)) (c .before .place-among .ensures (list-pairs (x .entry .place) _ (c .before .before .word-to-length .ensures .0))) (c .if1 .left))
 
 returns-2 : tie.Need-returns-2 Inv-loop μ-loop
 returns-2 c h = search-end _ _ _ h _ _ (c .before .loop .inv h) _ (c .loop-test .left)
@@ -77,13 +77,13 @@ find-spec =
     sub-e
     mul-e
     element-copy-out-e
-    add-wide
-    mul-wide
-    shared-slice-read-wide
-    wide-requires
+    add-word-to-length
+    mul-word-to-length
+    shared-slice-read-word-to-length
+    word-to-length-requires
     add-place-among
     place-among-requires
-    long-requires
+    length-to-long-requires
     wrapping-add-u64-requires
     wrapping-add-u64-requires-2
     returns

@@ -18,23 +18,23 @@ returns : tie.Need-returns Inv-loop μ-loop
 unfolding repeated
 returns c b = sym (ap (repeated _) (b .without (c .if1 .taken)))
 
-add-wide : tie.Need-add-wide Inv-loop μ-loop
-add-wide c = omega (arith, (list-in (c .before .before .before .pre .place (c .if1 .left))))
+add-word-to-length : tie.Need-add-word-to-length Inv-loop μ-loop
+add-word-to-length c = omega (arith, (list-in (c .before .before .before .pre .place (c .if1 .left))))
 
-mul-wide : tie.Need-mul-wide Inv-loop μ-loop
-mul-wide c = omega (arith, (list-in (c .before .before .before .pre .place (c .if1 .left))))
+mul-word-to-length : tie.Need-mul-word-to-length Inv-loop μ-loop
+mul-word-to-length c = omega (arith, (list-in (c .before .before .before .pre .place (c .if1 .left))))
 
-shared-slice-read-wide : tie.Need-shared-slice-read-wide Inv-loop μ-loop
-shared-slice-read-wide c = omega (arith, (list-in (c .before .before .before .before .pre .place (c .before .if1 .left))))
+shared-slice-read-word-to-length : tie.Need-shared-slice-read-word-to-length Inv-loop μ-loop
+shared-slice-read-word-to-length c = omega (arith, (list-in (c .before .before .before .before .pre .place (c .before .if1 .left))))
 
-wide-requires : tie.Need-wide-requires Inv-loop μ-loop
-wide-requires c κs = search needs
+word-to-length-requires : tie.Need-word-to-length-requires Inv-loop μ-loop
+word-to-length-requires c κs = search needs
 
 add-p : tie.Need-add-p Inv-loop μ-loop
 add-p c = omega (arith, (list-in (c .before .before .before .before .before .pre .place (c .before .before .if1 .left))))
 
 loop-holds : tie.Need-loop-holds Inv-loop μ-loop
-loop-holds c = λ b. left-start _ _ (b .names) _ (b .place (c .before .before .if1 .left)) (c .wide .ensures .0)
+loop-holds c = λ b. left-start _ _ (b .names) _ (b .place (c .before .before .if1 .left)) (c .word-to-length .ensures .0)
 
 add-s : tie.Need-add-s Inv-loop μ-loop
 add-s c = let x = (left-pair _ _ _ _ _ _ (c .before .loop .inv (c .before .before .before .before .before .before .before .pre)) (c .loop-test .taken)) in omega (arith, x .six)
@@ -54,23 +54,23 @@ mul-l c = let x = (left-pair _ _ _ _ _ _ (c .before .before .loop .inv (c .befor
 shared-slice-read-l : tie.Need-shared-slice-read-l Inv-loop μ-loop
 shared-slice-read-l c = let x = (left-pair _ _ _ _ _ _ (c .before .before .before .loop .inv (c .before .before .before .before .before .before .before .before .before .pre)) (c .before .before .loop-test .taken)) in omega (arith, x .six)
 
-add-wide-2 : tie.Need-add-wide-2 Inv-loop μ-loop
-add-wide-2 c = let x = (left-pair _ _ _ _ _ _ (c .before .before .before .loop .inv (c .before .before .before .before .before .before .before .before .before .pre)) (c .before .before .loop-test .taken)) in omega (arith, x .six)
+add-word-to-length-2 : tie.Need-add-word-to-length-2 Inv-loop μ-loop
+add-word-to-length-2 c = let x = (left-pair _ _ _ _ _ _ (c .before .before .before .loop .inv (c .before .before .before .before .before .before .before .before .before .pre)) (c .before .before .loop-test .taken)) in omega (arith, x .six)
 
-mul-wide-2 : tie.Need-mul-wide-2 Inv-loop μ-loop
-mul-wide-2 c = let x = (left-pair _ _ _ _ _ _ (c .before .before .before .loop .inv (c .before .before .before .before .before .before .before .before .before .pre)) (c .before .before .loop-test .taken)) in omega (arith, x .six)
+mul-word-to-length-2 : tie.Need-mul-word-to-length-2 Inv-loop μ-loop
+mul-word-to-length-2 c = let x = (left-pair _ _ _ _ _ _ (c .before .before .before .loop .inv (c .before .before .before .before .before .before .before .before .before .pre)) (c .before .before .loop-test .taken)) in omega (arith, x .six)
 
-shared-slice-read-wide-2 : tie.Need-shared-slice-read-wide-2 Inv-loop μ-loop
-shared-slice-read-wide-2 c = let x = (left-pair _ _ _ _ _ _ (c .before .before .before .before .loop .inv (c .before .before .before .before .before .before .before .before .before .before .pre)) (c .before .before .before .loop-test .taken)) in omega (arith, x .six)
+shared-slice-read-word-to-length-2 : tie.Need-shared-slice-read-word-to-length-2 Inv-loop μ-loop
+shared-slice-read-word-to-length-2 c = let x = (left-pair _ _ _ _ _ _ (c .before .before .before .before .loop .inv (c .before .before .before .before .before .before .before .before .before .before .pre)) (c .before .before .before .loop-test .taken)) in omega (arith, x .six)
 
-wide-requires-2 : tie.Need-wide-requires-2 Inv-loop μ-loop
-wide-requires-2 c κs = search needs
+word-to-length-requires-2 : tie.Need-word-to-length-requires-2 Inv-loop μ-loop
+word-to-length-requires-2 c κs = search needs
 
 add-p-2 : tie.Need-add-p-2 Inv-loop μ-loop
-add-p-2 c = let x = (left-pair _ _ _ _ _ _ (c .before .before .before .before .before .loop .inv (c .before .before .before .before .before .before .before .before .before .before .before .pre)) (c .before .before .before .before .loop-test .taken)) in omega (arith, x .fits, c .wide2 .ensures .0)
+add-p-2 c = let x = (left-pair _ _ _ _ _ _ (c .before .before .before .before .before .loop .inv (c .before .before .before .before .before .before .before .before .before .before .before .pre)) (c .before .before .before .before .loop-test .taken)) in omega (arith, x .fits, c .word-to-length2 .ensures .0)
 
 add-p-3 : tie.Need-add-p-3 Inv-loop μ-loop
-add-p-3 c = let x = (left-pair _ _ _ _ _ _ (c .before .before .before .before .before .loop .inv (c .before .before .before .before .before .before .before .before .before .before .before .pre)) (c .before .before .before .before .loop-test .taken)) in omega (arith, x .fits, c .wide2 .ensures .0)
+add-p-3 c = let x = (left-pair _ _ _ _ _ _ (c .before .before .before .before .before .loop .inv (c .before .before .before .before .before .before .before .before .before .before .before .pre)) (c .before .before .before .before .loop-test .taken)) in omega (arith, x .fits, c .word-to-length2 .ensures .0)
 
 add-i : tie.Need-add-i Inv-loop μ-loop
 add-i c = omega arith
@@ -79,21 +79,21 @@ sub-place-among : tie.Need-sub-place-among Inv-loop μ-loop
 sub-place-among c = omega arith
 
 place-among-requires : tie.Need-place-among-requires Inv-loop μ-loop
-place-among-requires c κs = (left-rest _ _ _ _ _ _ (c .before .before .before .before .before .loop .inv (c .before .before .before .before .before .before .before .before .before .before .before .pre)) (c .before .before .before .before .loop-test .taken) _ (rw (c .wide2 .ensures .0) refl))
+place-among-requires c κs = (left-rest _ _ _ _ _ _ (c .before .before .before .before .before .loop .inv (c .before .before .before .before .before .before .before .before .before .before .before .pre)) (c .before .before .before .before .loop-test .taken) _ (rw (c .word-to-length2 .ensures .0) refl))
 
 sub-if2 : tie.Need-sub-if2 Inv-loop μ-loop
 sub-if2 c = omega arith
 
 returns-2 : tie.Need-returns-2 Inv-loop μ-loop
 returns-2 c b =
-    let q : ℕ = c .before .before .before .before .before .before .before .loop .p + (c .before .before .wide2 .result + 3) in
-    left-hit _ _ _ _ _ _ (c .before .before .before .before .before .before .before .loop .inv b) (c .before .before .before .before .before .before .loop-test .taken) (c .before .before .before .before .before .before .before .loop .p + (c .before .before .wide2 .result + 3)) (rw (c .before .before .wide2 .ensures .0) refl) (c .before .place-among .ensures (left-rest _ _ _ _ _ _ (c .before .before .before .before .before .before .before .loop .inv b) (c .before .before .before .before .before .before .loop-test .taken) (c .before .before .before .before .before .before .before .loop .p + (c .before .before .wide2 .result + 3)) (rw (c .before .before .wide2 .ensures .0) refl))) (c .if2 .taken)
+    let q : ℕ = c .before .before .before .before .before .before .before .loop .p + (c .before .before .word-to-length2 .result + 3) in
+    left-hit _ _ _ _ _ _ (c .before .before .before .before .before .before .before .loop .inv b) (c .before .before .before .before .before .before .loop-test .taken) (c .before .before .before .before .before .before .before .loop .p + (c .before .before .word-to-length2 .result + 3)) (rw (c .before .before .word-to-length2 .ensures .0) refl) (c .before .place-among .ensures (left-rest _ _ _ _ _ _ (c .before .before .before .before .before .before .before .loop .inv b) (c .before .before .before .before .before .before .loop-test .taken) (c .before .before .before .before .before .before .before .loop .p + (c .before .before .word-to-length2 .result + 3)) (rw (c .before .before .word-to-length2 .ensures .0) refl))) (c .if2 .taken)
 
 loop-less : tie.Need-loop-less Inv-loop μ-loop
 loop-less c = omega arith
 
 loop-again : tie.Need-loop-again Inv-loop μ-loop
-loop-again c = λ b. left-more _ _ _ _ _ _ (c .before .before .before .before .before .before .before .loop .inv b) (c .before .before .before .before .before .before .loop-test .taken) _ (rw (c .before .before .wide2 .ensures .0) refl) (c .before .place-among .ensures (left-rest _ _ _ _ _ _ (c .before .before .before .before .before .before .before .loop .inv b) (c .before .before .before .before .before .before .loop-test .taken) _ (rw (c .before .before .wide2 .ensures .0) refl))) (c .if2 .left)
+loop-again c = λ b. left-more _ _ _ _ _ _ (c .before .before .before .before .before .before .before .loop .inv b) (c .before .before .before .before .before .before .loop-test .taken) _ (rw (c .before .before .word-to-length2 .ensures .0) refl) (c .before .place-among .ensures (left-rest _ _ _ _ _ _ (c .before .before .before .before .before .before .before .loop .inv b) (c .before .before .before .before .before .before .loop-test .taken) _ (rw (c .before .before .word-to-length2 .ensures .0) refl))) (c .if2 .left)
 
 returns-3 : tie.Need-returns-3 Inv-loop μ-loop
 returns-3 c b = left-end _ _ _ _ _ _ (c .before .loop .inv b) (c .loop-test .left)
@@ -105,10 +105,10 @@ twice-spec =
     Inv-loop
     μ-loop
     returns
-    add-wide
-    mul-wide
-    shared-slice-read-wide
-    wide-requires
+    add-word-to-length
+    mul-word-to-length
+    shared-slice-read-word-to-length
+    word-to-length-requires
     add-p
     loop-holds
     add-s
@@ -117,10 +117,10 @@ twice-spec =
     add-l
     mul-l
     shared-slice-read-l
-    add-wide-2
-    mul-wide-2
-    shared-slice-read-wide-2
-    wide-requires-2
+    add-word-to-length-2
+    mul-word-to-length-2
+    shared-slice-read-word-to-length-2
+    word-to-length-requires-2
     add-p-2
     add-p-3
     add-i

@@ -52,8 +52,8 @@ returns-3 c h =
     let js = c .before .before .before .words-at .ensures (head-spot h l three) in
     params-other h l three js _ (node-other (c .before .before .before .before .before .before .before .before .before .before .before .before .before .args .tree .now) (c .before .before .before .before .before .before .n .given .0 .1 .0 + c .before .before .before .words-at .result) (c .before .before .node-at2 .ensures) (c .enum-told2 .given .1))
 
-wide-requires : tie.Need-wide-requires
-wide-requires c κs = search needs
+word-to-length-requires : tie.Need-word-to-length-requires
+word-to-length-requires c κs = search needs
 
 all-pairs-requires : tie.Need-all-pairs-requires
 all-pairs-requires c κs =
@@ -61,7 +61,7 @@ all-pairs-requires c κs =
     let three = c .before .before .before .before .before .before .if1 .left in
     let js = c .before .before .before .before .before .words-at .ensures (head-spot (c .before .before .before .before .before .before .before .before .before .before .before .before .before .before .before .pre) l three) in
     let v = node-list (c .before .before .before .before .before .before .before .before .before .before .before .before .before .before .before .args .tree .now) (c .before .before .before .before .before .before .before .before .n .given .0 .1 .0 + c .before .before .before .before .before .words-at .result) (c .before .before .before .before .node-at2 .ensures) (c .before .before .k .given .1) in
-    let ms = c .wide .ensures .0 in
+    let ms = c .word-to-length .ensures .0 in
     pairs-row (c .before .before .before .before .before .before .before .before .before .before .before .before .before .before .before .pre) l three js v ms 0 (omega arith)
 
 returns-4 : tie.Need-returns-4
@@ -70,7 +70,7 @@ returns-4 c h =
     let three = c .before .before .before .before .before .before .before .before .if1 .left in
     let js = c .before .before .before .before .before .before .before .words-at .ensures (head-spot h l three) in
     let v = node-list (c .before .before .before .before .before .before .before .before .before .before .before .before .before .before .before .before .before .args .tree .now) (c .before .before .before .before .before .before .before .before .before .before .n .given .0 .1 .0 + c .before .before .before .before .before .before .before .words-at .result) (c .before .before .before .before .before .before .node-at2 .ensures) (c .before .before .before .before .k .given .1) in
-    let ms = c .before .before .wide .ensures .0 in
+    let ms = c .before .before .word-to-length .ensures .0 in
     let is = c .before .all-pairs .ensures (pairs-row h l three js v ms 0 (omega arith)) in
     pairs-bad h l three js v ms is _ (not-true _ (c .if2 .taken))
 
@@ -83,7 +83,7 @@ binder-words-requires c κs =
     let three = c .before .before .before .before .before .before .before .before .before .before .before .before .before .if1 .left in
     let js = c .before .before .before .before .before .before .before .before .before .before .before .before .words-at .ensures (head-spot (c .before .before .before .before .before .before .before .before .before .before .before .before .before .before .before .before .before .before .before .before .before .before .pre) l three) in
     let v = node-list (c .before .before .before .before .before .before .before .before .before .before .before .before .before .before .before .before .before .before .before .before .before .before .args .tree .now) (c .before .before .before .before .before .before .before .before .before .before .before .before .before .before .before .n .given .0 .1 .0 + c .before .before .before .before .before .before .before .before .before .before .before .before .words-at .result) (c .before .before .before .before .before .before .before .before .before .before .before .node-at2 .ensures) (c .before .before .before .before .before .before .before .before .before .k .given .1) in
-    let ms = c .before .before .before .before .before .before .before .wide .ensures .0 in
+    let ms = c .before .before .before .before .before .before .before .word-to-length .ensures .0 in
     pairs-row (c .before .before .before .before .before .before .before .before .before .before .before .before .before .before .before .before .before .before .before .before .before .before .pre) l three js v ms (c .before .before .before .put1 .result) (omega (arith, c .before .before .before .put1 .ensures .is))
 
 enum-known-e : tie.Need-enum-known-e
@@ -107,8 +107,8 @@ add-body c =
     let p = params-spot (c .before .before .before .before .before .before .before .before .before .before .before .before .before .before .before .before .before .before .before .before .before .before .before .before .before .before .before .before .before .pre) l three js in
     omega (arith, spot-within p, c .words-at2 .ensures p, c .before .before .before .before .before .before .before .before .before .before .before .before .before .before .before .before .before .before .before .before .before .before .before .before .before .before .before .before .before .good)
 
-long-requires : tie.Need-long-requires
-long-requires c κs = search needs
+length-to-long-requires : tie.Need-length-to-long-requires
+length-to-long-requires c κs = search needs
 
 body-at-requires : tie.Need-body-at-requires
 body-at-requires c κs =
@@ -116,12 +116,12 @@ body-at-requires c κs =
     let three = c .before .before .before .before .before .before .before .before .before .before .before .before .before .before .before .before .before .before .before .before .before .before .if1 .left in
     let js = c .before .before .before .before .before .before .before .before .before .before .before .before .before .before .before .before .before .before .before .before .before .words-at .ensures (head-spot (c .before .before .before .before .before .before .before .before .before .before .before .before .before .before .before .before .before .before .before .before .before .before .before .before .before .before .before .before .before .before .before .pre) l three) in
     let v = node-list (c .before .before .before .before .before .before .before .before .before .before .before .before .before .before .before .before .before .before .before .before .before .before .before .before .before .before .before .before .before .before .before .args .tree .now) (c .before .before .before .before .before .before .before .before .before .before .before .before .before .before .before .before .before .before .before .before .before .before .before .before .n .given .0 .1 .0 + c .before .before .before .before .before .before .before .before .before .before .before .before .before .before .before .before .before .before .before .before .before .words-at .result) (c .before .before .before .before .before .before .before .before .before .before .before .before .before .before .before .before .before .before .before .before .node-at2 .ensures) (c .before .before .before .before .before .before .before .before .before .before .before .before .before .before .before .before .before .before .k .given .1) in
-    let ms = c .before .before .before .before .before .before .before .before .before .before .before .before .before .before .before .before .wide .ensures .0 in
+    let ms = c .before .before .before .before .before .before .before .before .before .before .before .before .before .before .before .before .word-to-length .ensures .0 in
     let is = c .before .before .before .before .before .before .before .before .before .before .before .before .before .before .before .all-pairs .ensures (pairs-row (c .before .before .before .before .before .before .before .before .before .before .before .before .before .before .before .before .before .before .before .before .before .before .before .before .before .before .before .before .before .before .before .pre) l three js v ms 0 (omega arith)) in
     let yes = not-false (c .before .before .before .before .before .before .before .before .before .before .before .before .before .before .before .all-pairs .result) (c .before .before .before .before .before .before .before .before .before .before .before .before .before .before .if2 .left) in
     let row = pairs-row (c .before .before .before .before .before .before .before .before .before .before .before .before .before .before .before .before .before .before .before .before .before .before .before .before .before .before .before .before .before .before .before .pre) l three js v ms (c .before .before .before .before .before .before .before .before .before .before .before .before .put1 .result) (omega (arith, c .before .before .before .before .before .before .before .before .before .before .before .before .put1 .ensures .is)) in
     let read = c .before .before .before .before .before .before .before .before .binder-words .ensures row (c .before .before .before .before .before .before .before .before .before .before .before .before .before .before .before .before .before .before .before .before .before .before .before .before .before .before .before .before .before .before .before .args .count) 0 (omega (arith, c .before .before .before .before .before .before .before .before .before .before .before .before .before .before .before .before .before .before .before .before .before .before .before .before .before .before .before .before .before .before .before .good)) in
-    parts-body (c .before .before .before .before .before .before .before .before .before .before .before .before .before .before .before .before .before .before .before .before .before .before .before .before .before .before .before .before .before .before .before .pre) l three js v ms is yes _ (c .before .before .before .before .before .before .before .before .before .before .before .before .put1 .ensures) (got-at read (c .before .before .before .before .u .given .1)) (c .before .before .words-at2 .ensures (params-spot (c .before .before .before .before .before .before .before .before .before .before .before .before .before .before .before .before .before .before .before .before .before .before .before .before .before .before .before .before .before .before .before .pre) l three js)) (c .before .long .ensures)
+    parts-body (c .before .before .before .before .before .before .before .before .before .before .before .before .before .before .before .before .before .before .before .before .before .before .before .before .before .before .before .before .before .before .before .pre) l three js v ms is yes _ (c .before .before .before .before .before .before .before .before .before .before .before .before .put1 .ensures) (got-at read (c .before .before .before .before .u .given .1)) (c .before .before .words-at2 .ensures (params-spot (c .before .before .before .before .before .before .before .before .before .before .before .before .before .before .before .before .before .before .before .before .before .before .before .before .before .before .before .before .before .before .before .pre) l three js)) (c .before .length-to-long .ensures)
 
 same-length : tie.Need-same-length
 same-length c = search needs
@@ -132,7 +132,7 @@ returns-5 c h =
     let three = c .before .before .before .before .before .before .before .before .before .before .before .before .before .before .before .before .before .before .before .if1 .left in
     let js = c .before .before .before .before .before .before .before .before .before .before .before .before .before .before .before .before .before .before .words-at .ensures (head-spot h l three) in
     let v = node-list (c .before .before .before .before .before .before .before .before .before .before .before .before .before .before .before .before .before .before .before .before .before .before .before .before .before .before .before .before .args .tree .now) (c .before .before .before .before .before .before .before .before .before .before .before .before .before .before .before .before .before .before .before .before .before .n .given .0 .1 .0 + c .before .before .before .before .before .before .before .before .before .before .before .before .before .before .before .before .before .before .words-at .result) (c .before .before .before .before .before .before .before .before .before .before .before .before .before .before .before .before .before .node-at2 .ensures) (c .before .before .before .before .before .before .before .before .before .before .before .before .before .before .before .k .given .1) in
-    let ms = c .before .before .before .before .before .before .before .before .before .before .before .before .before .wide .ensures .0 in
+    let ms = c .before .before .before .before .before .before .before .before .before .before .before .before .before .word-to-length .ensures .0 in
     let is = c .before .before .before .before .before .before .before .before .before .before .before .before .all-pairs .ensures (pairs-row h l three js v ms 0 (omega arith)) in
     let yes = not-false (c .before .before .before .before .before .before .before .before .before .before .before .before .all-pairs .result) (c .before .before .before .before .before .before .before .before .before .before .before .if2 .left) in
     let row = pairs-row h l three js v ms (c .before .before .before .before .before .before .before .before .before .put1 .result) (omega (arith, c .before .before .before .before .before .before .before .before .before .put1 .ensures .is)) in
@@ -151,14 +151,14 @@ returns-6 c h =
     let three = c .before .before .before .before .before .before .before .before .before .before .before .before .before .before .before .before .before .before .before .before .before .before .before .before .before .if1 .left in
     let js = c .before .before .before .before .before .before .before .before .before .before .before .before .before .before .before .before .before .before .before .before .before .before .before .before .words-at .ensures (head-spot h l three) in
     let v = node-list (c .before .before .before .before .before .before .before .before .before .before .before .before .before .before .before .before .before .before .before .before .before .before .before .before .before .before .before .before .before .before .before .before .before .before .args .tree .now) (c .before .before .before .before .before .before .before .before .before .before .before .before .before .before .before .before .before .before .before .before .before .before .before .before .before .before .before .n .given .0 .1 .0 + c .before .before .before .before .before .before .before .before .before .before .before .before .before .before .before .before .before .before .before .before .before .before .before .before .words-at .result) (c .before .before .before .before .before .before .before .before .before .before .before .before .before .before .before .before .before .before .before .before .before .before .before .node-at2 .ensures) (c .before .before .before .before .before .before .before .before .before .before .before .before .before .before .before .before .before .before .before .before .before .k .given .1) in
-    let ms = c .before .before .before .before .before .before .before .before .before .before .before .before .before .before .before .before .before .before .before .wide .ensures .0 in
+    let ms = c .before .before .before .before .before .before .before .before .before .before .before .before .before .before .before .before .before .before .before .word-to-length .ensures .0 in
     let is = c .before .before .before .before .before .before .before .before .before .before .before .before .before .before .before .before .before .before .all-pairs .ensures (pairs-row h l three js v ms 0 (omega arith)) in
     let yes = not-false (c .before .before .before .before .before .before .before .before .before .before .before .before .before .before .before .before .before .before .all-pairs .result) (c .before .before .before .before .before .before .before .before .before .before .before .before .before .before .before .before .before .if2 .left) in
     let row = pairs-row h l three js v ms (c .before .before .before .before .before .before .before .before .before .before .before .before .before .before .before .put1 .result) (omega (arith, c .before .before .before .before .before .before .before .before .before .before .before .before .before .before .before .put1 .ensures .is)) in
     let read = c .before .before .before .before .before .before .before .before .before .before .before .binder-words .ensures row (c .before .before .before .before .before .before .before .before .before .before .before .before .before .before .before .before .before .before .before .before .before .before .before .before .before .before .before .before .before .before .before .before .before .before .args .count) 0 (omega (arith, c .before .before .before .before .before .before .before .before .before .before .before .before .before .before .before .before .before .before .before .before .before .before .before .before .before .before .before .before .before .before .before .before .before .before .good)) in
     let t = got-at read (c .before .before .before .before .before .before .before .u .given .1) in
     let ls = c .before .before .before .before .before .words-at2 .ensures (params-spot h l three js) in
-    parts-done h l three js v ms is yes _ (c .before .before .before .before .before .before .before .before .before .before .before .before .before .before .before .put1 .ensures) t ls (c .before .before .before .before .long .ensures) (c .before .before .body-at .ensures (parts-body h l three js v ms is yes _ (c .before .before .before .before .before .before .before .before .before .before .before .before .before .before .before .put1 .ensures) t ls (c .before .before .before .before .long .ensures)))
+    parts-done h l three js v ms is yes _ (c .before .before .before .before .before .before .before .before .before .before .before .before .before .before .before .put1 .ensures) t ls (c .before .before .before .before .length-to-long .ensures) (c .before .before .body-at .ensures (parts-body h l three js v ms is yes _ (c .before .before .before .before .before .before .before .before .before .before .before .before .before .before .before .put1 .ensures) t ls (c .before .before .before .before .length-to-long .ensures)))
 
 pub parts-at-spec : {M : Type 1} → statement M
 parts-at-spec =
@@ -175,7 +175,7 @@ parts-at-spec =
     enum-known-k
     enum-told-2
     returns-3
-    wide-requires
+    word-to-length-requires
     all-pairs-requires
     returns-4
     put1-requires
@@ -184,7 +184,7 @@ parts-at-spec =
     enum-known-u
     words-at-requires-2
     add-body
-    long-requires
+    length-to-long-requires
     body-at-requires
     same-length
     returns-5

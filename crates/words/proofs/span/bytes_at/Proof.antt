@@ -4,14 +4,14 @@ use borrow.Author.Needs.{needs}
 use Rattle.words.proofs.span.bytes_at.Statement.{statement}
 use Rattle.words.proofs.span.bytes_at.Tie as tie
 
-wide-requires : tie.Need-wide-requires
-wide-requires c κs = tt
+word-to-length-requires : tie.Need-word-to-length-requires
+word-to-length-requires c κs = tt
 
 least-requires : tie.Need-least-requires
 least-requires c κs = tt
 
-wide-requires-2 : tie.Need-wide-requires-2
-wide-requires-2 c κs = tt
+word-to-length-requires-2 : tie.Need-word-to-length-requires-2
+word-to-length-requires-2 c κs = tt
 
 add-least : tie.Need-add-least
 add-least c = search needs
@@ -30,15 +30,15 @@ part-result-end c = search needs
 
 returns : tie.Need-returns
 unfolding bytesAt
-returns c = rw (c .before .before .before .least .ensures, c .before .least2 .ensures, c .before .before .before .before .wide .ensures .0, c .before .before .wide2 .ensures .0) (clipped (c .before .before .before .before .before .before .args .text .now) (c .before .before .before .before .before .before .args .start) (c .before .before .before .before .before .before .args .len))
+returns c = rw (c .before .before .before .least .ensures, c .before .least2 .ensures, c .before .before .before .before .word-to-length .ensures .0, c .before .before .word-to-length2 .ensures .0) (clipped (c .before .before .before .before .before .before .args .text .now) (c .before .before .before .before .before .before .args .start) (c .before .before .before .before .before .before .args .len))
 
 pub bytes-at-spec : {M : Type 1} → statement M
 bytes-at-spec =
     tie.close
     (tie.spec
-    wide-requires
+    word-to-length-requires
     least-requires
-    wide-requires-2
+    word-to-length-requires-2
     add-least
     least-requires-2
     sub-result
