@@ -1,6 +1,6 @@
 // Numbers in digits.
 ghost use mathlib.Core.Path.{_≡_};
-ghost use Prim.Native.Nat.{_^_, _≤_, _<_};
+ghost use Prim.Native.Nat.{_^_, _≤_};
 ghost use lib.ListN.{length};
 ghost use Rattle.reading.specs.Bytes.{just};
 ghost use Rattle.reading.specs.Number.{valueOf, isDigit, digits, below, plusBytes, unsigned as unsignedOf};
