@@ -28,7 +28,7 @@ use Rattle.atoms.specs.declared.theory.Theory.{Theory}
 use Rattle.atoms.specs.declared.theory.Theory.the-variants as theories
 use Rattle.atoms.specs.declared.scopes.Found.{Found}
 use Rattle.atoms.specs.declared.scopes.Found.the-variants as found
-use Rattle.sorts.proofs.Lend.{drop-min}
+use Rattle.words.proofs.Clip.{drop-min}
 
 -- An integer below 2^127 is a numeral; another one is Neg of a numeral.
 module _ (count : ℕ) (w : Wide) where

@@ -15,8 +15,8 @@ use Rattle.atoms.specs.Spot.{Spot}
 use Rattle.writing.specs.Laid.{laid}
 use Rattle.writing.proofs.Laid.{laid-over}
 use Rattle.atoms.specs.Outcome.{Put, OutcomeAt, wroteAt, refusedAt}
-use Rattle.sorts.specs.declared.Answer.{Answer}
-use Rattle.sorts.specs.declared.Answer.the-variants.{Done, Refused}
+use Rattle.words.specs.declared.Answer.{Answer}
+use Rattle.words.specs.declared.Answer.the-variants.{Done, Refused}
 use Rattle.grammar.proofs.Post.{Every}
 use Rattle.grammar.proofs.SortOf.{SortOf, sort-of}
 use Rattle.sorts.proofs.Lend.{lent-rest}

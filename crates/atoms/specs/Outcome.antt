@@ -5,8 +5,8 @@ use mathlib.Core.List.{List}
 use lib.ListN.{length}
 use Rattle.reading.specs.Answer.{Refusal, number, Ans, got, bad}
 use Rattle.writing.specs.Laid.{laid}
-use Rattle.sorts.specs.declared.Answer.{Answer}
-use Rattle.sorts.specs.declared.Answer.the-variants.{Done, Refused}
+use Rattle.words.specs.declared.Answer.{Answer}
+use Rattle.words.specs.declared.Answer.the-variants.{Done, Refused}
 
 -- A bound of places and numbers, far below the largest that a word of the machine holds.
 abbrev pub bound : ℕ

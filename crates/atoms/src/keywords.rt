@@ -4,16 +4,16 @@ ghost use Rattle.reading.specs.Bytes.{ascii, beginsWith, lookup};
 ghost use Rattle.grammar.specs.Names.{keywords};
 ghost use Rattle.grammar.specs.ParseExpr.{orElseForm};
 ghost use Rattle.atoms.specs.FormNames.{FormIs};
-use crate::expr_words::AND;
-use crate::expr_words::ATOM;
-use crate::expr_words::BINARY;
-use crate::expr_words::IF;
-use crate::expr_words::IFF;
-use crate::expr_words::IMP;
-use crate::expr_words::NOT;
-use crate::expr_words::OR;
 use lexing::byte::begins_with;
 use lexing::byte::same;
+use words::expr_kinds::AND;
+use words::expr_kinds::ATOM;
+use words::expr_kinds::BINARY;
+use words::expr_kinds::IF;
+use words::expr_kinds::IFF;
+use words::expr_kinds::IMP;
+use words::expr_kinds::NOT;
+use words::expr_kinds::OR;
 
 // A kind, or a kind and its code, with so many operands; a kind with any number of them; or a form of its own.
 pub enum Form {

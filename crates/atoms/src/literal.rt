@@ -8,7 +8,7 @@ use lexing::byte::begins_with;
 use lexing::number::Mag;
 use lexing::number::unsigned;
 use lexing::quad::Quad;
-use sorts::number::least;
+use words::number::least;
 
 // The value of `#b..`; bits that are none, or too many; or a string that does not begin so.
 pub enum Bits {

@@ -8,8 +8,8 @@ ghost use lib.Dec.{eqb};
 ghost use Rattle.reading.specs.Pick.{pick};
 ghost use Rattle.atoms.specs.Spot.{Spot, Seen};
 ghost use Rattle.atoms.specs.declared.place.Node.the-variants.{List, Other};
-use sorts::tree::LIST;
-use sorts::tree::node_words;
+use words::tree::node_words;
+use words::tree_kinds::LIST;
 
 // How many words the tree at a place has.
 pub fn words_at(tree: &[u32], at: usize) -> usize

@@ -6,12 +6,14 @@ ghost use Rattle.reading.specs.Bytes.{Span};
 ghost use Rattle.grammar.specs.Scope.{sameName, numberIn, repeated};
 ghost use Rattle.atoms.specs.Scopes.{pushed, deeper, Pairs, placeAmong, OpenScopes, Meant};
 use lexing::byte::same;
-use sorts::number::long;
-use sorts::number::wide;
-use sorts::span::bytes_at;
+use words::limits::MAX_LISTS;
+use words::number::length_to_long;
+use words::number::long_to_length;
+use words::number::word_to_length;
+use words::span::bytes_at;
 
 // Room for as many entries as lists can stand inside one another.
-pub const SLOTS: usize = 192;
+pub const SLOTS: usize = 3 * MAX_LISTS;
 
 // An entry is three numbers: the place of the first pair `(name ..)` in the tree, how many pairs there are, and the first fresh number.
 // One entry more, unless its place is 0; the depth inside.
@@ -22,17 +24,10 @@ pub fn opened(scopes: &mut [u64], depth: usize, pairs: usize, n: u64, first: u64
     if pairs == 0 {
         return depth;
     }
-    scopes[3 * depth] = long(pairs);
+    scopes[3 * depth] = length_to_long(pairs);
     scopes[3 * depth + 1] = n;
     scopes[3 * depth + 2] = first;
     depth + 1
-}
-
-// A number of 64 bits as a length.
-pub fn size(x: u64) -> usize
-    ensures { λ r. ⌜ r ≡ x ⌝ }
-{
-    x as usize
 }
 
 // The number that a name means, or none.
@@ -59,7 +54,7 @@ fn place_among(text: &[u8], tree: &[u32], at: usize, n: usize, start: u32, len: 
         if same_name(text, start, len, tree[p + 4], tree[p + 5]) {
             return i;
         }
-        p += wide(tree[p + 2]) + 3;
+        p += word_to_length(tree[p + 2]) + 3;
         i += 1;
     }
     i
@@ -81,11 +76,11 @@ pub fn find(
     let mut d = depth;
     while 0 < d {
         d -= 1;
-        let at = size(scopes[3 * d]);
-        let n = size(scopes[3 * d + 1]);
+        let at = long_to_length(scopes[3 * d]);
+        let n = long_to_length(scopes[3 * d + 1]);
         let i = place_among(text, tree, at, n, start, len);
         if i < n {
-            let k = std::num::wrapping_add_u64(scopes[3 * d + 2], long(i));
+            let k = std::num::wrapping_add_u64(scopes[3 * d + 2], length_to_long(i));
             return Found::At(std::num::wrapping_add_u64(count, k));
         }
     }
@@ -102,7 +97,7 @@ pub fn twice(text: &[u8], tree: &[u32], at: usize, n: usize) -> bool
     while i < n {
         let s = tree[p + 4];
         let l = tree[p + 5];
-        p += wide(tree[p + 2]) + 3;
+        p += word_to_length(tree[p + 2]) + 3;
         i += 1;
         if place_among(text, tree, p, n - i, s, l) < n - i {
             return true;

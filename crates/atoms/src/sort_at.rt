@@ -5,9 +5,9 @@ ghost use Rattle.grammar.specs.ParseSort.{parseSort};
 ghost use Rattle.atoms.specs.Spot.{Small};
 ghost use Rattle.atoms.specs.Outcome.{bound, OutcomeAt};
 use crate::place::words_at;
-use sorts::Answer;
-use sorts::number::least;
 use sorts::sorts::sort;
+use words::Answer;
+use words::number::least;
 
 // The rest of the output is lent on.
 pub fn sort_at(text: &[u8], tree: &[u32], at: usize, out: &mut [u32], w: usize) -> Answer

@@ -5,9 +5,6 @@ ghost use Rattle.grammar.specs.Scope.{symbolExpr};
 ghost use Rattle.grammar.specs.Written.{exprWords};
 ghost use Rattle.atoms.specs.Scopes.{OpenScopes};
 ghost use Rattle.atoms.specs.Outcome.{bound, Put};
-use crate::expr_words::FRESH;
-use crate::expr_words::NAMED;
-use crate::expr_words::THEORY;
 use crate::expr_words::VarName;
 use crate::expr_words::put_name;
 use crate::expr_words::put2;
@@ -16,9 +13,12 @@ use crate::scopes::Found;
 use crate::scopes::find;
 use crate::theory::Theory;
 use crate::theory::theory_number;
-use sorts::number::high;
-use sorts::number::low;
-use sorts::span::bytes_at;
+use words::expr_kinds::FRESH;
+use words::expr_kinds::NAMED;
+use words::expr_kinds::THEORY;
+use words::number::high;
+use words::number::low;
+use words::span::bytes_at;
 
 // A theory name, then the innermost scope that has the name, then a named variable.
 pub fn variable(

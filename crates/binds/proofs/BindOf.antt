@@ -33,7 +33,8 @@ use Rattle.exprs.proofs.Steps as Steps
 use Rattle.atoms.proofs.SortPlace.{GotAt, BadAt, sort-short}
 use Rattle.binds.proofs.ListHead.{the-list, list-trees, the-items, whole-is, head-spot, others-words}
 use Rattle.binds.proofs.PredNames.{symbol-here, symbol-three}
-use Rattle.grammar.proofs.TreeHead.{alone, no-list, no-symbol}
+use Rattle.grammar.proofs.TreeHead.{no-list, no-symbol}
+use Rattle.reading.proofs.TreeHead.{alone}
 use Rattle.atoms.proofs.Places.Spots.{word0}
 use Rattle.atoms.proofs.Places.Inside.{ListNode, first-there, trees-size}
 

@@ -24,7 +24,7 @@ use Rattle.binds.specs.declared.preds.Step.the-variants as step
 use Rattle.exprs.proofs.Steps.{More}
 use Rattle.grammar.proofs.FormsWritten.{raised-append}
 use Rattle.writing.proofs.Laid.{laid-append}
-use Rattle.grammar.proofs.TreeHead.{tree-two, no-trees}
+use Rattle.reading.proofs.TreeHead.{tree-two, no-trees}
 use Rattle.atoms.proofs.Places.Inside.{items-there, first-there, others-there, trees-size}
 
 -- ---- trees in front of trees

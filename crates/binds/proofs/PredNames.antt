@@ -20,8 +20,8 @@ use Rattle.atoms.specs.Spot.{Spot}
 use Rattle.writing.specs.Laid.{laid}
 use Rattle.atoms.specs.Outcome.{bound, Put, OutcomeAt, wroteAt, refusedAt}
 use Rattle.binds.specs.PredWords.{KvarHere, ReadPred, Stepped, stepRead, stepRefused, NameRow, namesWords}
-use Rattle.sorts.specs.declared.Answer.{Answer}
-use Rattle.sorts.specs.declared.Answer.the-variants.{Done, Refused}
+use Rattle.words.specs.declared.Answer.{Answer}
+use Rattle.words.specs.declared.Answer.the-variants.{Done, Refused}
 use Rattle.binds.specs.declared.preds.Step.the-variants as step
 use Rattle.grammar.proofs.Post.{Every, any-every, then-every}
 use Rattle.grammar.proofs.FormsWritten.{children-count}
@@ -29,7 +29,8 @@ use Rattle.exprs.proofs.Steps.{More, some}
 use Rattle.exprs.proofs.Steps as Steps
 use Rattle.atoms.proofs.SortPlace.{GotAt, BadAt, every-got}
 use Rattle.atoms.proofs.Puts.{put-append}
-use Rattle.grammar.proofs.TreeHead.{is-symbol, no-symbol, tree-two}
+use Rattle.grammar.proofs.TreeHead.{no-symbol}
+use Rattle.reading.proofs.TreeHead.{is-symbol, tree-two}
 use Rattle.atoms.proofs.Places.Spots.{word, word0, spot-within}
 use Rattle.atoms.proofs.Places.Inside.{list-spot, list-many, items-there, first-there, others-there, trees-size, child-tree}
 

@@ -30,7 +30,7 @@ use Rattle.atoms.proofs.Puts.{put-append}
 use Rattle.exprs.proofs.Laid.{never, same-words, same-next}
 use Rattle.binds.proofs.ListHead.{the-list, list-trees, the-items, whole-is, head-spot}
 use Rattle.binds.proofs.PredNames.{symbol-here}
-use Rattle.grammar.proofs.TreeHead.{tree-two}
+use Rattle.reading.proofs.TreeHead.{tree-two}
 use Rattle.atoms.proofs.Places.Spots.{word0, spot-within}
 use Rattle.atoms.proofs.Places.Inside.{ListNode}
 

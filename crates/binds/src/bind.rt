@@ -12,8 +12,8 @@ use atoms::place::node_at;
 use atoms::place::words_at;
 use atoms::sort_at::sort_at;
 use exprs::expr::Progress;
-use sorts::Answer;
-use sorts::tree::SYMBOL;
+use words::Answer;
+use words::tree_kinds::SYMBOL;
 
 // The bind that a tree is: `((name sort) predicate ..)`; the name opens no scope.
 pub fn bind_at(text: &[u8], tree: &[u32], count: u64, out: &mut [u32]) -> Progress

@@ -9,7 +9,7 @@ ghost use Rattle.atoms.specs.Scopes.{slots};
 ghost use Rattle.atoms.specs.Outcome.{bound, Put, OutcomeAt};
 ghost use Rattle.exprs.specs.Plans.{Parsed};
 ghost use Rattle.binds.specs.PredWords.{PredHere, KvarHere, countedPreds, Stepped, NameRow, namesWords};
-use atoms::expr_words::NAMED;
+use words::expr_kinds::NAMED;
 use atoms::expr_words::VarName;
 use atoms::expr_words::put_name;
 use atoms::expr_words::put1;
@@ -23,16 +23,13 @@ use exprs::expr::Progress;
 use exprs::expr::expr;
 use lexing::byte::begins_with;
 use lexing::byte::same;
-use lexing::words::put;
-use sorts::Answer;
-use sorts::number::wide;
-use sorts::span::bytes_at;
-use sorts::tree::SYMBOL;
-
-// The kinds of predicates.
-const KVAR: u32 = 64;
-
-const EXPR: u32 = 65;
+use words::output::put;
+use words::Answer;
+use words::pred_kinds::EXPR;
+use words::pred_kinds::KVAR;
+use words::number::word_to_length;
+use words::span::bytes_at;
+use words::tree_kinds::SYMBOL;
 
 // The name of a kvar, a span of the text that begins with `$`.
 pub struct KvarName(pub u32, pub u32);
@@ -81,7 +78,7 @@ fn kvar(text: &[u8], tree: &[u32], at: usize, next: u64, out: &mut [u32], w: usi
         return Step::Refused(8);
     }
     let v = put_kvar(out, w, KvarName(tree[at + 4], tree[at + 5]), n - 1);
-    match names(text, tree, at + 6, wide(n - 1), out, v) {
+    match names(text, tree, at + 6, word_to_length(n - 1), out, v) {
         Answer::Refused(e) => Step::Refused(e),
         Answer::Done(u) => Step::On(at + words_at(tree, at), u, next, 1),
     }

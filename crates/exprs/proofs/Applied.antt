@@ -30,7 +30,8 @@ use Rattle.exprs.proofs.ListPlans.{unbound}
 use Rattle.exprs.proofs.Laid.{out-ahead}
 use Rattle.exprs.proofs.Steps.{More, some, none}
 use Rattle.atoms.proofs.SortPlace.{GotAt, BadAt, sort-short}
-use Rattle.grammar.proofs.TreeHead.{is-symbol, no-list, tree-two}
+use Rattle.reading.proofs.TreeHead.{is-symbol, tree-two}
+use Rattle.grammar.proofs.TreeHead.{no-list}
 use Rattle.atoms.proofs.Places.Spots.{word0, spot-within, as-list, IsList}
 use Rattle.atoms.proofs.Places.Inside.{ListNode, list-many, list-words, items-there, first-there, others-there, trees-size, list-length, child-tree}
 

@@ -24,8 +24,8 @@ use Rattle.writing.specs.Laid.{laid}
 use Rattle.atoms.specs.Outcome.{bound, Put, OutcomeAt, wroteAt, refusedAt}
 use Rattle.exprs.specs.Plans.{factor}
 use Rattle.exprs.specs.BinderWords.{BinderRow, bindersWords}
-use Rattle.sorts.specs.declared.Answer.{Answer}
-use Rattle.sorts.specs.declared.Answer.the-variants.{Done, Refused}
+use Rattle.words.specs.declared.Answer.{Answer}
+use Rattle.words.specs.declared.Answer.the-variants.{Done, Refused}
 use Rattle.grammar.proofs.Items.{words-front}
 use Rattle.grammar.proofs.Raise.{raise-front}
 use Rattle.exprs.proofs.Steps.{More, some}
@@ -33,7 +33,8 @@ use Rattle.exprs.proofs.Steps as Steps
 use Rattle.grammar.proofs.Post.{Every}
 use Rattle.atoms.proofs.SortPlace.{GotAt, got-at, bad-at, sort-short}
 use Rattle.atoms.proofs.Puts.{put-append}
-use Rattle.grammar.proofs.TreeHead.{no-list, tree-two}
+use Rattle.grammar.proofs.TreeHead.{no-list}
+use Rattle.reading.proofs.TreeHead.{tree-two}
 use Rattle.atoms.proofs.Places.Spots.{word0, spot-within, two-there, as-list}
 use Rattle.atoms.proofs.Places.Inside.{items-there, first-there, first-spot, others-there, trees-size, Pair, pair-of}
 

@@ -29,7 +29,7 @@ use Rattle.exprs.specs.declared.plan.Plan.{Plan}
 use Rattle.exprs.specs.declared.plan.Plan.the-variants.{Stop, Go}
 use Rattle.exprs.specs.declared.plan.Run.{Run}
 use Rattle.grammar.proofs.FormsWritten.{after-done, ahead-nil, node-told}
-use Rattle.grammar.proofs.TreeHead.{tree-two, apart}
+use Rattle.reading.proofs.TreeHead.{tree-two, apart}
 use Rattle.atoms.proofs.Places.Spots.{word, spot-within}
 use Rattle.exprs.proofs.Laid.{out-ahead}
 

@@ -21,7 +21,7 @@ use Rattle.exprs.specs.Plans.{Wrote, Parsed, wrote, refused, Here, Liste
 use Rattle.exprs.specs.declared.expr.Progress.the-variants.{Done, Refused}
 use Rattle.exprs.specs.declared.plan.Plan.{Plan}
 use Rattle.exprs.specs.declared.plan.Plan.the-variants.{Stop, Leaf}
-use Rattle.grammar.proofs.TreeHead.{tree-two}
+use Rattle.reading.proofs.TreeHead.{tree-two}
 use Rattle.atoms.proofs.Places.Spots.{word, word0, spot-within}
 
 -- A leaf of few words.

@@ -7,17 +7,17 @@ ghost use Rattle.atoms.specs.Spot.{Spot};
 ghost use Rattle.exprs.specs.Plans.{Listed, Filled, PlannedList};
 use crate::plan::Plan;
 use crate::plan::Run;
-use atoms::expr_words::APP;
 use atoms::expr_words::put3;
 use atoms::place::Node;
 use atoms::place::node_at;
 use atoms::place::words_at;
 use atoms::sort_at::sort_at;
 use lexing::byte::same;
-use sorts::Answer;
-use sorts::number::wide;
-use sorts::span::bytes_at;
-use sorts::tree::SYMBOL;
+use words::Answer;
+use words::expr_kinds::APP;
+use words::number::word_to_length;
+use words::span::bytes_at;
+use words::tree_kinds::SYMBOL;
 
 // Whether a tree is the symbol `apply`.
 fn is_apply(text: &[u8], tree: &[u32], at: usize) -> bool
@@ -62,7 +62,7 @@ pub fn app_plan(
             Answer::Refused(e) => Plan::Stop(e),
             Answer::Done(u) => Plan::Go(Run {
                 first: first,
-                have: wide(n - 1),
+                have: word_to_length(n - 1),
                 want: 1,
                 last: 0,
                 plain: false,
@@ -75,8 +75,8 @@ pub fn app_plan(
     let v = put3(out, w, APP, 0, n - 1);
     Plan::Go(Run {
         first: first, // the arguments, and then the head
-        have: wide(n - 1),
-        want: wide(n - 1),
+        have: word_to_length(n - 1),
+        want: word_to_length(n - 1),
         last: head,
         plain: false,
         names: 0,

@@ -9,11 +9,11 @@ ghost use Rattle.exprs.specs.BinderWords.{BinderRow, bindersWords};
 use atoms::expr_words::put2;
 use atoms::place::words_at;
 use atoms::sort_at::sort_at;
-use sorts::Answer;
-use sorts::number::high;
-use sorts::number::low;
-use sorts::tree::LIST;
-use sorts::tree::SYMBOL;
+use words::Answer;
+use words::number::high;
+use words::number::low;
+use words::tree_kinds::LIST;
+use words::tree_kinds::SYMBOL;
 
 // Whether a tree is a pair of a name and a sort, and nothing more; the sort is not read yet.
 pub fn is_pair(tree: &[u32], at: usize) -> bool

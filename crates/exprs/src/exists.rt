@@ -7,14 +7,14 @@ ghost use Rattle.exprs.specs.Plans.{Listed, Headed, PlannedList};
 use crate::binders::binder_words;
 use crate::plan::Plan;
 use crate::plan::Run;
-use atoms::expr_words::EXISTS;
+use words::expr_kinds::EXISTS;
 use atoms::expr_words::put2;
 use atoms::place::Node;
 use atoms::place::node_at;
 use atoms::place::words_at;
-use sorts::Answer;
-use sorts::number::long;
-use sorts::number::wide;
+use words::Answer;
+use words::number::length_to_long;
+use words::number::word_to_length;
 
 // `(exists (binders) body)`, and nothing more. The numbers of the binders are taken before the body is read.
 pub fn exists_plan(
@@ -36,7 +36,7 @@ pub fn exists_plan(
     let Node::List(k, first) = node_at(tree, vars) else {
         return Plan::Stop(8);
     };
-    let n = wide(k);
+    let n = word_to_length(k);
     let from = std::num::wrapping_add_u64(count, next);
     let v = put2(out, w, EXISTS, k);
     match binder_words(text, tree, first, n, from, out, v) {
@@ -48,7 +48,7 @@ pub fn exists_plan(
             last: 0,
             plain: false,
             names: first,
-            fresh: long(n),
+            fresh: length_to_long(n),
             words: u,
         }),
     }

@@ -13,8 +13,8 @@ use atoms::place::reach;
 use atoms::place::through;
 use atoms::place::words_at;
 use atoms::scopes::opened;
-use atoms::scopes::size;
 use atoms::scopes::twice;
+use words::number::long_to_length;
 
 // The place behind the words written and the next fresh number, or a refusal.
 pub enum Progress {
@@ -62,7 +62,7 @@ pub fn expr(
                         let q = reach(text, tree, run.last, run.plain);
                         return expr(text, tree, q, scopes, inner, count, m, out, u);
                     }
-                    if twice(text, tree, run.names, size(run.fresh)) {
+                    if twice(text, tree, run.names, long_to_length(run.fresh)) {
                         return Progress::Refused(10);
                     }
                     Progress::Done(u, m)

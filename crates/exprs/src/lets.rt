@@ -7,14 +7,14 @@ ghost use Rattle.grammar.specs.Written.{told};
 ghost use Rattle.exprs.specs.Plans.{Listed, Headed, PlannedList};
 use crate::plan::Plan;
 use crate::plan::Run;
-use atoms::expr_words::LET;
 use atoms::expr_words::VarName;
 use atoms::expr_words::put_name;
 use atoms::place::Node;
 use atoms::place::node_at;
 use atoms::place::through;
 use atoms::place::words_at;
-use sorts::tree::SYMBOL;
+use words::expr_kinds::LET;
+use words::tree_kinds::SYMBOL;
 
 // `(let (name value) body)`: the value, and behind it the body. A missing body is refused when it is reached.
 pub fn let_plan(text: &[u8], tree: &[u32], at: usize, next: u64, out: &mut [u32], w: usize) -> Plan

@@ -16,18 +16,18 @@ use crate::lets::let_plan;
 use crate::lits::lit_plan;
 use crate::plan::Plan;
 use crate::plan::Run;
-use atoms::expr_words::BINARY;
-use atoms::expr_words::IS_CTOR;
-use atoms::expr_words::NEG;
 use atoms::expr_words::VarName;
 use atoms::expr_words::put_name;
 use atoms::expr_words::put1;
 use atoms::expr_words::put2;
 use atoms::keywords::Form;
 use atoms::keywords::form_named;
-use sorts::number::wide;
-use sorts::span::bytes_at;
-use sorts::tree::SYMBOL;
+use words::expr_kinds::BINARY;
+use words::expr_kinds::IS_CTOR;
+use words::expr_kinds::NEG;
+use words::number::word_to_length;
+use words::span::bytes_at;
+use words::tree_kinds::SYMBOL;
 
 // So many operands behind the name that a list of n items begins with.
 fn behind(n: u32, at: usize, want: usize, words: usize) -> Plan
@@ -36,7 +36,7 @@ fn behind(n: u32, at: usize, want: usize, words: usize) -> Plan
 {
     Plan::Go(Run {
         first: at + 6,
-        have: wide(n - 1),
+        have: word_to_length(n - 1),
         want: want,
         last: 0,
         plain: false,
@@ -97,7 +97,7 @@ fn named_plan(
     match form_named(bytes_at(text, start, len)) {
         Form::One(kind, want) => behind(n, at, want, put1(out, w, kind)),
         Form::Two(kind, code, want) => behind(n, at, want, put2(out, w, kind, code)),
-        Form::Many(kind) => behind(n, at, wide(n - 1), put2(out, w, kind, n - 1)),
+        Form::Many(kind) => behind(n, at, word_to_length(n - 1), put2(out, w, kind, n - 1)),
         Form::Cast => only(n, at, w),
         Form::IsCtor => only(
             n,

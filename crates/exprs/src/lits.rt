@@ -10,7 +10,6 @@ ghost use Rattle.grammar.specs.Written.{told};
 ghost use Rattle.atoms.specs.Spot.{Spot};
 ghost use Rattle.exprs.specs.Plans.{Listed, Headed, PlannedList};
 use crate::plan::Plan;
-use atoms::expr_words::BIT_VEC;
 use atoms::expr_words::put_wide;
 use atoms::expr_words::put1;
 use atoms::literal::Bits;
@@ -18,10 +17,11 @@ use atoms::literal::bits_of;
 use atoms::place::words_at;
 use lexing::number::Word32;
 use sorts::names::size_named;
-use sorts::span::bytes_at;
-use sorts::tree::LIST;
-use sorts::tree::QUOTED;
-use sorts::tree::SYMBOL;
+use words::expr_kinds::BIT_VEC;
+use words::span::bytes_at;
+use words::tree_kinds::LIST;
+use words::tree_kinds::QUOTED;
+use words::tree_kinds::SYMBOL;
 
 // The width that the second of two items is, whatever the first is.
 fn width_at(text: &[u8], tree: &[u32], at: usize) -> Word32

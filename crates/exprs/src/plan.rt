@@ -1,15 +1,15 @@
 // What there is to do of a tree before its operands are read: its form is found out, its shape judged, and its first words are written.
 ghost use Rattle.exprs.specs.Plans.{Here, Planned};
 use crate::lists::list_plan;
-use atoms::expr_words::BOOLEAN;
-use atoms::expr_words::STRING;
 use atoms::expr_words::VarName;
 use atoms::expr_words::put_name;
 use atoms::expr_words::put_numeral;
 use atoms::expr_words::put2;
 use atoms::variable::variable;
 use lexing::quad::Quad;
-use sorts::tree;
+use words::expr_kinds::BOOLEAN;
+use words::expr_kinds::STRING;
+use words::tree_kinds;
 
 // Operands that are left to read: where the first is, how many there are, how many are wanted; where one more stands behind them and
 // whether it is not seen through; the place of the first pair of a new scope, 0 if there is none, and how many pairs it has; the place behind
@@ -48,14 +48,14 @@ pub fn planned(
     ensures { λ r. ⌜ ((h : Here (now (text .entry)) (now (tree .entry)) at (now (scopes .entry)) depth w next) → Planned (now (text .entry)) count (now (tree .entry)) at (now (scopes .entry)) depth w next h (now (out .entry)) (now (out .exit)) r) ⌝ }
 {
     let kind = tree[at];
-    if kind == tree::LIST {
+    if kind == tree_kinds::LIST {
         return list_plan(text, tree, at, count, next, out, w);
     }
-    if kind == tree::SYMBOL {
+    if kind == tree_kinds::SYMBOL {
         let name = VarName(tree[at + 1], tree[at + 2]);
         return Plan::Leaf(variable(text, tree, name, scopes, depth, count, out, w));
     }
-    if kind == tree::INTEGER {
+    if kind == tree_kinds::INTEGER {
         let q = Quad {
             a: tree[at + 1],
             b: tree[at + 2],
@@ -64,10 +64,10 @@ pub fn planned(
         };
         return Plan::Leaf(put_numeral(out, w, q));
     }
-    if kind == tree::BOOLEAN {
+    if kind == tree_kinds::BOOLEAN {
         return Plan::Leaf(put2(out, w, BOOLEAN, tree[at + 1]));
     }
-    if kind == tree::QUOTED {
+    if kind == tree_kinds::QUOTED {
         let name = VarName(tree[at + 1], tree[at + 2]);
         return Plan::Leaf(put_name(out, w, STRING, name));
     }

@@ -10,8 +10,8 @@ use Rattle.reading.specs.Answer.{Final, accepts, refuses, saidOf}
 use Rattle.grammar.specs.Expr.{Expr}
 use Rattle.flatten.specs.Operations.{exprWords, flattenFinal, flattenSaid, flattenOut}
 use Rattle.flatten.specs.Answers.{flattenAnswer}
-use Rattle.sorts.specs.declared.Answer.{Answer}
-use Rattle.sorts.specs.declared.Answer.the-variants as parsed
+use Rattle.words.specs.declared.Answer.{Answer}
+use Rattle.words.specs.declared.Answer.the-variants as parsed
 use Rattle.session.specs.Session.{Call, Outcome, outcome}
 use Rattle.session.specs.Compared.{readsOrSorts}
 use Rattle.session.proofs.Unreported.{count-kept, reportsTwo, NoSecond, second-none}

@@ -176,11 +176,11 @@ pub extern "C" fn pinhkray_flatten(words_in: &[u32], out: &mut [u32], words: &mu
     ensures { λ r. ⌜ Flattened (now («words_in» .entry)) (now (out .entry)) (flat r (now (words .exit)) (now (out .exit))) ⌝ }
 {
     match flatten::flatten(words_in, out) {
-        sorts::Answer::Done(flat) => {
+        words::Answer::Done(flat) => {
             *words = flat as u64;
             0
         }
-        sorts::Answer::Refused(why) => {
+        words::Answer::Refused(why) => {
             *words = 0;
             why
         }

@@ -28,7 +28,7 @@ use Rattle.parse.specs.Answers.{Attempted, AttemptedAt, draftSaid}
 use Rattle.writing.proofs.Laid.{over-start}
 use Rattle.parse.specs.declared.Counted.the-variants as counted
 use Rattle.parse.specs.declared.Drafted.the-variants as drafted
-use Rattle.sorts.specs.declared.Answer.the-variants as answer
+use Rattle.words.specs.declared.Answer.the-variants as answer
 use Rattle.flatten.specs.Uncurry.{uncurry, mostOperands}
 use Rattle.judge.specs.Judge.{reads, fails, exprDeep, exprAt, atEnd, judgeExpr}
 use Rattle.judge.specs.Ends.{endOf}

@@ -2,7 +2,7 @@
 use Prim.Native.Nat.{ℕ}
 use Rattle.reading.specs.Answer.{Final}
 use Rattle.grammar.specs.Expr.{Expr, Solution}
-use Rattle.sorts.specs.declared.Answer.{Answer}
+use Rattle.words.specs.declared.Answer.{Answer}
 use Rattle.parse.specs.Answers.{saidBy, countedBy}
 use Rattle.parse.specs.declared.Counted.{Counted}
 use Rattle.flatten.specs.Operations.{exprWords, flatItems}

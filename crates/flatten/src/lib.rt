@@ -7,7 +7,7 @@ ghost use Rattle.grammar.specs.Item.{raisedWords};
 ghost use Rattle.flatten.specs.Operations.{flattenFinal, flattenOut, flatItems, solutionFinal};
 ghost use Rattle.flatten.specs.Answers.{flattenAnswer, solutionAnswer};
 use parse::Counted;
-use sorts::Answer;
+use words::Answer;
 
 mod operation;
 mod write;

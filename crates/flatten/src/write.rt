@@ -20,7 +20,7 @@ use judge::expr_words::behind;
 use judge::expr_words::exprs_end;
 use judge::expr_words::head;
 use judge::expr_words::out_sort;
-use lexing::words::put;
+use words::output::put;
 
 // One more than the largest count that a word holds.
 const TOO_MANY: u64 = 4294967296;

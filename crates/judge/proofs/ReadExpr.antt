@@ -6,6 +6,7 @@ use mathlib.Core.List.{List}
 use native.Mathlib.Omega.{arith}
 use lib.ListN.{length, getD}
 use borrow.Author.Tests.{lt-ltb, le-ltb, eq-eqb, ne-eqb}
+use Rattle.reading.specs.Limits.{maxNodes}
 use Rattle.reading.specs.Pick.{pick}
 use Rattle.reading.specs.Bytes.{just}
 use Rattle.grammar.specs.Expr.{Kind, Exprs, node, app, enil, econs}
@@ -142,17 +143,17 @@ module _ (limit : ℕ) (ws : List ℕ) (at : ℕ) where
 
 -- The whole of the words.
 module _ (limit : ℕ) (ws : List ℕ) where
-  pub whole-all : {n : ℕ} → At n ≡ endOf (exprDeep limit 128 ws 0) → n ≡ length ws → At n ≡ endOf (judgeExpr limit ws)
+  pub whole-all : {n : ℕ} → At n ≡ endOf (exprDeep limit maxNodes ws 0) → n ≡ length ws → At n ≡ endOf (judgeExpr limit ws)
   unfolding judgeExpr exprAt atEnd pick
-  whole-all {n} e l = let m = ends-at (exprDeep limit 128 ws 0) e in rw (m .1, eq-eqb n (length ws) l) refl
+  whole-all {n} e l = let m = ends-at (exprDeep limit maxNodes ws 0) e in rw (m .1, eq-eqb n (length ws) l) refl
 
-  pub whole-left : {n : ℕ} → At n ≡ endOf (exprDeep limit 128 ws 0) → (n ≡ length ws → ⊥) → No 14 ≡ endOf (judgeExpr limit ws)
+  pub whole-left : {n : ℕ} → At n ≡ endOf (exprDeep limit maxNodes ws 0) → (n ≡ length ws → ⊥) → No 14 ≡ endOf (judgeExpr limit ws)
   unfolding judgeExpr exprAt atEnd pick
-  whole-left {n} e l = let m = ends-at (exprDeep limit 128 ws 0) e in rw (m .1, ne-eqb n (length ws) l) refl
+  whole-left {n} e l = let m = ends-at (exprDeep limit maxNodes ws 0) e in rw (m .1, ne-eqb n (length ws) l) refl
 
-  pub whole-no : {r : ℕ} → No r ≡ endOf (exprDeep limit 128 ws 0) → No r ≡ endOf (judgeExpr limit ws)
+  pub whole-no : {r : ℕ} → No r ≡ endOf (exprDeep limit maxNodes ws 0) → No r ≡ endOf (judgeExpr limit ws)
   unfolding judgeExpr exprAt
-  whole-no {r} e = let m : exprDeep limit 128 ws 0 ≡ fails r = ends-no (exprDeep limit 128 ws 0) e in rw m refl
+  whole-no {r} e = let m : exprDeep limit maxNodes ws 0 ≡ fails r = ends-no (exprDeep limit maxNodes ws 0) e in rw m refl
 
   -- A solution: the number of its parameters, these, the body, and nothing more.
   pub solution-none : length ws ≡ 0 → No 14 ≡ endOf (judgeSolution limit ws)
@@ -168,22 +169,22 @@ module _ (limit : ℕ) (ws : List ℕ) where
     solution-params e = rw (first-word, ends-no (bindersAt limit (getD ws 0 0) ws 1) e) refl
 
     module _ {a : ℕ} (e : At a ≡ endOf (bindersAt limit (getD ws 0 0) ws 1)) where
-      pub solution-body : {r : ℕ} → No r ≡ endOf (exprDeep limit 128 ws a) → No r ≡ endOf (judgeSolution limit ws)
+      pub solution-body : {r : ℕ} → No r ≡ endOf (exprDeep limit maxNodes ws a) → No r ≡ endOf (judgeSolution limit ws)
       unfolding judgeSolution exprAt
       solution-body f =
           let b = ends-at (bindersAt limit (getD ws 0 0) ws 1) e in
-          rw (first-word, b .1, ends-no (exprDeep limit 128 ws a) f) refl
+          rw (first-word, b .1, ends-no (exprDeep limit maxNodes ws a) f) refl
 
-      pub solution-left : {n : ℕ} → At n ≡ endOf (exprDeep limit 128 ws a) → (n ≡ length ws → ⊥) → No 14 ≡ endOf (judgeSolution limit ws)
+      pub solution-left : {n : ℕ} → At n ≡ endOf (exprDeep limit maxNodes ws a) → (n ≡ length ws → ⊥) → No 14 ≡ endOf (judgeSolution limit ws)
       unfolding judgeSolution exprAt atEnd pick
       solution-left {n} f l =
           let b = ends-at (bindersAt limit (getD ws 0 0) ws 1) e in
-          let x = ends-at (exprDeep limit 128 ws a) f in
+          let x = ends-at (exprDeep limit maxNodes ws a) f in
           rw (first-word, b .1, x .1, ne-eqb n (length ws) l) refl
 
-      pub solution-all : {n : ℕ} → At n ≡ endOf (exprDeep limit 128 ws a) → n ≡ length ws → At n ≡ endOf (judgeSolution limit ws)
+      pub solution-all : {n : ℕ} → At n ≡ endOf (exprDeep limit maxNodes ws a) → n ≡ length ws → At n ≡ endOf (judgeSolution limit ws)
       unfolding judgeSolution exprAt atEnd pick
       solution-all {n} f l =
           let b = ends-at (bindersAt limit (getD ws 0 0) ws 1) e in
-          let x = ends-at (exprDeep limit 128 ws a) f in
+          let x = ends-at (exprDeep limit maxNodes ws a) f in
           rw (first-word, b .1, x .1, eq-eqb n (length ws) l) refl

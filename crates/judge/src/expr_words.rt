@@ -9,9 +9,28 @@ ghost use Rattle.judge.specs.Ends.{endOf, headOf, operandsAt, behindOf};
 use crate::sort_words::binders_end;
 use crate::sort_words::sort_end;
 use crate::sort_words::span_end;
-
-// So many expressions may stand inside one another.
-pub const MAX_NODES: u32 = 128;
+use words::expr_kinds::AND;
+use words::expr_kinds::APP;
+use words::expr_kinds::ATOM;
+use words::expr_kinds::BINARY;
+use words::expr_kinds::BIT_VEC;
+use words::expr_kinds::BOOLEAN;
+use words::expr_kinds::EXISTS;
+use words::expr_kinds::FRESH;
+use words::expr_kinds::IF;
+use words::expr_kinds::IFF;
+use words::expr_kinds::IMP;
+use words::expr_kinds::IS_CTOR;
+use words::expr_kinds::KINDS_END;
+use words::expr_kinds::LET;
+use words::expr_kinds::NAMED;
+use words::expr_kinds::NEG;
+use words::expr_kinds::NOT;
+use words::expr_kinds::NUMERAL;
+use words::expr_kinds::OR;
+use words::expr_kinds::STRING;
+use words::expr_kinds::THEORY;
+use words::limits::MAX_NODES;
 
 // The limit of spans where no text is lent with the words: no span ends behind it.
 pub const NO_TEXT: u64 = 8589934592;
@@ -108,30 +127,30 @@ pub fn head(words: &[u32], at: usize, limit: u64) -> Header
     }
     let k = words[at];
     let a = at + 1;
-    if k < 32 {
+    if k < NUMERAL {
         return Header::No(14);
     }
     match k {
-        32 => operands(skip(words, a, 4), 0),
-        33 => operands(below(words, a, 2), 0),
-        34 => operands(span_end(words, a, limit), 0),
-        35 => operands(skip(words, a, 5), 0),
-        36 => operands(skip(words, a, 2), 0),
-        37 => operands(span_end(words, a, limit), 0),
-        38 => arguments(words, a),
-        39 => Header::Operands(a, 1),
-        40 => operands(below(words, a, 5), 2),
-        41 => Header::Operands(a, 3),
-        42 => counted(words, a),
-        43 => counted(words, a),
-        44 => Header::Operands(a, 1),
-        45 => Header::Operands(a, 2),
-        46 => Header::Operands(a, 2),
-        47 => operands(below(words, a, 6), 2),
-        48 => operands(span_end(words, a, limit), 2),
-        49 => operands(below(words, a, 42), 0),
-        50 => operands(span_end(words, a, limit), 1),
-        51 => quantified(words, a, limit),
+        NUMERAL => operands(skip(words, a, 4), 0),
+        BOOLEAN => operands(below(words, a, 2), 0),
+        STRING => operands(span_end(words, a, limit), 0),
+        BIT_VEC => operands(skip(words, a, 5), 0),
+        FRESH => operands(skip(words, a, 2), 0),
+        NAMED => operands(span_end(words, a, limit), 0),
+        APP => arguments(words, a),
+        NEG => Header::Operands(a, 1),
+        BINARY => operands(below(words, a, 5), 2),
+        IF => Header::Operands(a, 3),
+        AND => counted(words, a),
+        OR => counted(words, a),
+        NOT => Header::Operands(a, 1),
+        IMP => Header::Operands(a, 2),
+        IFF => Header::Operands(a, 2),
+        ATOM => operands(below(words, a, 6), 2),
+        LET => operands(span_end(words, a, limit), 2),
+        THEORY => operands(below(words, a, 42), 0),
+        IS_CTOR => operands(span_end(words, a, limit), 1),
+        EXISTS => quantified(words, a, limit),
         _ => Header::No(14),
     }
 }
@@ -142,8 +161,8 @@ fn no_room(words: &[u32], at: usize) -> End
 {
     if at < words.len() {
         let k = words[at];
-        if 32 <= k {
-            if k < 52 {
+        if NUMERAL <= k {
+            if k < KINDS_END {
                 return End::No(6);
             }
         }

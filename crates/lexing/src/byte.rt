@@ -4,15 +4,23 @@ ghost use Prim.Native.Nat.{_+_, _≤_};
 ghost use lib.ListN.{length, drop};
 ghost use Rattle.reading.specs.Bytes.{sameBytes, beginsWith, before, startsWith};
 
-// Whether two slices hold the same bytes.
+// Whether two slices hold the same bytes. Names of one length often begin alike, so the last bytes are compared first.
 pub fn same(a: &[u8], b: &[u8]) -> bool
     ensures { λ r. ⌜ r ≡ sameBytes (now (a .entry)) (now (b .entry)) ⌝ }
 {
-    if a.len() != b.len() {
+    let n = a.len();
+    if n != b.len() {
+        return false;
+    }
+    if n == 0 {
+        return true;
+    }
+    let last = n - 1;
+    if a[last] != b[last] {
         return false;
     }
     let mut i = 0;
-    while i < a.len() {
+    while i < last {
         if a[i] != b[i] {
             return false;
         }

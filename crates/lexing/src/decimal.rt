@@ -6,7 +6,7 @@ ghost use Rattle.reading.specs.Number.{signBytes};
 ghost use Rattle.reading.specs.Decimal.{leadingDigits, someDigits, isExponent, isFraction, lower as lowerOf, sameLetters, isWord, isUnsignedDecimal, isDecimal};
 use crate::integer::sign_bytes;
 use crate::number::is_digit;
-use crate::number::wide;
+use words::number::byte_to_long;
 
 // How many digits stand in front.
 fn leading_digits(t: &[u8]) -> usize
@@ -14,7 +14,7 @@ fn leading_digits(t: &[u8]) -> usize
 {
     let mut i = 0;
     while i < t.len() {
-        if !is_digit(10, wide(t[i])) {
+        if !is_digit(10, byte_to_long(t[i])) {
             return i;
         }
         i += 1;

@@ -1,5 +1,4 @@
-// What a text is made of: UTF-8, white space, integers, decimals and tokens, each found at a place of the text; and words that are written to
-// an output. The definitions are in crates/reading/specs.
+// What a text is made of: UTF-8, white space, integers, decimals and tokens, each found at a place of the text. The definitions are in crates/reading/specs.
 
 pub mod byte;
 mod decimal;
@@ -9,4 +8,3 @@ pub mod quad;
 pub mod space;
 pub mod tokens;
 pub mod utf8;
-pub mod words;

@@ -1,14 +1,15 @@
 // Numbers in digits.
 ghost use mathlib.Core.Path.{_≡_};
-ghost use Prim.Native.Nat.{_^_, _≤_, _<_};
+ghost use Prim.Native.Nat.{_^_, _≤_};
 ghost use lib.ListN.{length};
 ghost use Rattle.reading.specs.Bytes.{just};
 ghost use Rattle.reading.specs.Number.{valueOf, isDigit, digits, below, plusBytes, unsigned as unsignedOf};
 ghost use Rattle.lexing.specs.Quads.{asWide, asMag, asWord32, asWord64, QuickOf};
 use crate::quad::Quad;
-use crate::quad::WORD;
 use crate::quad::grow;
 use crate::quad::quad_of;
+use words::number::WORD;
+use words::number::byte_to_long;
 
 // A number below 2^128, or none.
 pub enum Mag {
@@ -38,13 +39,6 @@ enum Quick {
 // The largest number that fits 64 bits with a decimal digit more.
 const LAST: u64 = 1844674407370955160;
 
-// A byte as a number.
-pub fn wide(b: u8) -> u64
-    ensures { λ r. ⌜ (r ≡ b) × (r < 256) ⌝ }
-{
-    b as u64
-}
-
 // Whether a byte is a digit.
 pub fn is_digit(base: u64, b: u64) -> bool
     requires { ⌜ base ≤ 10 ⌝ }
@@ -67,7 +61,7 @@ fn short_digits(t: &[u8], base: u64) -> Quick
     let mut v = 0;
     let mut i = 0;
     while i < t.len() {
-        let b = wide(t[i]);
+        let b = byte_to_long(t[i]);
         if !is_digit(base, b) {
             return Quick::No;
         }
@@ -96,7 +90,7 @@ fn long_digits(t: &[u8], base: u64) -> Mag
     };
     let mut i = 0;
     while i < t.len() {
-        let b = wide(t[i]);
+        let b = byte_to_long(t[i]);
         if !is_digit(base, b) {
             return Mag::No;
         }

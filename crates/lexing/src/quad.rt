@@ -3,9 +3,7 @@ ghost use mathlib.Core.Path.{_≡_};
 ghost use Prim.Native.Nat.{_+_, _*_, _^_, _≤_, _<_};
 ghost use Rattle.reading.specs.Number.{wideOf, valueOf, minusOf};
 ghost use Rattle.lexing.specs.Quads.{asQuad, asWide, Grows};
-
-// What a word holds: 2^32 numbers.
-pub const WORD: u64 = 4294967296;
+use words::number::WORD;
 
 // The words of a 128-bit number, lowest first.
 pub struct Quad {

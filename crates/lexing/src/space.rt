@@ -4,6 +4,7 @@ ghost use Prim.Native.Nat.{_+_, _≤_, _<_};
 ghost use lib.ListN.{length, getD, drop};
 ghost use Rattle.reading.specs.Bytes.{before};
 ghost use Rattle.reading.specs.Space.{isWhite, charBytes, charAt, spaceBytes, endsAtom};
+use words::number::byte_to_word;
 
 // Whether a character is white space.
 fn is_white(c: u32) -> bool
@@ -72,16 +73,9 @@ fn byte_at(text: &[u8], i: usize) -> u32
     ensures { λ r. ⌜ (r ≡ getD (now (text .entry)) i 0) × (r < 256) ⌝ }
 {
     if i < text.len() {
-        return wide(text[i]);
+        return byte_to_word(text[i]);
     }
     0
-}
-
-// A byte as a number.
-fn wide(b: u8) -> u32
-    ensures { λ r. ⌜ (r ≡ b) × (r < 256) ⌝ }
-{
-    b as u32
 }
 
 // The character that begins at a place.

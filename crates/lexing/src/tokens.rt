@@ -1,7 +1,9 @@
 // What stands at a byte of a text.
 ghost use mathlib.Core.Path.{_≡_};
-ghost use Prim.Native.Nat.{_+_, _≤_, _<_};
-ghost use lib.ListN.{length, getD, drop};
+ghost use Prim.Native.Nat.{_+_, _^_, _≤_, _<_};
+ghost use mathlib.Core.List.{[], _∷_};
+ghost use lib.ListN.{length, getD, take, drop};
+ghost use lib.Seq.{sets};
 ghost use Rattle.reading.specs.Limits.{maxBytes};
 ghost use Rattle.reading.specs.Number.{integerOf};
 ghost use Rattle.reading.specs.Decimal.{isDecimal};
@@ -14,17 +16,12 @@ use crate::integer::integer;
 use crate::number::Mag;
 use crate::space::atom_end;
 use crate::space::space_bytes;
-
-// The first word of each kind of atom.
-const SYMBOL: u32 = 16;
-
-const QUOTED: u32 = 17;
-
-const INTEGER: u32 = 18;
-
-const DECIMAL: u32 = 19;
-
-const BOOLEAN: u32 = 20;
+use words::output::put;
+use words::tree_kinds::BOOLEAN;
+use words::tree_kinds::DECIMAL;
+use words::tree_kinds::INTEGER;
+use words::tree_kinds::QUOTED;
+use words::tree_kinds::SYMBOL;
 
 // The words of an atom, with zeros behind them.
 pub struct Words {
@@ -179,4 +176,25 @@ pub fn token_at(text: &[u8], at: usize) -> Token
     let w = atom(&text[at..e], at);
     let words = w.words;
     Token::Leaf(e, w.count, words)
+}
+
+// The first n of the words of an atom, written to an output.
+pub fn put_words(out: &mut [u32], at: usize, n: usize, w: Words)
+    requires { ⌜ (at < 2 ^ 32) × (2 ≤ n) × (n ≤ 5) ⌝ }
+    ensures { λ _. ⌜ now (out .exit) ≡ sets (now (out .entry)) at (take n (w .a ∷ w .b ∷ w .c ∷ w .d ∷ w .e ∷ [])) ⌝ }
+{
+    put(out, at, w.a);
+    put(out, at + 1, w.b);
+    if n <= 2 {
+        return;
+    }
+    put(out, at + 2, w.c);
+    if n <= 3 {
+        return;
+    }
+    put(out, at + 3, w.d);
+    if n <= 4 {
+        return;
+    }
+    put(out, at + 4, w.e);
 }

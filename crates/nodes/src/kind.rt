@@ -1,8 +1,28 @@
 // The kind of an expression and its fields, told as values to a walk over words that were judged before.
 ghost use mathlib.Core.Path.{_≡_};
-ghost use Prim.Native.Nat.{_+_, _*_, _^_};
 ghost use lib.ListN.{getD};
 ghost use Rattle.nodes.specs.Node.{nodeAt};
+use words::expr_kinds::AND;
+use words::expr_kinds::APP;
+use words::expr_kinds::ATOM;
+use words::expr_kinds::BINARY;
+use words::expr_kinds::BIT_VEC;
+use words::expr_kinds::BOOLEAN;
+use words::expr_kinds::EXISTS;
+use words::expr_kinds::FRESH;
+use words::expr_kinds::IF;
+use words::expr_kinds::IFF;
+use words::expr_kinds::IMP;
+use words::expr_kinds::IS_CTOR;
+use words::expr_kinds::LET;
+use words::expr_kinds::NAMED;
+use words::expr_kinds::NEG;
+use words::expr_kinds::NOT;
+use words::expr_kinds::NUMERAL;
+use words::expr_kinds::OR;
+use words::expr_kinds::STRING;
+use words::expr_kinds::THEORY;
+use words::number::words_to_long;
 
 // A kind and its fields: of a numeral its four words, of a name or a string the words of its span, of a fresh variable its number, of an
 // exists how many binders it has. An application is none of these.
@@ -39,13 +59,6 @@ pub fn word_at(words: &[u32], at: usize) -> u32
     0
 }
 
-// A number of 64 bits by its words.
-pub fn two(low: u32, high: u32) -> u64
-    ensures { λ r. ⌜ r ≡ low + high * 2 ^ 32 ⌝ }
-{
-    low as u64 + high as u64 * 4294967296
-}
-
 // The kind whose word stands at a place, and the fields behind it.
 pub fn kind_at(words: &[u32], at: usize) -> Node
     ensures { λ r. ⌜ r ≡ nodeAt (now (words .entry)) at ⌝ }
@@ -54,39 +67,39 @@ pub fn kind_at(words: &[u32], at: usize) -> Node
         return Node::Other;
     }
     let k = words[at];
-    if k < 32 {
+    if k < NUMERAL {
         return Node::Other;
     }
     let a = at + 1;
     let first = word_at(words, a);
     let second = word_at(words, a + 1);
     match k {
-        32 => Node::Num(first, second, word_at(words, a + 2), word_at(words, a + 3)),
-        33 => Node::Bool(first == 1),
-        34 => Node::Str(first, second),
-        35 => Node::BitVec(
+        NUMERAL => Node::Num(first, second, word_at(words, a + 2), word_at(words, a + 3)),
+        BOOLEAN => Node::Bool(first == 1),
+        STRING => Node::Str(first, second),
+        BIT_VEC => Node::BitVec(
             first,
             second,
             word_at(words, a + 2),
             word_at(words, a + 3),
             word_at(words, a + 4),
         ),
-        36 => Node::Fresh(two(first, second)),
-        37 => Node::Named(first, second),
-        38 => Node::Other,
-        39 => Node::Neg,
-        40 => Node::Bin(first),
-        41 => Node::If,
-        42 => Node::And,
-        43 => Node::Or,
-        44 => Node::Not,
-        45 => Node::Imp,
-        46 => Node::Iff,
-        47 => Node::Atom(first),
-        48 => Node::Let(first, second),
-        49 => Node::Theory(first),
-        50 => Node::IsCtor(first, second),
-        51 => Node::Exists(first),
+        FRESH => Node::Fresh(words_to_long(first, second)),
+        NAMED => Node::Named(first, second),
+        APP => Node::Other,
+        NEG => Node::Neg,
+        BINARY => Node::Bin(first),
+        IF => Node::If,
+        AND => Node::And,
+        OR => Node::Or,
+        NOT => Node::Not,
+        IMP => Node::Imp,
+        IFF => Node::Iff,
+        ATOM => Node::Atom(first),
+        LET => Node::Let(first, second),
+        THEORY => Node::Theory(first),
+        IS_CTOR => Node::IsCtor(first, second),
+        EXISTS => Node::Exists(first),
         _ => Node::Other,
     }
 }

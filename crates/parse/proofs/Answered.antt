@@ -13,8 +13,8 @@ use Rattle.grammar.specs.ParseSort.{parseSort}
 use Rattle.grammar.specs.Operations.{theTree, makeSort, sortFinal}
 use Rattle.sorts.specs.Outcome.{IsTree, Outcome, wrote, refused}
 use Rattle.parse.specs.Answers.{saidBy, Laid, Attempted}
-use Rattle.sorts.specs.declared.Answer.{Answer}
-use Rattle.sorts.specs.declared.Answer.the-variants.{Done, Refused}
+use Rattle.words.specs.declared.Answer.{Answer}
+use Rattle.words.specs.declared.Answer.the-variants.{Done, Refused}
 use Rattle.parse.specs.TreeOf.{TreeIn, NoTree}
 
 module _ (text tree out : List ℕ) where

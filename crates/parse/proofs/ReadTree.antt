@@ -19,8 +19,8 @@ use Rattle.reading.proofs.Read.{read-size, read-short}
 use Rattle.reading.proofs.TextTree.{text-tree}
 use Rattle.grammar.specs.ParseSort.{treeAt}
 use Rattle.grammar.specs.Operations.{theTree}
-use Rattle.sorts.specs.declared.Answer.{Answer as SaidAnswer}
-use Rattle.sorts.specs.declared.Answer.the-variants as Said
+use Rattle.words.specs.declared.Answer.{Answer as SaidAnswer}
+use Rattle.words.specs.declared.Answer.the-variants as Said
 use Rattle.parse.specs.TreeOf.{TreeIn, NoTree, TreeOf}
 
 module _ (text tree : List ℕ) where

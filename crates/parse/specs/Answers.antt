@@ -10,8 +10,8 @@ use Rattle.reading.specs.Answer.{Final, accepts, refuses, over, zeros}
 use Rattle.grammar.specs.Item.{Item, wordsOf, raisedWords}
 use Rattle.grammar.specs.Expr.{Expr, exprItems, Bind, bindItems, Solution, paramItems, bodyItems}
 use Rattle.grammar.specs.Sort.{Sort, sortWords}
-use Rattle.sorts.specs.declared.Answer.{Answer}
-use Rattle.sorts.specs.declared.Answer.the-variants.{Done, Refused}
+use Rattle.words.specs.declared.Answer.{Answer}
+use Rattle.words.specs.declared.Answer.the-variants.{Done, Refused}
 use Rattle.parse.specs.declared.Counted.{Counted}
 use Rattle.parse.specs.declared.Counted.the-variants as counted
 use Rattle.parse.specs.declared.Drafted.{Drafted}

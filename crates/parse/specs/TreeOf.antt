@@ -7,8 +7,8 @@ use Rattle.reading.specs.Limits.{maxBytes, maxLists}
 use Rattle.reading.specs.Tree.{Tree, treeWords, nesting}
 use Rattle.reading.specs.Answer.{Refusal, number, got, bad}
 use Rattle.grammar.specs.Operations.{theTree}
-use Rattle.sorts.specs.declared.Answer.{Answer}
-use Rattle.sorts.specs.declared.Answer.the-variants.{Done, Refused}
+use Rattle.words.specs.declared.Answer.{Answer}
+use Rattle.words.specs.declared.Answer.the-variants.{Done, Refused}
 
 -- The first n words of the slice are those of the tree.
 pub record TreeIn (text tree tree′ : List ℕ) (n : ℕ) : Type 0 where

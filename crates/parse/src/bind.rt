@@ -10,7 +10,7 @@ use crate::ending::close;
 use crate::ending::finished;
 use crate::tree::tree_of;
 use binds::bind::bind_at;
-use sorts::Answer;
+use words::Answer;
 
 // The bind and its words; no slice is cleared yet.
 fn attempt(text: &[u8], tree: &mut [u32], out: &mut [u32], count: u64) -> Counted

@@ -4,10 +4,8 @@ ghost use Rattle.reading.specs.Answer.{zeros};
 ghost use Rattle.parse.specs.Answers.{finishedBy, closedBy};
 use crate::Counted;
 use exprs::expr::Progress;
-use lexing::words::clear;
-
-// The largest count that a reader holds.
-pub const MAX_NUMBER: u64 = 18446744073709551615;
+use words::limits::MAX_NUMBER;
+use words::output::clear;
 
 // 13 if the numbers run out, then 7 if there is room for fewer words.
 pub fn finished(p: Progress, count: u64, room: usize) -> Counted

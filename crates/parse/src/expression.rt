@@ -11,7 +11,7 @@ use crate::ending::finished;
 use crate::tree::tree_of;
 use atoms::scopes::SLOTS;
 use exprs::expr::expr;
-use sorts::Answer;
+use words::Answer;
 
 // The expression and its words; no slice is cleared yet.
 fn attempt(text: &[u8], tree: &mut [u32], out: &mut [u32], count: u64) -> Counted

@@ -1,6 +1,6 @@
 // The tree that a text begins with, for every operation that parses it.
 ghost use Rattle.parse.specs.TreeOf.{TreeOf};
-use sorts::Answer;
+use words::Answer;
 use text::read_one;
 
 // How many words of the tree slice are the tree's, or the number of the refusal; no slice is cleared.

@@ -18,8 +18,8 @@ use Rattle.grammar.specs.Operations.{sortFinal}
 use Rattle.parse.specs.Answers.{sortSaid, countedBy}
 use Rattle.parse.specs.declared.Counted.{Counted}
 use Rattle.parse.specs.declared.Counted.the-variants as counted
-use Rattle.sorts.specs.declared.Answer as sorts
-use Rattle.sorts.specs.declared.Answer.the-variants as parsed
+use Rattle.words.specs.declared.Answer as sorts
+use Rattle.words.specs.declared.Answer.the-variants as parsed
 use Rattle.session.specs.Session.{Call, outcome}
 use Rattle.reader.specs.Calls.{sortCall, asSaid}
 use Rattle.reader.specs.Sessions.{Promised}

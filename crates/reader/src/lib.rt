@@ -78,11 +78,11 @@ impl Reader {
         ensures { λ r. ⌜ Promised (sortCall (now (text .entry)) (now (tree .entry)) (now (out .entry))) (self .next) (replied r (now (tree .exit)) [] (now (out .exit))) ⌝ }
     {
         match parse::sort::sort(text, tree, out) {
-            sorts::Answer::Done(size) => Answer {
+            words::Answer::Done(size) => Answer {
                 reader: self,
                 said: Said::Accepted(size, 0),
             },
-            sorts::Answer::Refused(r) => Answer {
+            words::Answer::Refused(r) => Answer {
                 reader: self,
                 said: Said::Refused(r),
             },

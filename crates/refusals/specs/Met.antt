@@ -1,11 +1,11 @@
 -- For each refusal of each operation a call that meets it, with the shortest text that was found.
-use Prim.Native.Nat.{ℕ}
+use Prim.Native.Nat.{ℕ, suc}
 use Prim.Native.String.{String}
 use mathlib.Core.Bool.{false}
 use mathlib.Core.Path.{_≡_, refl}
 use mathlib.Core.List.{List, [], _∷_, _++_, map}
 use lib.ListN.{replicate}
-use Rattle.reading.specs.Limits.{maxNumber}
+use Rattle.reading.specs.Limits.{maxBytes, maxLists, maxNodes, maxNumber}
 use Rattle.reading.specs.Pick.{pick}
 use Rattle.reading.specs.Bytes.{ascii}
 use Rattle.reading.specs.Answer.{Said, accepted, refused}
@@ -35,10 +35,10 @@ atLast op t = record { call = roomyCall op (ascii t); count = maxNumber }
 abbrev pub noWords : Op → String → Asked
 noWords op t = record { call = record { op = op; text = ascii t; tree = []; draft = []; out = [] }; count = 0 }
 
--- 1 to 7, where a text is given that ends early. 1 is met by 32,769 bytes, 6 by 65 times `(`.
+-- 1 to 7, where a text is given that ends early. 1 is met by one byte more than a text may have, 6 by `(` once more than lists may nest.
 abbrev pub inReading : Op → String → List Asked
 inReading op early =
-    bytes op (replicate 32769 32) ∷ bytes op (255 ∷ []) ∷ text op early ∷ text op ")" ∷ text op "\"" ∷ bytes op (replicate 65 40) ∷ noWords op "1" ∷ []
+    bytes op (replicate (suc maxBytes) 32) ∷ bytes op (255 ∷ []) ∷ text op early ∷ text op ")" ∷ text op "\"" ∷ bytes op (replicate (suc maxLists) 40) ∷ noWords op "1" ∷ []
 
 -- The calls of an operation. The first item of a solution and of `apply`'s list can be anything.
 abbrev pub calls : Op → List Asked
@@ -116,10 +116,10 @@ pub record Flat : Type 0 where
   pub input : List ℕ
   pub out : ℕ
 
--- 129 times `not`; `true` with one word of output; no words.
+-- `not` once more than expressions may nest; `true` with one word of output; no words.
 abbrev pub flats : List Flat
 flats =
-    record { input = replicate 129 44; out = 129 }
+    record { input = replicate (suc maxNodes) 44; out = suc maxNodes }
     ∷ record { input = 33 ∷ 1 ∷ []; out = 1 }
     ∷ record { input = []; out = 0 }
     ∷ []
@@ -139,10 +139,10 @@ pub record Smt : Type 0 where
   pub text : String
   pub out : ℕ
 
--- 129 times `not`; `true`, which is written as the seven bytes `() true`, with six of output; no words; the theory function 0; a string of one bar.
+-- `not` once more than expressions may nest; `true`, which is written as the seven bytes `() true`, with six of output; no words; the theory function 0; a string of one bar.
 abbrev pub smts : List Smt
 smts =
-    record { input = 0 ∷ replicate 129 44; text = ""; out = 0 }
+    record { input = 0 ∷ replicate (suc maxNodes) 44; text = ""; out = 0 }
     ∷ record { input = 0 ∷ 33 ∷ 1 ∷ []; text = ""; out = 6 }
     ∷ record { input = []; text = ""; out = 0 }
     ∷ record { input = 0 ∷ 49 ∷ 0 ∷ []; text = ""; out = 0 }

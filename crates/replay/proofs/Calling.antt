@@ -12,7 +12,7 @@ use Rattle.reading.specs.Answer.{zeros, over}
 use Rattle.reading.proofs.Picks.{pick-true, pick-false, pick-eq, pick-ne, pick-holds}
 use Rattle.reading.proofs.Bytes.{same-refl}
 use Rattle.reading.proofs.Over.{over-length, over-fits}
-use Rattle.sorts.specs.declared.Answer.{Answer as FlatAnswer}
+use Rattle.words.specs.declared.Answer.{Answer as FlatAnswer}
 use Rattle.flatten.specs.Operations.{flattenFinal, flattenOut}
 use Rattle.flatten.specs.Answers.{flattenAnswer}
 use Rattle.session.specs.Session.{Call, outcome}

@@ -6,8 +6,8 @@ use mathlib.Core.List.{List}
 use lib.Dec.{eqb, leb}
 use lib.ListN.{length, drop}
 use Rattle.reading.specs.Pick.{pick}
-use Rattle.sorts.specs.declared.Answer.the-variants.{Done as flatDone, Refused as flatRefused}
-use Rattle.sorts.specs.declared.Answer.{Answer as FlatAnswer}
+use Rattle.words.specs.declared.Answer.the-variants.{Done as flatDone, Refused as flatRefused}
+use Rattle.words.specs.declared.Answer.{Answer as FlatAnswer}
 use Rattle.flatten.specs.Operations.{flattenFinal, flattenOut}
 use Rattle.flatten.specs.Answers.{flattenAnswer}
 use Rattle.session.specs.Session.{Call, Outcome, outcome}

@@ -42,17 +42,17 @@ fn is_flattened(line: Line, words: &[u32], given: &[u32], out: &mut [u32]) -> bo
 }
 
 // The numbers of the answer.
-fn reply(answer: sorts::Answer) -> Reply
+fn reply(answer: words::Answer) -> Reply
     ensures { λ r. ⌜ r ≡ flatReply answer ⌝ }
 {
     match answer {
-        sorts::Answer::Done(n) => Reply {
+        words::Answer::Done(n) => Reply {
             refusal: 0,
             a: n as u64,
             b: 0,
             count: 0,
         },
-        sorts::Answer::Refused(r) => Reply {
+        words::Answer::Refused(r) => Reply {
             refusal: r as u64,
             a: 0,
             b: 0,

@@ -5,11 +5,11 @@ ghost use Rattle.smt.specs.Operation.{smtlibFinal, smtlibOut};
 ghost use Rattle.smtlib.specs.Answers.{answerOf, Attempted};
 use crate::terms::term;
 use judge::expr_words::End;
-use judge::expr_words::MAX_NODES;
 use judge::expr_words::solution;
 use nodes::kind::word_at;
 use smtnames::answers::Walked;
 use smtvars::vars::vars;
+use words::limits::MAX_NODES;
 use writing::byte;
 use writing::clear;
 

@@ -8,6 +8,15 @@ ghost use Rattle.smtnames.specs.Written.{TellsPiece};
 use nodes::kind::word_at;
 use smtnames::answers::Written;
 use smtnames::names::name;
+use words::sort_kinds::APP;
+use words::sort_kinds::BIT_VEC;
+use words::sort_kinds::BOOL;
+use words::sort_kinds::DATA;
+use words::sort_kinds::INT;
+use words::sort_kinds::MAP;
+use words::sort_kinds::REAL;
+use words::sort_kinds::SIZE;
+use words::sort_kinds::STR;
 use writing::byte;
 use writing::bytes;
 use writing::decimal_word;
@@ -31,10 +40,10 @@ fn applied(words: &[u32], at: usize) -> SortNode
     ensures { λ r. ⌜ r ≡ appliedAt (now (words .entry)) at ⌝ }
 {
     let c = word_at(words, at);
-    if c == 1 {
+    if c == MAP {
         return SortNode::Array(word_at(words, at + 1));
     }
-    if c == 2 {
+    if c == DATA {
         return SortNode::Data(
             word_at(words, at + 1),
             word_at(words, at + 2),
@@ -52,25 +61,25 @@ pub fn sort_at(words: &[u32], at: usize) -> SortNode
         return SortNode::Other;
     }
     let k = words[at];
-    if k == 1 {
+    if k == INT {
         return SortNode::Int;
     }
-    if k == 2 {
+    if k == BOOL {
         return SortNode::Bool;
     }
-    if k == 3 {
+    if k == REAL {
         return SortNode::Real;
     }
-    if k == 4 {
+    if k == STR {
         return SortNode::Str;
     }
-    if k == 5 {
-        if word_at(words, at + 1) == 6 {
+    if k == BIT_VEC {
+        if word_at(words, at + 1) == SIZE {
             return SortNode::BitVec(word_at(words, at + 2));
         }
         return SortNode::Other;
     }
-    if k == 10 {
+    if k == APP {
         return applied(words, at + 1);
     }
     SortNode::Other

@@ -7,10 +7,10 @@ ghost use Rattle.judge.specs.Judge.{reads, binderAt, bindersAt};
 ghost use Rattle.smtnames.specs.Pieces.{varText, varsText};
 ghost use Rattle.smtnames.specs.Written.{TellsPart};
 use crate::sort::sort;
-use nodes::kind::two;
 use nodes::kind::word_at;
 use smtnames::answers::Walked;
 use smtnames::names::fresh;
+use words::number::words_to_long;
 use writing::byte;
 
 // A sorted variable in parentheses.
@@ -21,7 +21,7 @@ fn var(words: &[u32], at: usize, text: &[u8], out: &mut [u8], place: usize) -> W
     if words.len() <= at {
         return Walked::No(14);
     }
-    let k = two(words[at], word_at(words, at + 1));
+    let k = words_to_long(words[at], word_at(words, at + 1));
     let a = byte(out, place, 40);
     let b = fresh(k, out, a);
     let c = byte(out, b, 32);

@@ -33,7 +33,8 @@ use Rattle.atoms.proofs.Puts.{put-append}
 use Rattle.atoms.proofs.SortPlace.{GotAt, BadAt, every-got}
 use Rattle.exprs.proofs.BinderPairs.{ReadFrom, read-from}
 use Rattle.exprs.proofs.ExistsForm.{numbered-length}
-use Rattle.grammar.proofs.TreeHead.{Three, three-trees, alone, no-list}
+use Rattle.reading.proofs.TreeHead.{Three, three-trees, alone}
+use Rattle.grammar.proofs.TreeHead.{no-list}
 use Rattle.atoms.proofs.Places.Spots.{word0, spot-within, as-list, IsList}
 use Rattle.atoms.proofs.Places.ScopeNames.{named-trees}
 use Rattle.atoms.proofs.Places.Inside.{ListNode, items-there, first-there, others-there, list-length}

@@ -16,9 +16,9 @@ use exprs::binders::binder_words;
 use exprs::binders::is_pair;
 use exprs::expr::Progress;
 use exprs::expr::expr;
-use sorts::Answer;
-use sorts::number::long;
-use sorts::number::wide;
+use words::Answer;
+use words::number::length_to_long;
+use words::number::word_to_length;
 
 // How many words the parameters and the body have, and how many fresh numbers they take; or a refusal.
 pub enum Parts {
@@ -57,7 +57,7 @@ fn body_at(
     requires { ⌜ BodyHere (now text) (now tree) pairs n body ⌝ }
     ensures { λ r. ⌜ ((h : BodyHere (now (text .entry)) (now (tree .entry)) pairs n body) → BodyDone count u (now (draft .entry)) (now (draft .exit)) (bodyOf (now (text .entry)) (h .spot .tree) (h .params .names) n) r) ⌝ }
 {
-    let next = long(n);
+    let next = length_to_long(n);
     let mut scopes = [0u64; SLOTS];
     let depth = opened(&mut scopes, 0, pairs, next, 0);
     match expr(text, tree, body, &mut scopes, depth, count, next, draft, 0) {
@@ -86,7 +86,7 @@ pub fn parts_at(text: &[u8], tree: &[u32], count: u64, draft: &mut [u32], out: &
     let Node::List(k, pairs) = node_at(tree, params) else {
         return Parts::Refused(8);
     };
-    let m = wide(k);
+    let m = word_to_length(k);
     if !all_pairs(tree, pairs, m) {
         return Parts::Refused(8);
     }

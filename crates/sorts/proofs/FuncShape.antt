@@ -18,12 +18,13 @@ use Rattle.grammar.specs.ParseSort
 use Rattle.grammar.specs.ParseSort.{inList, inAtom, inInteger, integerIn, funcNumber, viewAt, eachSort, funcSort}
 use Rattle.sorts.specs.Rows.{rowWords, absWords}
 use Rattle.sorts.specs.Outcome.{Outcome, wrote, refused}
-use Rattle.sorts.specs.declared.Answer.{Answer}
-use Rattle.sorts.specs.declared.Answer.the-variants.{Done}
+use Rattle.words.specs.declared.Answer.{Answer}
+use Rattle.words.specs.declared.Answer.the-variants.{Done}
 use Rattle.grammar.proofs.Post.{Every}
 use Rattle.sorts.proofs.RowWords.{snoc, funcs-words, abs-words}
 use Rattle.sorts.proofs.ListForms.{view-tree, each-many}
-use Rattle.grammar.proofs.TreeHead.{Three, tree-two, is-integer, is-list, no-integer, no-list, size-integer, other-words}
+use Rattle.reading.proofs.TreeHead.{Three, tree-two, is-integer, is-list, size-integer, other-words}
+use Rattle.grammar.proofs.TreeHead.{no-integer, no-list}
 
 -- One tree more at the end.
 abbrev pub snocTree : Trees → Tree → Trees

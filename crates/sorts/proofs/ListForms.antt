@@ -25,12 +25,13 @@ use Rattle.sorts.specs.Rows
 use Rattle.sorts.specs.Outcome.{Outcome, wrote, refused}
 use Rattle.sorts.specs.declared.names.Row.{Row}
 use Rattle.sorts.specs.declared.names.Row.the-variants as row
-use Rattle.sorts.specs.declared.Answer.{Answer}
-use Rattle.sorts.specs.declared.Answer.the-variants.{Done, Refused}
+use Rattle.words.specs.declared.Answer.{Answer}
+use Rattle.words.specs.declared.Answer.the-variants.{Done, Refused}
 use Rattle.grammar.proofs.Post.{Every, AllRows, IfThere, lookup-holds}
 use Rattle.sorts.proofs.Outcomes.{never, out-map, out-refused}
 use Rattle.sorts.proofs.RowWords.{row-plain}
-use Rattle.grammar.proofs.TreeHead.{First, is-symbol, no-symbol, size-symbol}
+use Rattle.reading.proofs.TreeHead.{First, is-symbol, size-symbol}
+use Rattle.grammar.proofs.TreeHead.{no-symbol}
 
 -- A form has so many items behind its name.
 abbrev pub HasItems : SortForm → ℕ → Type 0

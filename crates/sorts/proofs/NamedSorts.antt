@@ -28,9 +28,10 @@ use Rattle.sorts.specs.SortNames.{widthIn}
 use Rattle.sorts.specs.Rows.{isGot}
 use Rattle.sorts.specs.Rows
 use Rattle.sorts.specs.Outcome.{Outcome, wrote, refused}
-use Rattle.sorts.specs.declared.Answer.{Answer}
-use Rattle.sorts.specs.declared.Answer.the-variants.{Done, Refused}
-use Rattle.grammar.proofs.TreeHead.{is-symbol, no-symbol, size-symbol}
+use Rattle.words.specs.declared.Answer.{Answer}
+use Rattle.words.specs.declared.Answer.the-variants.{Done, Refused}
+use Rattle.reading.proofs.TreeHead.{is-symbol, size-symbol}
+use Rattle.grammar.proofs.TreeHead.{no-symbol}
 
 -- The table for so many items.
 module _ (n : ℕ) where

@@ -5,8 +5,8 @@ use mathlib.Core.List.{List, _++_}
 use native.Mathlib.Omega.{arith}
 use lib.ListN.{length, take, drop, length-append}
 use Rattle.reading.specs.Answer.{Ans, got, bad, andThen, over}
-use Rattle.sorts.specs.declared.Answer.{Answer}
-use Rattle.sorts.specs.declared.Answer.the-variants.{Done, Refused}
+use Rattle.words.specs.declared.Answer.{Answer}
+use Rattle.words.specs.declared.Answer.the-variants.{Done, Refused}
 use Rattle.sorts.specs.Outcome.{Outcome, wrote, refused}
 use Rattle.grammar.proofs.Post.{Every}
 use Rattle.sorts.proofs.Lend.{lent}

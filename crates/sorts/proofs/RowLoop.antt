@@ -14,14 +14,14 @@ use Rattle.grammar.specs.ParseSort
 use Rattle.grammar.specs.ParseSort.{eachSort}
 use Rattle.sorts.specs.Rows.{mark, rowWords}
 use Rattle.sorts.specs.Outcome.{Outcome, wrote, refused}
-use Rattle.sorts.specs.declared.Answer.{Answer}
-use Rattle.sorts.specs.declared.Answer.the-variants.{Done, Refused}
+use Rattle.words.specs.declared.Answer.{Answer}
+use Rattle.words.specs.declared.Answer.the-variants.{Done, Refused}
 use Rattle.grammar.proofs.Post.{Every, map-every}
 use Rattle.grammar.proofs.SortOf.{SortOf, SortsOf, sort-of, sorts-of}
 use Rattle.sorts.proofs.RowWords.{mark-short, row-cons, row-short}
 use Rattle.sorts.proofs.Lend.{lent}
 use Rattle.sorts.proofs.Outcomes.{never, same-count, done-short}
-use Rattle.grammar.proofs.TreeHead.{tree-two, Split, split, no-trees, first-words, other-words}
+use Rattle.reading.proofs.TreeHead.{tree-two, Split, split, no-trees, first-words, other-words}
 
 -- How many words the sort of a tree and a mark have at most, and the sorts of trees with their marks.
 module _ (text : List ℕ) where

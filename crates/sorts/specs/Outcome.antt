@@ -1,12 +1,12 @@
 -- What a function over the words of trees asks of them, and what it leaves in its output.
 use Prim.Native.Nat.{ℕ, _^_, _<_}
 use mathlib.Core.Path.{_≡_}
-use mathlib.Core.List.{List, _++_}
+use mathlib.Core.List.{List}
 use lib.ListN.{length}
 use Rattle.reading.specs.Tree.{Tree, Trees, list, trees, treeWords, treesWords}
 use Rattle.reading.specs.Answer.{Refusal, number, Ans, got, bad, over}
-use Rattle.sorts.specs.declared.Answer.{Answer}
-use Rattle.sorts.specs.declared.Answer.the-variants.{Done, Refused}
+use Rattle.words.specs.declared.Answer.{Answer}
+use Rattle.words.specs.declared.Answer.the-variants.{Done, Refused}
 
 -- The words of one tree. There are so few that no sum of words made from them overflows.
 pub record IsTree (ws : List ℕ) : Type 0 where
@@ -32,12 +32,6 @@ pub record IsThree (ws : List ℕ) : Type 0 where
   pub words : ws ≡ treesWords items
   pub three : trees items ≡ 3
   pub small : length ws < 2 ^ 32
-
--- Words that begin with a tree's.
-pub record Begins (ws : List ℕ) : Type 0 where
-  pub first : Tree
-  pub rest : List ℕ
-  pub words : ws ≡ treeWords first ++ rest
 
 -- A value: its words are laid over the output, as far as they fit, and the answer is how many there are. A refusal: its number; of the output nothing is said.
 pub data Outcome {A : Type 0} (words : A → List ℕ) : Ans A → List ℕ → List ℕ → Answer → Type 0 where

@@ -7,8 +7,8 @@ use Rattle.reading.specs.Answer.{number, Ans, got, bad, andThen, malformed}
 use Rattle.grammar.specs.Sort.{Sorts, snil, scons, ctorWords, sortWords}
 use Rattle.grammar.specs.Names.{SortForm, func, function, bitVec, applied}
 use Rattle.grammar.specs.ParseSort.{inSymbol, sizeOf, sortForm}
-use Rattle.sorts.specs.declared.Answer.{Answer}
-use Rattle.sorts.specs.declared.Answer.the-variants.{Done, Refused}
+use Rattle.words.specs.declared.Answer.{Answer}
+use Rattle.words.specs.declared.Answer.the-variants.{Done, Refused}
 
 -- What stands before the first of some sorts, the first m of which are inputs of functions.
 abbrev pub mark : ℕ → List ℕ

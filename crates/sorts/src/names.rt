@@ -6,13 +6,13 @@ ghost use Rattle.lexing.specs.Quads.{asWord64};
 ghost use Rattle.grammar.specs.Names.{plainSorts, oneSort, twoSorts, threeItems};
 ghost use Rattle.grammar.specs.ParseSort.{sizeNamed, indexNamed, orApplied, sortForm};
 ghost use Rattle.sorts.specs.SortNames.{plainIn, formIn, widthIn};
-use crate::span::bytes_at;
 use lexing::byte::begins_with;
 use lexing::byte::same;
 use lexing::number::Word32;
 use lexing::number::Word64;
 use lexing::number::u32_of;
 use lexing::number::u64_of;
+use words::span::bytes_at;
 
 // A sort that is a name, or another name.
 pub enum Plain {

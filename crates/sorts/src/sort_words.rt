@@ -10,37 +10,18 @@ ghost use Rattle.grammar.specs.Sort.{two};
 ghost use Rattle.sorts.specs.SortNames.{rowForm};
 ghost use Rattle.sorts.specs.Rows.{mark, absWords, rowHead};
 use crate::names::Row;
-use crate::number::high;
-use crate::number::low;
-use lexing::words::put;
-
-// The kinds of sorts.
-pub const INT: u32 = 1;
-
-pub const BOOL: u32 = 2;
-
-pub const REAL: u32 = 3;
-
-pub const STR: u32 = 4;
-
-const BIT_VEC: u32 = 5;
-
-const SIZE: u32 = 6;
-
-const VAR: u32 = 7;
-
-const FUNC: u32 = 8;
-
-const ABS: u32 = 9;
-
-const APP: u32 = 10;
-
-// The constructors of an App.
-const SET: u32 = 0;
-
-const MAP: u32 = 1;
-
-const DATA: u32 = 2;
+use words::number::high;
+use words::number::low;
+use words::output::put;
+use words::sort_kinds::ABS;
+use words::sort_kinds::APP;
+use words::sort_kinds::BIT_VEC;
+use words::sort_kinds::DATA;
+use words::sort_kinds::FUNC;
+use words::sort_kinds::MAP;
+use words::sort_kinds::SET;
+use words::sort_kinds::SIZE;
+use words::sort_kinds::VAR;
 
 // One word, as of a sort that is a name.
 pub fn put_one(out: &mut [u32], code: u32) -> usize

@@ -9,7 +9,6 @@ ghost use Rattle.grammar.specs.ParseSort.{otherSort, symbolSort, funcNumber, ea
 ghost use Rattle.sorts.specs.SortNames.{formIn, rowForm, arityIn};
 ghost use Rattle.sorts.specs.Outcome.{IsTree, IsList, IsTrees, IsThree, Outcome};
 ghost use Rattle.sorts.specs.Rows.{rowWords, listForm, isSize, judged, ended};
-use crate::Answer;
 use crate::names::ListForm;
 use crate::names::Plain;
 use crate::names::Row;
@@ -17,13 +16,6 @@ use crate::names::index_named;
 use crate::names::plain_sort;
 use crate::names::size_named;
 use crate::names::sort_form;
-use crate::number::fewer;
-use crate::number::least;
-use crate::number::wide;
-use crate::sort_words::BOOL;
-use crate::sort_words::INT;
-use crate::sort_words::REAL;
-use crate::sort_words::STR;
 use crate::sort_words::put_abs;
 use crate::sort_words::put_data;
 use crate::sort_words::put_mark;
@@ -31,17 +23,23 @@ use crate::sort_words::put_one;
 use crate::sort_words::put_row;
 use crate::sort_words::put_size;
 use crate::sort_words::put_var;
-use crate::span::bytes_at;
-use crate::tree::INTEGER;
-use crate::tree::LIST;
-use crate::tree::SYMBOL;
-use crate::tree::node_words;
 use lexing::byte::begins_with;
 use lexing::number::Word32;
 use lexing::number::Word64;
-
-// The largest number of a `func`.
-const MAX_FUNC: u32 = 64;
+use words::Answer;
+use words::limits::MAX_FUNC;
+use words::number::fewer;
+use words::number::least;
+use words::number::word_to_length;
+use words::sort_kinds::BOOL;
+use words::sort_kinds::INT;
+use words::sort_kinds::REAL;
+use words::sort_kinds::STR;
+use words::span::bytes_at;
+use words::tree::node_words;
+use words::tree_kinds::INTEGER;
+use words::tree_kinds::LIST;
+use words::tree_kinds::SYMBOL;
 
 // The number of a `func`, or one that is outside its range.
 enum Arity {
@@ -145,7 +143,7 @@ fn func_number(a: u32, b: u32, c: u32, d: u32) -> Arity
     if MAX_FUNC < a {
         return Arity::Out;
     }
-    Arity::In(wide(a))
+    Arity::In(word_to_length(a))
 }
 
 // The sort that a tree is.

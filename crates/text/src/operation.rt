@@ -7,10 +7,8 @@ use crate::Answer;
 use crate::scan::Outcome;
 use crate::scan::scan;
 use lexing::utf8::is_utf8;
-use lexing::words::clear;
-
-// How many bytes a text may have.
-const MAX_BYTES: usize = 32768;
+use words::limits::MAX_BYTES;
+use words::output::clear;
 
 // The answer, and the words; after a refusal the output is not yet cleared.
 fn attempt(text: &[u8], out: &mut [u32], all: bool) -> Answer

@@ -8,12 +8,11 @@ ghost use Rattle.reading.specs.Limits.{maxBytes};
 ghost use Rattle.reading.specs.Reading.{mayFollow};
 ghost use Rattle.text.specs.Scanned.{Scanned};
 use lexing::tokens::Token;
+use lexing::tokens::put_words;
 use lexing::tokens::token_at;
-use lexing::words::put;
-use lexing::words::put_words;
-
-// How many lists may be open.
-const MAX_LISTS: usize = 64;
+use words::limits::MAX_LISTS;
+use words::output::put;
+use words::tree_kinds::LIST;
 
 // How many expressions and how many words were found, and the byte behind them; or a refusal's number.
 pub enum Outcome {
@@ -33,7 +32,7 @@ fn put_list(out: &mut [u32], at: usize, children: usize, words: usize)
     requires { ⌜ (at < 2 ^ 32) × (children < 2 ^ 32) × (words < 2 ^ 32) ⌝ }
     ensures { λ _. ⌜ now (out .exit) ≡ sets (now (out .entry)) at (21 ∷ children ∷ words ∷ []) ⌝ }
 {
-    put(out, at, 21);
+    put(out, at, LIST);
     put(out, at + 1, children as u32);
     put(out, at + 2, words as u32);
 }

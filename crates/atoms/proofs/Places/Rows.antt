@@ -7,7 +7,7 @@ use lib.ListN.{length, getD, drop, length-append}
 use lib.Seq.{drop-drop, drop-at}
 use Rattle.reading.specs.Tree.{symbol, quoted, integer, decimal, boolean, Tree, Trees, atom, list, tnil, tcons, trees, atomWords, treeWords, treesWords, nestings, nesting}
 use Rattle.atoms.specs.Spot.{Spot}
-use Rattle.grammar.proofs.TreeHead.{is-symbol}
+use Rattle.reading.proofs.TreeHead.{is-symbol}
 use Rattle.atoms.proofs.Places.Spots.{word, word0}
 
 -- What stands behind a tree.

@@ -12,7 +12,7 @@ use Rattle.reading.specs.Tree.{Tree, Trees, atom, list, tnil, tcons, trees, tre
 use Rattle.grammar.specs.ParseExpr
 use Rattle.grammar.specs.ParseExpr.{through, atomChild}
 use Rattle.atoms.specs.Spot.{Spot, Seen}
-use Rattle.grammar.proofs.TreeHead.{tree-two, is-list, size-list}
+use Rattle.reading.proofs.TreeHead.{tree-two, is-list, size-list}
 
 -- A list: its items, and how many they are.
 pub record IsList (ws : List ℕ) (at : ℕ) (t : Tree) : Type 0 where

@@ -9,8 +9,8 @@ use Rattle.atoms.proofs.scopes.find.Tie as tie
 use Rattle.atoms.proofs.scopes.find.Reads as reads
 use Rattle.atoms.proofs.scopes.find.Lts as lts
 use Rattle.atoms.proofs.scopes.place_among.Reads as place-among-reads
-use Rattle.atoms.proofs.scopes.size.Reads as size-reads
-use Rattle.sorts.proofs.number.long.Reads as long-reads
+use Rattle.words.proofs.number.long_to_length.Reads as long-to-length-reads
+use Rattle.words.proofs.number.length_to_long.Reads as length-to-long-reads
 use Rattle.std.proofs.num.wrapping_add_u64.Reads as wrapping-add-u64-reads
 
 abbrev Inv-loop : tie.InvT-loop
@@ -28,44 +28,44 @@ sub-d : tie.Need-sub-d Inv-loop μ-loop
 sub-d c = search needs
 
 -- src/scopes.rt:81:30
-mul-size : tie.Need-mul-size Inv-loop μ-loop
-mul-size c = omega (arith, c .before .loop .inv (c .before .before .before .before .before .pre) .within)
+mul-long-to-length : tie.Need-mul-long-to-length Inv-loop μ-loop
+mul-long-to-length c = omega (arith, c .before .loop .inv (c .before .before .before .before .before .pre) .within)
 
 -- src/scopes.rt:81:23
-mul-size-2 : tie.Need-mul-size-2 Inv-loop μ-loop
-mul-size-2 c = omega (arith, c .before .loop .inv (c .before .before .before .before .before .pre) .within)
+mul-long-to-length-2 : tie.Need-mul-long-to-length-2 Inv-loop μ-loop
+mul-long-to-length-2 c = omega (arith, c .before .loop .inv (c .before .before .before .before .before .pre) .within)
 
 -- src/scopes.rt:81:23
-shared-slice-read-size : tie.Need-shared-slice-read-size Inv-loop μ-loop
-shared-slice-read-size c = omega (arith, c .before .before .loop .inv (c .before .before .before .before .before .before .pre) .within)
+shared-slice-read-long-to-length : tie.Need-shared-slice-read-long-to-length Inv-loop μ-loop
+shared-slice-read-long-to-length c = omega (arith, c .before .before .loop .inv (c .before .before .before .before .before .before .pre) .within)
 
 -- src/scopes.rt:81:13
-size-requires : tie.Need-size-requires Inv-loop μ-loop
-size-requires c κs = search needs
+long-to-length-requires : tie.Need-long-to-length-requires Inv-loop μ-loop
+long-to-length-requires c κs = search needs
 
 -- src/scopes.rt:82:29
-mul-size-3 : tie.Need-mul-size-3 Inv-loop μ-loop
-mul-size-3 c = omega (arith, c .before .before .before .loop .inv (c .before .before .before .before .before .before .before .pre) .within)
+mul-long-to-length-3 : tie.Need-mul-long-to-length-3 Inv-loop μ-loop
+mul-long-to-length-3 c = omega (arith, c .before .before .before .loop .inv (c .before .before .before .before .before .before .before .pre) .within)
 
 -- src/scopes.rt:82:29
-add-size : tie.Need-add-size Inv-loop μ-loop
-add-size c = omega (arith, c .before .before .before .loop .inv (c .before .before .before .before .before .before .before .pre) .within)
+add-long-to-length : tie.Need-add-long-to-length Inv-loop μ-loop
+add-long-to-length c = omega (arith, c .before .before .before .loop .inv (c .before .before .before .before .before .before .before .pre) .within)
 
 -- src/scopes.rt:82:22
-mul-size-4 : tie.Need-mul-size-4 Inv-loop μ-loop
-mul-size-4 c = omega (arith, c .before .before .before .loop .inv (c .before .before .before .before .before .before .before .pre) .within)
+mul-long-to-length-4 : tie.Need-mul-long-to-length-4 Inv-loop μ-loop
+mul-long-to-length-4 c = omega (arith, c .before .before .before .loop .inv (c .before .before .before .before .before .before .before .pre) .within)
 
 -- src/scopes.rt:82:22
-shared-slice-read-size-2 : tie.Need-shared-slice-read-size-2 Inv-loop μ-loop
-shared-slice-read-size-2 c = omega (arith, c .before .before .before .before .loop .inv (c .before .before .before .before .before .before .before .before .pre) .within)
+shared-slice-read-long-to-length-2 : tie.Need-shared-slice-read-long-to-length-2 Inv-loop μ-loop
+shared-slice-read-long-to-length-2 c = omega (arith, c .before .before .before .before .loop .inv (c .before .before .before .before .before .before .before .before .pre) .within)
 
 -- src/scopes.rt:82:13
-size-requires-2 : tie.Need-size-requires-2 Inv-loop μ-loop
-size-requires-2 c κs = search needs
+long-to-length-requires-2 : tie.Need-long-to-length-requires-2 Inv-loop μ-loop
+long-to-length-requires-2 c κs = search needs
 
 -- src/scopes.rt:83:13
 place-among-requires : tie.Need-place-among-requires Inv-loop μ-loop
-place-among-requires c κs = search-pairs _ _ _ _ (c .before .before .before .before .before .before .before .before .before .pre) _ _ (c .before .before .before .before .before .loop .inv (c .before .before .before .before .before .before .before .before .before .pre)) (c .before .before .before .before .loop-test .taken) (c .before .before .size .ensures) (c .size2 .ensures)
+place-among-requires c κs = search-pairs _ _ _ _ (c .before .before .before .before .before .before .before .before .before .pre) _ _ (c .before .before .before .before .before .loop .inv (c .before .before .before .before .before .before .before .before .before .pre)) (c .before .before .before .before .loop-test .taken) (c .before .before .long-to-length .ensures) (c .long-to-length2 .ensures)
 
 -- src/scopes.rt:85:55
 mul-wrapping-add-u64 : tie.Need-mul-wrapping-add-u64 Inv-loop μ-loop
@@ -84,8 +84,8 @@ shared-slice-read-wrapping-add-u64 : tie.Need-shared-slice-read-wrapping-add-u64
 shared-slice-read-wrapping-add-u64 c = omega (arith, c .before .before .before .before .before .before .before .before .loop .inv (c .before .before .before .before .before .before .before .before .before .before .before .before .pre) .within)
 
 -- src/scopes.rt:85:67
-long-requires : tie.Need-long-requires Inv-loop μ-loop
-long-requires c κs = search needs
+length-to-long-requires : tie.Need-length-to-long-requires Inv-loop μ-loop
+length-to-long-requires c κs = search needs
 
 -- src/scopes.rt:85:17
 wrapping-add-u64-requires : tie.Need-wrapping-add-u64-requires Inv-loop μ-loop
@@ -97,7 +97,7 @@ wrapping-add-u64-requires-2 c κs = search needs
 
 -- src/scopes.rt:86:13
 returns : tie.Need-returns Inv-loop μ-loop
-returns c h = search-hit _ _ _ _ h _ _ (c .before .before .before .before .before .before .before .before .before .before .before .loop .inv h) (c .before .before .before .before .before .before .before .before .before .before .loop-test .taken) (c .before .before .before .before .before .before .before .before .size .ensures) (c .before .before .before .before .before .before .size2 .ensures) (c .before .before .before .before .before .place-among .ensures) _ (c .before .before .before .before .if1 .taken) (wraps _ _ _ _ _ _ (c .before .before .long .ensures) (c .before .wrapping-add-u64 .ensures) (c .wrapping-add-u642 .ensures))
+returns c h = search-hit _ _ _ _ h _ _ (c .before .before .before .before .before .before .before .before .before .before .before .loop .inv h) (c .before .before .before .before .before .before .before .before .before .before .loop-test .taken) (c .before .before .before .before .before .before .before .before .long-to-length .ensures) (c .before .before .before .before .before .before .long-to-length2 .ensures) (c .before .before .before .before .before .place-among .ensures) _ (c .before .before .before .before .if1 .taken) (wraps _ _ _ _ _ _ (c .before .before .length-to-long .ensures) (c .before .wrapping-add-u64 .ensures) (c .wrapping-add-u642 .ensures))
 
 -- src/scopes.rt:79:5
 loop-less : tie.Need-loop-less Inv-loop μ-loop
@@ -105,7 +105,7 @@ loop-less c = omega arith
 
 -- src/scopes.rt:79:5
 loop-again : tie.Need-loop-again Inv-loop μ-loop
-loop-again c = λ h. search-more _ _ _ _ h _ _ (c .before .before .before .before .before .before .before .loop .inv h) (c .before .before .before .before .before .before .loop-test .taken) (c .before .before .before .before .size .ensures) (c .before .before .size2 .ensures) (c .before .place-among .ensures) (c .if1 .left)
+loop-again c = λ h. search-more _ _ _ _ h _ _ (c .before .before .before .before .before .before .before .loop .inv h) (c .before .before .before .before .before .before .loop-test .taken) (c .before .before .before .before .long-to-length .ensures) (c .before .before .long-to-length2 .ensures) (c .before .place-among .ensures) (c .if1 .left)
 
 -- src/scopes.rt:66:1
 returns-2 : tie.Need-returns-2 Inv-loop μ-loop
@@ -119,21 +119,21 @@ find-spec =
     μ-loop
     loop-holds
     sub-d
-    mul-size
-    mul-size-2
-    shared-slice-read-size
-    size-requires
-    mul-size-3
-    add-size
-    mul-size-4
-    shared-slice-read-size-2
-    size-requires-2
+    mul-long-to-length
+    mul-long-to-length-2
+    shared-slice-read-long-to-length
+    long-to-length-requires
+    mul-long-to-length-3
+    add-long-to-length
+    mul-long-to-length-4
+    shared-slice-read-long-to-length-2
+    long-to-length-requires-2
     place-among-requires
     mul-wrapping-add-u64
     add-wrapping-add-u64
     mul-wrapping-add-u64-2
     shared-slice-read-wrapping-add-u64
-    long-requires
+    length-to-long-requires
     wrapping-add-u64-requires
     wrapping-add-u64-requires-2
     returns

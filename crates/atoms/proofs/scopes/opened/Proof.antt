@@ -10,7 +10,7 @@ use Rattle.atoms.proofs.scopes.opened.Statement.{statement}
 use Rattle.atoms.proofs.scopes.opened.Tie as tie
 use Rattle.atoms.proofs.scopes.opened.Reads as reads
 use Rattle.atoms.proofs.scopes.opened.Lts as lts
-use Rattle.sorts.proofs.number.long.Reads as long-reads
+use Rattle.words.proofs.number.length_to_long.Reads as length-to-long-reads
 
 -- src/scopes.rt:20:9
 returns : tie.Need-returns
@@ -18,8 +18,8 @@ unfolding pushed deeper pick
 returns c = (rw (eq-eqb _ 0 (c .if1 .taken)) refl, rw (eq-eqb _ 0 (c .if1 .taken)) refl)
 
 -- src/scopes.rt:22:25
-long-requires : tie.Need-long-requires
-long-requires c κs = search needs
+length-to-long-requires : tie.Need-length-to-long-requires
+length-to-long-requires c κs = search needs
 
 -- src/scopes.rt:22:12
 mul-scopes : tie.Need-mul-scopes
@@ -47,7 +47,7 @@ mul-scopes-4 c = search needs
 
 -- src/scopes.rt:23:5
 slice-write-scopes-2 : tie.Need-slice-write-scopes-2
-slice-write-scopes-2 c = omega (arith, c .before .before .before .pre, length-set (c .before .before .before .args .scopes .now) (3 * c .before .before .before .args .depth) (c .long .result))
+slice-write-scopes-2 c = omega (arith, c .before .before .before .pre, length-set (c .before .before .before .args .scopes .now) (3 * c .before .before .before .args .depth) (c .length-to-long .result))
 
 -- src/scopes.rt:24:12
 mul-scopes-5 : tie.Need-mul-scopes-5
@@ -63,7 +63,7 @@ mul-scopes-6 c = search needs
 
 -- src/scopes.rt:24:5
 slice-write-scopes-3 : tie.Need-slice-write-scopes-3
-slice-write-scopes-3 c = omega (arith, c .before .before .before .pre, length-set (c .before .before .before .args .scopes .now) (3 * c .before .before .before .args .depth) (c .long .result), length-set (set (c .before .before .before .args .scopes .now) (3 * c .before .before .before .args .depth) (c .long .result)) (3 * c .before .before .before .args .depth + 1) (c .before .before .before .args .n))
+slice-write-scopes-3 c = omega (arith, c .before .before .before .pre, length-set (c .before .before .before .args .scopes .now) (3 * c .before .before .before .args .depth) (c .length-to-long .result), length-set (set (c .before .before .before .args .scopes .now) (3 * c .before .before .before .args .depth) (c .length-to-long .result)) (3 * c .before .before .before .args .depth + 1) (c .before .before .before .args .n))
 
 -- src/scopes.rt:25:5
 add-result : tie.Need-add-result
@@ -76,14 +76,14 @@ same-length c = search needs
 -- src/scopes.rt:15:1
 returns-2 : tie.Need-returns-2
 unfolding pushed deeper pick
-returns-2 c = (rw (ne-eqb _ 0 (c .before .if1 .left), c .long .ensures) refl, rw (ne-eqb _ 0 (c .before .if1 .left)) refl)
+returns-2 c = (rw (ne-eqb _ 0 (c .before .if1 .left), c .length-to-long .ensures) refl, rw (ne-eqb _ 0 (c .before .if1 .left)) refl)
 
 pub opened-spec : {M : Type 1} → statement M
 opened-spec =
     tie.close
     (tie.spec
     returns
-    long-requires
+    length-to-long-requires
     mul-scopes
     mul-scopes-2
     slice-write-scopes

@@ -40,23 +40,23 @@ same-name-requires c κs = search needs
 returns : tie.Need-returns Inv-loop μ-loop
 returns c h = walk-hit _ _ _ _ h _ _ _ (c .before .before .before .before .before .loop .inv h) (c .before .before .before .before .loop-test .taken) (sym (c .before .same-name .ensures) ∙ c .if1 .taken)
 
-add-wide : tie.Need-add-wide Inv-loop μ-loop
-add-wide c = let x = (walk-pair _ _ _ _ (c .before .before .before .before .before .before .before .before .pre) _ _ _ (c .before .before .before .before .before .loop .inv (c .before .before .before .before .before .before .before .before .pre)) (c .before .before .before .before .loop-test .taken)) in omega (arith, x .six)
+add-word-to-length : tie.Need-add-word-to-length Inv-loop μ-loop
+add-word-to-length c = let x = (walk-pair _ _ _ _ (c .before .before .before .before .before .before .before .before .pre) _ _ _ (c .before .before .before .before .before .loop .inv (c .before .before .before .before .before .before .before .before .pre)) (c .before .before .before .before .loop-test .taken)) in omega (arith, x .six)
 
-mul-wide : tie.Need-mul-wide Inv-loop μ-loop
-mul-wide c = let x = (walk-pair _ _ _ _ (c .before .before .before .before .before .before .before .before .pre) _ _ _ (c .before .before .before .before .before .loop .inv (c .before .before .before .before .before .before .before .before .pre)) (c .before .before .before .before .loop-test .taken)) in omega (arith, x .six)
+mul-word-to-length : tie.Need-mul-word-to-length Inv-loop μ-loop
+mul-word-to-length c = let x = (walk-pair _ _ _ _ (c .before .before .before .before .before .before .before .before .pre) _ _ _ (c .before .before .before .before .before .loop .inv (c .before .before .before .before .before .before .before .before .pre)) (c .before .before .before .before .loop-test .taken)) in omega (arith, x .six)
 
-shared-slice-read-wide : tie.Need-shared-slice-read-wide Inv-loop μ-loop
-shared-slice-read-wide c = let x = (walk-pair _ _ _ _ (c .before .before .before .before .before .before .before .before .before .pre) _ _ _ (c .before .before .before .before .before .before .loop .inv (c .before .before .before .before .before .before .before .before .before .pre)) (c .before .before .before .before .before .loop-test .taken)) in omega (arith, x .six)
+shared-slice-read-word-to-length : tie.Need-shared-slice-read-word-to-length Inv-loop μ-loop
+shared-slice-read-word-to-length c = let x = (walk-pair _ _ _ _ (c .before .before .before .before .before .before .before .before .before .pre) _ _ _ (c .before .before .before .before .before .before .loop .inv (c .before .before .before .before .before .before .before .before .before .pre)) (c .before .before .before .before .before .loop-test .taken)) in omega (arith, x .six)
 
-wide-requires : tie.Need-wide-requires Inv-loop μ-loop
-wide-requires c κs = search needs
+word-to-length-requires : tie.Need-word-to-length-requires Inv-loop μ-loop
+word-to-length-requires c κs = search needs
 
 add-p : tie.Need-add-p Inv-loop μ-loop
-add-p c = let x = (walk-pair _ _ _ _ (c .before .before .before .before .before .before .before .before .before .before .pre) _ _ _ (c .before .before .before .before .before .before .before .loop .inv (c .before .before .before .before .before .before .before .before .before .before .pre)) (c .before .before .before .before .before .before .loop-test .taken)) in omega (arith, x .fits, c .wide .ensures .0)
+add-p c = let x = (walk-pair _ _ _ _ (c .before .before .before .before .before .before .before .before .before .before .pre) _ _ _ (c .before .before .before .before .before .before .before .loop .inv (c .before .before .before .before .before .before .before .before .before .before .pre)) (c .before .before .before .before .before .before .loop-test .taken)) in omega (arith, x .fits, c .word-to-length .ensures .0)
 
 add-p-2 : tie.Need-add-p-2 Inv-loop μ-loop
-add-p-2 c = let x = (walk-pair _ _ _ _ (c .before .before .before .before .before .before .before .before .before .before .pre) _ _ _ (c .before .before .before .before .before .before .before .loop .inv (c .before .before .before .before .before .before .before .before .before .before .pre)) (c .before .before .before .before .before .before .loop-test .taken)) in omega (arith, x .fits, c .wide .ensures .0)
+add-p-2 c = let x = (walk-pair _ _ _ _ (c .before .before .before .before .before .before .before .before .before .before .pre) _ _ _ (c .before .before .before .before .before .before .before .loop .inv (c .before .before .before .before .before .before .before .before .before .before .pre)) (c .before .before .before .before .before .before .loop-test .taken)) in omega (arith, x .fits, c .word-to-length .ensures .0)
 
 add-i : tie.Need-add-i Inv-loop μ-loop
 add-i c = search needs
@@ -65,7 +65,7 @@ loop-less : tie.Need-loop-less Inv-loop μ-loop
 loop-less c = search needs
 
 loop-again : tie.Need-loop-again Inv-loop μ-loop
-loop-again c = λ h. walk-more _ _ _ _ h _ _ _ (c .before .before .before .before .before .before .before .loop .inv h) (c .before .before .before .before .before .before .loop-test .taken) (sym (c .before .before .before .same-name .ensures) ∙ c .before .before .if1 .left) _ (rw (c .wide .ensures .0) refl)
+loop-again c = λ h. walk-more _ _ _ _ h _ _ _ (c .before .before .before .before .before .before .before .loop .inv h) (c .before .before .before .before .before .before .loop-test .taken) (sym (c .before .before .before .same-name .ensures) ∙ c .before .before .if1 .left) _ (rw (c .word-to-length .ensures .0) refl)
 
 returns-2 : tie.Need-returns-2 Inv-loop μ-loop
 returns-2 c h = walk-end _ _ _ _ h _ _ _ (c .before .loop .inv h) (c .loop-test .left)
@@ -85,10 +85,10 @@ place-among-spec =
     shared-slice-read-same-name-2
     same-name-requires
     returns
-    add-wide
-    mul-wide
-    shared-slice-read-wide
-    wide-requires
+    add-word-to-length
+    mul-word-to-length
+    shared-slice-read-word-to-length
+    word-to-length-requires
     add-p
     add-p-2
     add-i

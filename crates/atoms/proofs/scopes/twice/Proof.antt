@@ -9,7 +9,7 @@ use Rattle.atoms.proofs.scopes.twice.Tie as tie
 use Rattle.atoms.proofs.scopes.twice.Reads as reads
 use Rattle.atoms.proofs.scopes.twice.Lts as lts
 use Rattle.atoms.proofs.scopes.place_among.Reads as place-among-reads
-use Rattle.sorts.proofs.number.wide.Reads as wide-reads
+use Rattle.words.proofs.number.word_to_length.Reads as word-to-length-reads
 
 abbrev Inv-loop : tie.InvT-loop
 Inv-loop text tree at n p₀ i₀ p i = (b : Pairs tree at n) → Left text tree (b .names) n i p
@@ -46,28 +46,28 @@ shared-slice-read-l : tie.Need-shared-slice-read-l Inv-loop μ-loop
 shared-slice-read-l c = let x = (left-pair _ _ _ _ _ _ (c .before .before .before .loop .inv (c .before .before .before .before .before .before .pre)) (c .before .before .loop-test .taken)) in omega (arith, x .six)
 
 -- src/scopes.rt:102:24
-add-wide : tie.Need-add-wide Inv-loop μ-loop
-add-wide c = let x = (left-pair _ _ _ _ _ _ (c .before .before .before .loop .inv (c .before .before .before .before .before .before .pre)) (c .before .before .loop-test .taken)) in omega (arith, x .six)
+add-word-to-length : tie.Need-add-word-to-length Inv-loop μ-loop
+add-word-to-length c = let x = (left-pair _ _ _ _ _ _ (c .before .before .before .loop .inv (c .before .before .before .before .before .before .pre)) (c .before .before .loop-test .taken)) in omega (arith, x .six)
 
 -- src/scopes.rt:102:19
-mul-wide : tie.Need-mul-wide Inv-loop μ-loop
-mul-wide c = let x = (left-pair _ _ _ _ _ _ (c .before .before .before .loop .inv (c .before .before .before .before .before .before .pre)) (c .before .before .loop-test .taken)) in omega (arith, x .six)
+mul-word-to-length : tie.Need-mul-word-to-length Inv-loop μ-loop
+mul-word-to-length c = let x = (left-pair _ _ _ _ _ _ (c .before .before .before .loop .inv (c .before .before .before .before .before .before .pre)) (c .before .before .loop-test .taken)) in omega (arith, x .six)
 
 -- src/scopes.rt:102:19
-shared-slice-read-wide : tie.Need-shared-slice-read-wide Inv-loop μ-loop
-shared-slice-read-wide c = let x = (left-pair _ _ _ _ _ _ (c .before .before .before .before .loop .inv (c .before .before .before .before .before .before .before .pre)) (c .before .before .before .loop-test .taken)) in omega (arith, x .six)
+shared-slice-read-word-to-length : tie.Need-shared-slice-read-word-to-length Inv-loop μ-loop
+shared-slice-read-word-to-length c = let x = (left-pair _ _ _ _ _ _ (c .before .before .before .before .loop .inv (c .before .before .before .before .before .before .before .pre)) (c .before .before .before .loop-test .taken)) in omega (arith, x .six)
 
 -- src/scopes.rt:102:14
-wide-requires : tie.Need-wide-requires Inv-loop μ-loop
-wide-requires c κs = search needs
+word-to-length-requires : tie.Need-word-to-length-requires Inv-loop μ-loop
+word-to-length-requires c κs = search needs
 
 -- src/scopes.rt:102:14
 add-p : tie.Need-add-p Inv-loop μ-loop
-add-p c = let x = (left-pair _ _ _ _ _ _ (c .before .before .before .before .before .loop .inv (c .before .before .before .before .before .before .before .before .pre)) (c .before .before .before .before .loop-test .taken)) in omega (arith, x .fits, c .wide .ensures .0)
+add-p c = let x = (left-pair _ _ _ _ _ _ (c .before .before .before .before .before .loop .inv (c .before .before .before .before .before .before .before .before .pre)) (c .before .before .before .before .loop-test .taken)) in omega (arith, x .fits, c .word-to-length .ensures .0)
 
 -- src/scopes.rt:102:9
 add-p-2 : tie.Need-add-p-2 Inv-loop μ-loop
-add-p-2 c = let x = (left-pair _ _ _ _ _ _ (c .before .before .before .before .before .loop .inv (c .before .before .before .before .before .before .before .before .pre)) (c .before .before .before .before .loop-test .taken)) in omega (arith, x .fits, c .wide .ensures .0)
+add-p-2 c = let x = (left-pair _ _ _ _ _ _ (c .before .before .before .before .before .loop .inv (c .before .before .before .before .before .before .before .before .pre)) (c .before .before .before .before .loop-test .taken)) in omega (arith, x .fits, c .word-to-length .ensures .0)
 
 -- src/scopes.rt:103:9
 add-i : tie.Need-add-i Inv-loop μ-loop
@@ -79,7 +79,7 @@ sub-place-among c = omega arith
 
 -- src/scopes.rt:104:12
 place-among-requires : tie.Need-place-among-requires Inv-loop μ-loop
-place-among-requires c κs = left-rest _ _ _ _ _ _ (c .before .before .before .before .before .loop .inv (c .before .before .before .before .before .before .before .before .pre)) (c .before .before .before .before .loop-test .taken) _ (rw (c .wide .ensures .0) refl)
+place-among-requires c κs = left-rest _ _ _ _ _ _ (c .before .before .before .before .before .loop .inv (c .before .before .before .before .before .before .before .before .pre)) (c .before .before .before .before .loop-test .taken) _ (rw (c .word-to-length .ensures .0) refl)
 
 -- src/scopes.rt:104:54
 sub-if1 : tie.Need-sub-if1 Inv-loop μ-loop
@@ -88,8 +88,8 @@ sub-if1 c = omega arith
 -- src/scopes.rt:105:13
 returns : tie.Need-returns Inv-loop μ-loop
 returns c b =
-    let q : ℕ = c .before .before .before .before .before .before .before .loop .p + (c .before .before .wide .result + 3) in
-    left-hit _ _ _ _ _ _ (c .before .before .before .before .before .before .before .loop .inv b) (c .before .before .before .before .before .before .loop-test .taken) (c .before .before .before .before .before .before .before .loop .p + (c .before .before .wide .result + 3)) (rw (c .before .before .wide .ensures .0) refl) (c .before .place-among .ensures (left-rest _ _ _ _ _ _ (c .before .before .before .before .before .before .before .loop .inv b) (c .before .before .before .before .before .before .loop-test .taken) (c .before .before .before .before .before .before .before .loop .p + (c .before .before .wide .result + 3)) (rw (c .before .before .wide .ensures .0) refl))) (c .if1 .taken)
+    let q : ℕ = c .before .before .before .before .before .before .before .loop .p + (c .before .before .word-to-length .result + 3) in
+    left-hit _ _ _ _ _ _ (c .before .before .before .before .before .before .before .loop .inv b) (c .before .before .before .before .before .before .loop-test .taken) (c .before .before .before .before .before .before .before .loop .p + (c .before .before .word-to-length .result + 3)) (rw (c .before .before .word-to-length .ensures .0) refl) (c .before .place-among .ensures (left-rest _ _ _ _ _ _ (c .before .before .before .before .before .before .before .loop .inv b) (c .before .before .before .before .before .before .loop-test .taken) (c .before .before .before .before .before .before .before .loop .p + (c .before .before .word-to-length .result + 3)) (rw (c .before .before .word-to-length .ensures .0) refl))) (c .if1 .taken)
 
 -- src/scopes.rt:99:5
 loop-less : tie.Need-loop-less Inv-loop μ-loop
@@ -97,7 +97,7 @@ loop-less c = omega arith
 
 -- src/scopes.rt:99:5
 loop-again : tie.Need-loop-again Inv-loop μ-loop
-loop-again c = λ b. left-more _ _ _ _ _ _ (c .before .before .before .before .before .before .before .loop .inv b) (c .before .before .before .before .before .before .loop-test .taken) _ (rw (c .before .before .wide .ensures .0) refl) (c .before .place-among .ensures (left-rest _ _ _ _ _ _ (c .before .before .before .before .before .before .before .loop .inv b) (c .before .before .before .before .before .before .loop-test .taken) _ (rw (c .before .before .wide .ensures .0) refl))) (c .if1 .left)
+loop-again c = λ b. left-more _ _ _ _ _ _ (c .before .before .before .before .before .before .before .loop .inv b) (c .before .before .before .before .before .before .loop-test .taken) _ (rw (c .before .before .word-to-length .ensures .0) refl) (c .before .place-among .ensures (left-rest _ _ _ _ _ _ (c .before .before .before .before .before .before .before .loop .inv b) (c .before .before .before .before .before .before .loop-test .taken) _ (rw (c .before .before .word-to-length .ensures .0) refl))) (c .if1 .left)
 
 -- src/scopes.rt:93:1
 returns-2 : tie.Need-returns-2 Inv-loop μ-loop
@@ -116,10 +116,10 @@ twice-spec =
     add-l
     mul-l
     shared-slice-read-l
-    add-wide
-    mul-wide
-    shared-slice-read-wide
-    wide-requires
+    add-word-to-length
+    mul-word-to-length
+    shared-slice-read-word-to-length
+    word-to-length-requires
     add-p
     add-p-2
     add-i

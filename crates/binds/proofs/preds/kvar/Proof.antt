@@ -46,14 +46,14 @@ put-kvar-requires c κs = omega (arith, c .before .before .before .before .befor
 add-names : tie.Need-add-names
 add-names c = omega (arith, kvar-there (c .before .before .before .before .before .before .before .before .before .before .before .pre))
 
-sub-wide : tie.Need-sub-wide
-sub-wide c = search needs
+sub-word-to-length : tie.Need-sub-word-to-length
+sub-word-to-length c = search needs
 
-wide-requires : tie.Need-wide-requires
-wide-requires c κs = search needs
+word-to-length-requires : tie.Need-word-to-length-requires
+word-to-length-requires c κs = search needs
 
 names-requires : tie.Need-names-requires
-names-requires c κs = kvar-row (c .before .before .before .before .before .before .before .before .before .before .before .before .before .pre) (c .before .before .before .before .put-kvar .ensures .is) (c .before .wide .ensures .0)
+names-requires c κs = kvar-row (c .before .before .before .before .before .before .before .before .before .before .before .before .before .pre) (c .before .before .before .before .put-kvar .ensures .is) (c .before .word-to-length .ensures .0)
 
 enum-known-e : tie.Need-enum-known-e
 enum-known-e c = search needs
@@ -71,13 +71,13 @@ same-length : tie.Need-same-length
 same-length c = search needs
 
 returns-2 : tie.Need-returns-2
-returns-2 c h count = kvar-bad h count (c .before .before .before .before .before .before .before .before .before .before .before .before .before .before .if1 .left) (bad-at (c .before .before .before .before .before .names .ensures (kvar-row h (c .before .before .before .before .before .before .before .before .before .before .put-kvar .ensures .is) (c .before .before .before .before .before .before .before .wide .ensures .0))) (c .before .e .given .1))
+returns-2 c h count = kvar-bad h count (c .before .before .before .before .before .before .before .before .before .before .before .before .before .before .if1 .left) (bad-at (c .before .before .before .before .before .names .ensures (kvar-row h (c .before .before .before .before .before .before .before .before .before .before .put-kvar .ensures .is) (c .before .before .before .before .before .before .before .word-to-length .ensures .0))) (c .before .e .given .1))
 
 same-length-2 : tie.Need-same-length-2
 same-length-2 c = search needs
 
 returns-3 : tie.Need-returns-3
-returns-3 c h count = kvar-read h count (c .before .before .before .before .before .before .before .before .before .before .before .before .before .before .before .if1 .left) (c .before .before .before .before .before .before .before .before .before .before .before .put-kvar .ensures) refl (got-at (c .before .before .before .before .before .before .names .ensures (kvar-row h (c .before .before .before .before .before .before .before .before .before .before .before .put-kvar .ensures .is) (c .before .before .before .before .before .before .before .before .wide .ensures .0))) (c .before .before .u .given .1)) (c .words-at .ensures (kvar-spot h))
+returns-3 c h count = kvar-read h count (c .before .before .before .before .before .before .before .before .before .before .before .before .before .before .before .if1 .left) (c .before .before .before .before .before .before .before .before .before .before .before .put-kvar .ensures) refl (got-at (c .before .before .before .before .before .before .names .ensures (kvar-row h (c .before .before .before .before .before .before .before .before .before .before .before .put-kvar .ensures .is) (c .before .before .before .before .before .before .before .before .word-to-length .ensures .0))) (c .before .before .u .given .1)) (c .words-at .ensures (kvar-spot h))
 
 pub kvar-spec : {M : Type 1} → statement M
 kvar-spec =
@@ -96,8 +96,8 @@ kvar-spec =
     sub-put-kvar
     put-kvar-requires
     add-names
-    sub-wide
-    wide-requires
+    sub-word-to-length
+    word-to-length-requires
     names-requires
     enum-known-e
     enum-known-u

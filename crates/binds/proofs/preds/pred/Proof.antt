@@ -17,7 +17,7 @@ use Rattle.exprs.proofs.expr.expr.Reads as expr-reads
 use Rattle.lexing.proofs.byte.begins_with.Reads as begins-with-reads
 use Rattle.lexing.proofs.byte.same.Reads as same-reads
 use Rattle.binds.proofs.preds.kvar.Reads as kvar-reads
-use Rattle.sorts.proofs.span.bytes_at.Reads as bytes-at-reads
+use Rattle.words.proofs.span.bytes_at.Reads as bytes-at-reads
 
 -- src/preds.rt:108:32
 node-at-requires : tie.Need-node-at-requires

@@ -104,11 +104,11 @@ enum-known-e c = search needs
 enum-known-u : tie.Need-enum-known-u
 enum-known-u c = search needs
 
-sub-wide : tie.Need-sub-wide
-sub-wide c = omega (arith, ap-many (c .before .before .before .before .before .before .before .before .before .before .before .before .before .before .before .before .before .before .before .before .before .before .before .before .before .pre .listed))
+sub-word-to-length : tie.Need-sub-word-to-length
+sub-word-to-length c = omega (arith, ap-many (c .before .before .before .before .before .before .before .before .before .before .before .before .before .before .before .before .before .before .before .before .before .before .before .before .before .pre .listed))
 
-wide-requires : tie.Need-wide-requires
-wide-requires c κs = search needs
+word-to-length-requires : tie.Need-word-to-length-requires
+word-to-length-requires c κs = search needs
 
 same-length : tie.Need-same-length
 same-length c = search needs
@@ -134,7 +134,7 @@ returns-5 c t us h =
     let x = sym (c .before .before .before .before .before .before .before .before .before .before .before .before .before .before .is-apply .ensures (second-spot h n two js)) ∙ c .before .before .before .before .before .before .before .before .before .before .before .before .before .if2 .taken in
     let three = c .before .before .before .before .before .before .before .before .before .before .before .before .if3 .left in
     let small = third-small h n two js x three (λ i. c .before .before .before .before .before .before .before .before .before .before .before .before .before .before .before .before .before .before .before .before .before .before .before .before .shared-slice-known2 .given i .fits) in
-    in-apply h n two js x three _ (c .before .before .before .before .before .before .before .before .before .before .put3 .ensures) (got-at (c .before .before .before .before .before .before .sort-at .ensures small) (c .before .before .u .given .1)) (c .before .before .before .before .before .before .before .before .before .before .before .before .before .before .before .before .words-at .ensures (head-spot h)) (c .wide .ensures .0)
+    in-apply h n two js x three _ (c .before .before .before .before .before .before .before .before .before .before .put3 .ensures) (got-at (c .before .before .before .before .before .before .sort-at .ensures small) (c .before .before .u .given .1)) (c .before .before .before .before .before .before .before .before .before .before .before .before .before .before .before .before .words-at .ensures (head-spot h)) (c .word-to-length .ensures .0)
 
 sub-put3 : tie.Need-sub-put3
 sub-put3 c = omega (arith, ap-many (c .before .before .before .before .before .before .before .before .before .before .before .before .before .before .pre .listed))
@@ -142,17 +142,17 @@ sub-put3 c = omega (arith, ap-many (c .before .before .before .before .before .b
 put3-requires-2 : tie.Need-put3-requires-2
 put3-requires-2 c κs = omega (arith, ap-room (c .before .before .before .before .before .before .before .before .before .before .before .before .before .before .pre .listed))
 
-sub-wide-2 : tie.Need-sub-wide-2
-sub-wide-2 c = omega (arith, ap-many (c .before .before .before .before .before .before .before .before .before .before .before .before .before .before .before .before .before .pre .listed))
+sub-word-to-length-2 : tie.Need-sub-word-to-length-2
+sub-word-to-length-2 c = omega (arith, ap-many (c .before .before .before .before .before .before .before .before .before .before .before .before .before .before .before .before .before .pre .listed))
 
-wide-requires-2 : tie.Need-wide-requires-2
-wide-requires-2 c κs = search needs
+word-to-length-requires-2 : tie.Need-word-to-length-requires-2
+word-to-length-requires-2 c κs = search needs
 
-sub-wide-3 : tie.Need-sub-wide-3
-sub-wide-3 c = omega (arith, ap-many (c .before .before .before .before .before .before .before .before .before .before .before .before .before .before .before .before .before .before .pre .listed))
+sub-word-to-length-3 : tie.Need-sub-word-to-length-3
+sub-word-to-length-3 c = omega (arith, ap-many (c .before .before .before .before .before .before .before .before .before .before .before .before .before .before .before .before .before .before .pre .listed))
 
-wide-requires-3 : tie.Need-wide-requires-3
-wide-requires-3 c κs = search needs
+word-to-length-requires-3 : tie.Need-word-to-length-requires-3
+word-to-length-requires-3 c κs = search needs
 
 same-length-3 : tie.Need-same-length-3
 same-length-3 c = search needs
@@ -163,7 +163,7 @@ returns-6 c t us h =
     let two = c .before .before .before .before .before .before .before .before .before .before .before .if1 .left in
     let js = c .before .before .before .before .before .before .before .before .words-at2 .ensures (inner-spot h n two) in
     let x = sym (c .before .before .before .before .before .before .before .is-apply .ensures (second-spot h n two js)) ∙ c .before .before .before .before .before .before .if2 .left in
-    in-call h n two _ x (c .before .before .before .before .put32 .ensures) (c .before .before .before .before .before .before .before .before .before .words-at .ensures (head-spot h)) (c .before .wide2 .ensures .0) (c .wide3 .ensures .0)
+    in-call h n two _ x (c .before .before .before .before .put32 .ensures) (c .before .before .before .before .before .before .before .before .before .words-at .ensures (head-spot h)) (c .before .word-to-length2 .ensures .0) (c .word-to-length3 .ensures .0)
 
 pub app-plan-spec : {M : Type 1} → statement M
 app-plan-spec =
@@ -189,17 +189,17 @@ app-plan-spec =
     sort-at-requires
     enum-known-e
     enum-known-u
-    sub-wide
-    wide-requires
+    sub-word-to-length
+    word-to-length-requires
     same-length
     returns-4
     same-length-2
     returns-5
     sub-put3
     put3-requires-2
-    sub-wide-2
-    wide-requires-2
-    sub-wide-3
-    wide-requires-3
+    sub-word-to-length-2
+    word-to-length-requires-2
+    sub-word-to-length-3
+    word-to-length-requires-3
     same-length-3
     returns-6)

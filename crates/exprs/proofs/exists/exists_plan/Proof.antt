@@ -36,8 +36,8 @@ enum-told c = search needs
 returns-2 : tie.Need-returns-2
 returns-2 c s us h = ex-atom h (c .before .before .before .if1 .left) _ (node-other (c .before .before .before .before .before .before .before .before .args .tree .now) (c .before .before .before .before .before .before .before .before .args .at + 6) (c .before .before .node-at .ensures) (c .enum-told .given .1))
 
-wide-requires : tie.Need-wide-requires
-wide-requires c κs = search needs
+word-to-length-requires : tie.Need-word-to-length-requires
+word-to-length-requires c κs = search needs
 
 wrapping-add-u64-requires : tie.Need-wrapping-add-u64-requires
 wrapping-add-u64-requires c κs = search needs
@@ -50,7 +50,7 @@ binder-words-requires c κs =
     let h = c .before .before .before .before .before .before .before .before .before .before .before .before .before .before .before .before .pre .listed in
     let three = c .before .before .before .before .before .before .before .before .before .before .before .if1 .left in
     let n = node-list (c .before .before .before .before .before .before .before .before .before .before .before .before .before .before .before .before .args .tree .now) (c .before .before .before .before .before .before .before .before .before .before .before .before .before .before .before .before .args .at + 6) (c .before .before .before .before .before .before .before .before .before .before .node-at .ensures) (c .before .before .before .before .before .before .before .before .k .given .1) in
-    let row = ex-row h three n (λ i. c .before .before .before .before .before .before .before .before .before .before .before .before .before .before .shared-slice-known2 .given i .fits) (c .before .before .before .before .before .before .wide .ensures .0) (c .before .before .before .put2 .ensures .is) in
+    let row = ex-row h three n (λ i. c .before .before .before .before .before .before .before .before .before .before .before .before .before .before .shared-slice-known2 .given i .fits) (c .before .before .before .before .before .before .word-to-length .ensures .0) (c .before .before .before .put2 .ensures .is) in
     row
 
 enum-known-e : tie.Need-enum-known-e
@@ -67,8 +67,8 @@ add-t29 c =
     let p = vars-spot (c .before .before .before .before .before .before .before .before .before .before .before .before .before .before .before .before .before .before .before .before .before .before .before .pre .listed) (c .before .before .before .before .before .before .before .before .before .before .before .before .before .before .before .before .before .before .if1 .left) in
     omega (arith, spot-within p, c .words-at .ensures p, c .before .before .before .before .before .before .before .before .before .before .before .before .before .before .before .before .before .before .before .before .before .before .before .good)
 
-long-requires : tie.Need-long-requires
-long-requires c κs = search needs
+length-to-long-requires : tie.Need-length-to-long-requires
+length-to-long-requires c κs = search needs
 
 same-length : tie.Need-same-length
 same-length c = search needs
@@ -77,7 +77,7 @@ returns-3 : tie.Need-returns-3
 returns-3 c s us h =
     let three = c .before .before .before .before .before .before .before .before .before .before .before .before .before .before .before .before .before .if1 .left in
     let n = node-list (c .before .before .before .before .before .before .before .before .before .before .before .before .before .before .before .before .before .before .before .before .before .before .args .tree .now) (c .before .before .before .before .before .before .before .before .before .before .before .before .before .before .before .before .before .before .before .before .before .before .args .at + 6) (c .before .before .before .before .before .before .before .before .before .before .before .before .before .before .before .before .node-at .ensures) (c .before .before .before .before .before .before .before .before .before .before .before .before .before .before .k .given .1) in
-    let row = ex-row h three n (λ i. c .before .before .before .before .before .before .before .before .before .before .before .before .before .before .before .before .before .before .before .before .shared-slice-known2 .given i .fits) (c .before .before .before .before .before .before .before .before .before .before .before .before .wide .ensures .0) (c .before .before .before .before .before .before .before .before .before .put2 .ensures .is) in
+    let row = ex-row h three n (λ i. c .before .before .before .before .before .before .before .before .before .before .before .before .before .before .before .before .before .before .before .before .shared-slice-known2 .given i .fits) (c .before .before .before .before .before .before .before .before .before .before .before .before .word-to-length .ensures .0) (c .before .before .before .before .before .before .before .before .before .put2 .ensures .is) in
     let read = c .before .before .before .before .before .binder-words .ensures row (c .before .before .before .before .before .before .before .before .before .before .before .before .before .before .before .before .before .before .before .before .before .before .args .count) (c .before .before .before .before .before .before .before .before .before .before .before .before .before .before .before .before .before .before .before .before .before .before .args .next) (c .before .before .before .before .before .before .before .before .before .before .before .wrapping-add-u64 .ensures) in
     ex-bad h three n _ (bad-at read (c .before .e .given .1))
 
@@ -88,9 +88,9 @@ returns-4 : tie.Need-returns-4
 returns-4 c s us h =
     let three = c .before .before .before .before .before .before .before .before .before .before .before .before .before .before .before .before .before .before .before .if1 .left in
     let n = node-list (c .before .before .before .before .before .before .before .before .before .before .before .before .before .before .before .before .before .before .before .before .before .before .before .before .args .tree .now) (c .before .before .before .before .before .before .before .before .before .before .before .before .before .before .before .before .before .before .before .before .before .before .before .before .args .at + 6) (c .before .before .before .before .before .before .before .before .before .before .before .before .before .before .before .before .before .before .node-at .ensures) (c .before .before .before .before .before .before .before .before .before .before .before .before .before .before .before .before .k .given .1) in
-    let row = ex-row h three n (λ i. c .before .before .before .before .before .before .before .before .before .before .before .before .before .before .before .before .before .before .before .before .before .before .shared-slice-known2 .given i .fits) (c .before .before .before .before .before .before .before .before .before .before .before .before .before .before .wide .ensures .0) (c .before .before .before .before .before .before .before .before .before .before .before .put2 .ensures .is) in
+    let row = ex-row h three n (λ i. c .before .before .before .before .before .before .before .before .before .before .before .before .before .before .before .before .before .before .before .before .before .before .shared-slice-known2 .given i .fits) (c .before .before .before .before .before .before .before .before .before .before .before .before .before .before .word-to-length .ensures .0) (c .before .before .before .before .before .before .before .before .before .before .before .put2 .ensures .is) in
     let read = c .before .before .before .before .before .before .before .binder-words .ensures row (c .before .before .before .before .before .before .before .before .before .before .before .before .before .before .before .before .before .before .before .before .before .before .before .before .args .count) (c .before .before .before .before .before .before .before .before .before .before .before .before .before .before .before .before .before .before .before .before .before .before .before .before .args .next) (c .before .before .before .before .before .before .before .before .before .before .before .before .before .wrapping-add-u64 .ensures) in
-    ex-go h three n _ (c .before .before .before .before .before .before .before .before .before .before .before .put2 .ensures) (got-at read (c .before .before .before .u .given .1)) (c .before .words-at .ensures (vars-spot h three)) (c .long .ensures ∙ c .before .before .before .before .before .before .before .before .before .before .before .before .before .before .wide .ensures .0)
+    ex-go h three n _ (c .before .before .before .before .before .before .before .before .before .before .before .put2 .ensures) (got-at read (c .before .before .before .u .given .1)) (c .before .words-at .ensures (vars-spot h three)) (c .length-to-long .ensures ∙ c .before .before .before .before .before .before .before .before .before .before .before .before .before .before .word-to-length .ensures .0)
 
 pub exists-plan-spec : {M : Type 1} → statement M
 exists-plan-spec =
@@ -105,7 +105,7 @@ exists-plan-spec =
     enum-known-k
     enum-told
     returns-2
-    wide-requires
+    word-to-length-requires
     wrapping-add-u64-requires
     put2-requires
     binder-words-requires
@@ -113,7 +113,7 @@ exists-plan-spec =
     enum-known-u
     words-at-requires
     add-t29
-    long-requires
+    length-to-long-requires
     same-length
     returns-3
     same-length-2

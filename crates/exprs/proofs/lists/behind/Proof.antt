@@ -9,14 +9,14 @@ use Rattle.exprs.proofs.lists.behind.Tie as tie
 add-t5 : tie.Need-add-t5
 add-t5 c = search needs
 
-sub-wide : tie.Need-sub-wide
-sub-wide c = search needs
+sub-word-to-length : tie.Need-sub-word-to-length
+sub-word-to-length c = search needs
 
-wide-requires : tie.Need-wide-requires
-wide-requires c κs = search needs
+word-to-length-requires : tie.Need-word-to-length-requires
+word-to-length-requires c κs = search needs
 
 returns : tie.Need-returns
-returns c = ap (λ k. Go (record { first = c .before .args .at + 6; have = k; want = c .before .args .want; last = 0; plain = false; names = 0; fresh = 0; words = c .before .args .words })) (c .wide .ensures .0)
+returns c = ap (λ k. Go (record { first = c .before .args .at + 6; have = k; want = c .before .args .want; last = 0; plain = false; names = 0; fresh = 0; words = c .before .args .words })) (c .word-to-length .ensures .0)
 
 pub behind-spec : {M : Type 1} → statement M
-behind-spec = tie.close (tie.spec add-t5 sub-wide wide-requires returns)
+behind-spec = tie.close (tie.spec add-t5 sub-word-to-length word-to-length-requires returns)

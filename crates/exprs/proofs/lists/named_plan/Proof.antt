@@ -64,11 +64,11 @@ behind-requires-2 c κs = (omega (arith, head-count (c .before .before .before .
 enum-known-kind-3 : tie.Need-enum-known-kind-3
 enum-known-kind-3 c = search needs
 
-sub-wide : tie.Need-sub-wide
-sub-wide c = omega (arith, head-count (c .before .before .before .before .before .before .before .before .before .before .before .pre .name) (c .before .before .before .before .before .before .before .before .before .before .before .pre .others) (c .before .before .before .before .before .before .before .before .before .before .before .pre .listed))
+sub-word-to-length : tie.Need-sub-word-to-length
+sub-word-to-length c = omega (arith, head-count (c .before .before .before .before .before .before .before .before .before .before .before .pre .name) (c .before .before .before .before .before .before .before .before .before .before .before .pre .others) (c .before .before .before .before .before .before .before .before .before .before .before .pre .listed))
 
-wide-requires : tie.Need-wide-requires
-wide-requires c κs = search needs
+word-to-length-requires : tie.Need-word-to-length-requires
+word-to-length-requires c κs = search needs
 
 sub-put2 : tie.Need-sub-put2
 sub-put2 c = omega (arith, head-count (c .before .before .before .before .before .before .before .before .before .before .before .before .before .pre .name) (c .before .before .before .before .before .before .before .before .before .before .before .before .before .pre .others) (c .before .before .before .before .before .before .before .before .before .before .before .before .before .pre .listed))
@@ -143,7 +143,7 @@ same-length-3 : tie.Need-same-length-3
 same-length-3 c = search needs
 
 returns-3 : tie.Need-returns-3
-returns-3 c s us h = rw (c .behind3 .ensures) (made-many _ _ _ _ _ _ s us h _ _ (subst (FormIs (formOf (c .before .before .before .before .before .before .before .before .before .before .before .before .before .before .before .before .before .args .text .now) s)) (c .before .before .before .before .before .before .before .kind3 .given .1) (form-of (c .before .before .before .before .before .before .before .before .before .before .before .before .before .before .before .before .before .args .text .now) 0 (c .before .before .before .before .before .before .before .before .before .before .before .before .before .before .before .before .before .args .tree .now) (c .before .before .before .before .before .before .before .before .before .before .before .before .before .before .before .before .before .args .at) (c .before .before .before .before .before .before .before .before .before .before .before .before .before .before .before .before .before .args .w) (c .before .before .before .before .before .before .before .before .before .before .before .before .before .before .before .before .before .args .next) s us h (c .before .before .before .before .before .before .before .before .before .form-named .result) (c .before .before .before .before .before .before .before .before .before .before .bytes-at .ensures) (c .before .before .before .before .before .before .before .before .before .form-named .ensures))) (c .before .before .before .before .before .wide .ensures .0) (c .before .before .before .put22 .ensures))
+returns-3 c s us h = rw (c .behind3 .ensures) (made-many _ _ _ _ _ _ s us h _ _ (subst (FormIs (formOf (c .before .before .before .before .before .before .before .before .before .before .before .before .before .before .before .before .before .args .text .now) s)) (c .before .before .before .before .before .before .before .kind3 .given .1) (form-of (c .before .before .before .before .before .before .before .before .before .before .before .before .before .before .before .before .before .args .text .now) 0 (c .before .before .before .before .before .before .before .before .before .before .before .before .before .before .before .before .before .args .tree .now) (c .before .before .before .before .before .before .before .before .before .before .before .before .before .before .before .before .before .args .at) (c .before .before .before .before .before .before .before .before .before .before .before .before .before .before .before .before .before .args .w) (c .before .before .before .before .before .before .before .before .before .before .before .before .before .before .before .before .before .args .next) s us h (c .before .before .before .before .before .before .before .before .before .form-named .result) (c .before .before .before .before .before .before .before .before .before .before .bytes-at .ensures) (c .before .before .before .before .before .before .before .before .before .form-named .ensures))) (c .before .before .before .before .before .word-to-length .ensures .0) (c .before .before .before .put22 .ensures))
 
 returns-4 : tie.Need-returns-4
 returns-4 c s us h = made-cast _ _ _ _ _ _ s us h _ _ (subst (FormIs (formOf (c .before .before .before .before .before .before .before .before .before .before .before .args .text .now) s)) (c .before .enum-told .given .1) (form-of (c .before .before .before .before .before .before .before .before .before .before .before .args .text .now) 0 (c .before .before .before .before .before .before .before .before .before .before .before .args .tree .now) (c .before .before .before .before .before .before .before .before .before .before .before .args .at) (c .before .before .before .before .before .before .before .before .before .before .before .args .w) (c .before .before .before .before .before .before .before .before .before .before .before .args .next) s us h (c .before .before .before .form-named .result) (c .before .before .before .before .bytes-at .ensures) (c .before .before .before .form-named .ensures))) refl refl (c .only .ensures)
@@ -207,8 +207,8 @@ named-plan-spec =
     put2-requires
     behind-requires-2
     enum-known-kind-3
-    sub-wide
-    wide-requires
+    sub-word-to-length
+    word-to-length-requires
     sub-put2
     put2-requires-2
     behind-requires-3

@@ -19,17 +19,17 @@ abbrev μ-loop : tie.MeasureT-loop
 loop-holds : tie.Need-loop-holds Inv-loop μ-loop
 loop-holds c = (omega arith, omega arith)
 
-shared-slice-read-wide : tie.Need-shared-slice-read-wide Inv-loop μ-loop
-shared-slice-read-wide c = omega arith
+shared-slice-read-byte-to-long : tie.Need-shared-slice-read-byte-to-long Inv-loop μ-loop
+shared-slice-read-byte-to-long c = omega arith
 
-wide-requires : tie.Need-wide-requires Inv-loop μ-loop
-wide-requires c κs = tt
+byte-to-long-requires : tie.Need-byte-to-long-requires Inv-loop μ-loop
+byte-to-long-requires c κs = tt
 
 is-digit-requires : tie.Need-is-digit-requires Inv-loop μ-loop
 is-digit-requires c κs = omega arith
 
 returns : tie.Need-returns Inv-loop μ-loop
-returns c = (omega (arith, before-stop noDigit (c .before .before .before .before .before .before .before .args .t .now) (c .before .before .before .before .before .loop .i) (omega arith) (sym (c .if1 .taken) ∙ ap not (c .before .is-digit .ensures) ∙ no-digit _ (c .before .before .before .before .before .loop .i) _ (c .before .before .wide .ensures .0))), omega arith)
+returns c = (omega (arith, before-stop noDigit (c .before .before .before .before .before .before .before .args .t .now) (c .before .before .before .before .before .loop .i) (omega arith) (sym (c .if1 .taken) ∙ ap not (c .before .is-digit .ensures) ∙ no-digit _ (c .before .before .before .before .before .loop .i) _ (c .before .before .byte-to-long .ensures .0))), omega arith)
 
 add-i : tie.Need-add-i Inv-loop μ-loop
 add-i c = omega arith
@@ -38,7 +38,7 @@ loop-less : tie.Need-loop-less Inv-loop μ-loop
 loop-less c = omega arith
 
 loop-again : tie.Need-loop-again Inv-loop μ-loop
-loop-again c = (omega arith, omega (arith, before-more noDigit (c .before .before .before .before .before .before .before .args .t .now) (c .before .before .before .before .before .loop .i) (omega arith) (sym (c .if1 .left) ∙ ap not (c .before .is-digit .ensures) ∙ no-digit _ (c .before .before .before .before .before .loop .i) _ (c .before .before .wide .ensures .0))))
+loop-again c = (omega arith, omega (arith, before-more noDigit (c .before .before .before .before .before .before .before .args .t .now) (c .before .before .before .before .before .loop .i) (omega arith) (sym (c .if1 .left) ∙ ap not (c .before .is-digit .ensures) ∙ no-digit _ (c .before .before .before .before .before .loop .i) _ (c .before .before .byte-to-long .ensures .0))))
 
 returns-2 : tie.Need-returns-2 Inv-loop μ-loop
 returns-2 c = (omega (arith, before-end noDigit (c .before .before .before .args .t .now) (c .before .loop .i) (omega arith)), omega arith)
@@ -50,8 +50,8 @@ leading-digits-spec =
     Inv-loop
     μ-loop
     loop-holds
-    shared-slice-read-wide
-    wide-requires
+    shared-slice-read-byte-to-long
+    byte-to-long-requires
     is-digit-requires
     returns
     add-i

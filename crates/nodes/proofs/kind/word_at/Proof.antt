@@ -6,19 +6,19 @@ use Rattle.nodes.proofs.kind.word_at.Tie as tie
 use Rattle.nodes.proofs.kind.word_at.Reads as reads
 use Rattle.nodes.proofs.kind.word_at.Lts as lts
 
--- src/kind.rt:37:16
+-- src/kind.rt:57:16
 mul-result : tie.Need-mul-result
 mul-result c = search needs
 
--- src/kind.rt:37:16
+-- src/kind.rt:57:16
 shared-slice-read-result : tie.Need-shared-slice-read-result
 shared-slice-read-result c = search needs
 
--- src/kind.rt:37:9
+-- src/kind.rt:57:9
 returns : tie.Need-returns
 returns c = search needs
 
--- src/kind.rt:33:1
+-- src/kind.rt:53:1
 returns-2 : tie.Need-returns-2
 returns-2 c = sym (behind-end (c .before .args .words .now) (c .before .args .at) (c .if1 .left))
 

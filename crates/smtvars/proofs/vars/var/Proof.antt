@@ -12,11 +12,11 @@ use Rattle.smtvars.proofs.vars.var.Tie as tie
 returns : tie.Need-returns
 returns c limit b n e = absurd (omega (arith, binder-read limit _ _ e .starts, c .if1 .taken))
 
-mul-two : tie.Need-mul-two
-mul-two c = search needs
+mul-words-to-long : tie.Need-mul-words-to-long
+mul-words-to-long c = search needs
 
-shared-slice-read-two : tie.Need-shared-slice-read-two
-shared-slice-read-two c = search needs
+shared-slice-read-words-to-long : tie.Need-shared-slice-read-words-to-long
+shared-slice-read-words-to-long c = search needs
 
 add-word-at : tie.Need-add-word-at
 add-word-at c = search needs
@@ -24,8 +24,8 @@ add-word-at c = search needs
 word-at-requires : tie.Need-word-at-requires
 word-at-requires c κs = search needs
 
-two-requires : tie.Need-two-requires
-two-requires c κs = search needs
+words-to-long-requires : tie.Need-words-to-long-requires
+words-to-long-requires c κs = search needs
 
 byte-requires : tie.Need-byte-requires
 byte-requires c κs = search needs
@@ -58,7 +58,7 @@ returns-2 : tie.Need-returns-2
 returns-2 c limit b n e =
     let o = binder-read limit _ _ e in
     let s = c .before .before .before .before .before .before .before .before .before .sort .ensures limit (b .sort) n (o .sorted) in
-    part-told (part-end s (c .before .before .before .before .before .e .given .1)) (put-as (var-pieces _ b (c .before .before .before .before .before .before .before .before .before .before .before .before .before .before .before .before .before .before .before .before .before .before .before .two .ensures ∙ ap (λ (w : ℕ). getD (c .before .before .before .before .before .before .before .before .before .before .before .before .before .before .before .before .before .before .before .before .before .before .before .before .before .before .before .before .before .before .args .words .now) (c .before .before .before .before .before .before .before .before .before .before .before .before .before .before .before .before .before .before .before .before .before .before .before .before .before .before .before .before .before .before .args .at) 0 + w * 2 ^ 32) (c .before .before .before .before .before .before .before .before .before .before .before .before .before .before .before .before .before .before .before .before .before .before .before .before .word-at .ensures) ∙ o .number)) (put-seq (put (c .before .before .before .before .before .before .before .before .before .before .before .before .before .before .before .before .before .before .before .before .before .byte .ensures)) (put-seq (put (c .before .before .before .before .before .before .before .before .before .before .before .before .before .before .before .before .before .fresh .ensures)) (put-seq (put (c .before .before .before .before .before .before .before .before .before .before .before .before .before .byte2 .ensures)) (put-seq (part-put s (c .before .before .before .before .before .e .given .1)) (put (c .before .before .byte3 .ensures)))))))
+    part-told (part-end s (c .before .before .before .before .before .e .given .1)) (put-as (var-pieces _ b (c .before .before .before .before .before .before .before .before .before .before .before .before .before .before .before .before .before .before .before .before .before .before .before .words-to-long .ensures ∙ ap (λ (w : ℕ). getD (c .before .before .before .before .before .before .before .before .before .before .before .before .before .before .before .before .before .before .before .before .before .before .before .before .before .before .before .before .before .before .args .words .now) (c .before .before .before .before .before .before .before .before .before .before .before .before .before .before .before .before .before .before .before .before .before .before .before .before .before .before .before .before .before .before .args .at) 0 + w * 2 ^ 32) (c .before .before .before .before .before .before .before .before .before .before .before .before .before .before .before .before .before .before .before .before .before .before .before .before .word-at .ensures) ∙ o .number)) (put-seq (put (c .before .before .before .before .before .before .before .before .before .before .before .before .before .before .before .before .before .before .before .before .before .byte .ensures)) (put-seq (put (c .before .before .before .before .before .before .before .before .before .before .before .before .before .before .before .before .before .fresh .ensures)) (put-seq (put (c .before .before .before .before .before .before .before .before .before .before .before .before .before .byte2 .ensures)) (put-seq (part-put s (c .before .before .before .before .before .e .given .1)) (put (c .before .before .byte3 .ensures)))))))
 
 same-length-2 : tie.Need-same-length-2
 same-length-2 c = search needs
@@ -67,18 +67,18 @@ returns-3 : tie.Need-returns-3
 returns-3 c limit b n e =
     let o = binder-read limit _ _ e in
     let s = c .before .before .before .before .before .sort .ensures limit (b .sort) n (o .sorted) in
-    gone-told (gone-as (var-pieces _ b (c .before .before .before .before .before .before .before .before .before .before .before .before .before .before .before .before .before .before .before .two .ensures ∙ ap (λ (w : ℕ). getD (c .before .before .before .before .before .before .before .before .before .before .before .before .before .before .before .before .before .before .before .before .before .before .before .before .before .before .args .words .now) (c .before .before .before .before .before .before .before .before .before .before .before .before .before .before .before .before .before .before .before .before .before .before .before .before .before .before .args .at) 0 + w * 2 ^ 32) (c .before .before .before .before .before .before .before .before .before .before .before .before .before .before .before .before .before .before .before .before .word-at .ensures) ∙ o .number)) (gone-behind (put (c .before .before .before .before .before .before .before .before .before .before .before .before .before .before .before .before .before .byte .ensures)) (gone-behind (put (c .before .before .before .before .before .before .before .before .before .before .before .before .before .fresh .ensures)) (gone-behind (put (c .before .before .before .before .before .before .before .before .before .byte2 .ensures)) (gone-first _ (part-gone s (c .before .r .given .1)))))))
+    gone-told (gone-as (var-pieces _ b (c .before .before .before .before .before .before .before .before .before .before .before .before .before .before .before .before .before .before .before .words-to-long .ensures ∙ ap (λ (w : ℕ). getD (c .before .before .before .before .before .before .before .before .before .before .before .before .before .before .before .before .before .before .before .before .before .before .before .before .before .before .args .words .now) (c .before .before .before .before .before .before .before .before .before .before .before .before .before .before .before .before .before .before .before .before .before .before .before .before .before .before .args .at) 0 + w * 2 ^ 32) (c .before .before .before .before .before .before .before .before .before .before .before .before .before .before .before .before .before .before .before .before .word-at .ensures) ∙ o .number)) (gone-behind (put (c .before .before .before .before .before .before .before .before .before .before .before .before .before .before .before .before .before .byte .ensures)) (gone-behind (put (c .before .before .before .before .before .before .before .before .before .before .before .before .before .fresh .ensures)) (gone-behind (put (c .before .before .before .before .before .before .before .before .before .byte2 .ensures)) (gone-first _ (part-gone s (c .before .r .given .1)))))))
 
 pub var-spec : {M : Type 1} → statement M
 var-spec =
     tie.close
     (tie.spec
     returns
-    mul-two
-    shared-slice-read-two
+    mul-words-to-long
+    shared-slice-read-words-to-long
     add-word-at
     word-at-requires
-    two-requires
+    words-to-long-requires
     byte-requires
     fresh-requires
     byte-requires-2

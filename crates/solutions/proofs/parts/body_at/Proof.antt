@@ -8,11 +8,11 @@ use Rattle.solutions.proofs.parts.body_at.Lts as lts
 use Rattle.atoms.proofs.scopes.opened.Reads as opened-reads
 use Rattle.atoms.proofs.scopes.twice.Reads as twice-reads
 use Rattle.exprs.proofs.expr.expr.Reads as expr-reads
-use Rattle.sorts.proofs.number.long.Reads as long-reads
+use Rattle.words.proofs.number.length_to_long.Reads as length-to-long-reads
 
 -- src/draft.rt:67:9
-long-requires : tie.Need-long-requires
-long-requires c κs = search needs
+length-to-long-requires : tie.Need-length-to-long-requires
+length-to-long-requires c κs = search needs
 
 -- src/draft.rt:69:24
 slice-aggregate-opened : tie.Need-slice-aggregate-opened
@@ -28,7 +28,7 @@ slice-aggregate-expr c = search needs
 
 -- src/draft.rt:70:11
 expr-requires : tie.Need-expr-requires
-expr-requires c κs = body-here (c .before .before .before .before .before .before .before .before .before .pre) (c .before .before .before .before .before .long .ensures) _ (omega arith) (c .before .before .before .opened .ensures .0) (c .before .before .before .opened .ensures .1)
+expr-requires c κs = body-here (c .before .before .before .before .before .before .before .before .before .pre) (c .before .before .before .before .before .length-to-long .ensures) _ (omega arith) (c .before .before .before .opened .ensures .0) (c .before .before .before .opened .ensures .1)
 
 -- src/draft.rt:71:27
 enum-known-e : tie.Need-enum-known-e
@@ -48,7 +48,7 @@ same-length c = search needs
 
 -- src/draft.rt:74:17
 returns : tie.Need-returns
-returns c h = body-twice h (c .before .before .before .before .before .before .before .before .before .before .before .before .before .before .long .ensures) (c .before .before .before .before .before .before .before .before .expr .ensures .1 (body-here h (c .before .before .before .before .before .before .before .before .before .before .before .before .before .before .long .ensures) _ (omega arith) (c .before .before .before .before .before .before .before .before .before .before .before .before .opened .ensures .0) (c .before .before .before .before .before .before .before .before .before .before .before .before .opened .ensures .1))) (c .before .before .before .w .given .1) (c .before .twice .ensures (h .params)) (c .if1 .taken)
+returns c h = body-twice h (c .before .before .before .before .before .before .before .before .before .before .before .before .before .before .length-to-long .ensures) (c .before .before .before .before .before .before .before .before .expr .ensures .1 (body-here h (c .before .before .before .before .before .before .before .before .before .before .before .before .before .before .length-to-long .ensures) _ (omega arith) (c .before .before .before .before .before .before .before .before .before .before .before .before .opened .ensures .0) (c .before .before .before .before .before .before .before .before .before .before .before .before .opened .ensures .1))) (c .before .before .before .w .given .1) (c .before .twice .ensures (h .params)) (c .if1 .taken)
 
 -- src/draft.rt:54:1
 same-length-2 : tie.Need-same-length-2
@@ -56,7 +56,7 @@ same-length-2 c = search needs
 
 -- src/draft.rt:54:1
 returns-2 : tie.Need-returns-2
-returns-2 c h = body-refused h (c .before .before .before .before .before .before .before .before .before .before .before .before .long .ensures) (c .before .before .before .before .before .before .expr .ensures .1 (body-here h (c .before .before .before .before .before .before .before .before .before .before .before .before .long .ensures) _ (omega arith) (c .before .before .before .before .before .before .before .before .before .before .opened .ensures .0) (c .before .before .before .before .before .before .before .before .before .before .opened .ensures .1))) (c .before .e .given .1)
+returns-2 c h = body-refused h (c .before .before .before .before .before .before .before .before .before .before .before .before .length-to-long .ensures) (c .before .before .before .before .before .before .expr .ensures .1 (body-here h (c .before .before .before .before .before .before .before .before .before .before .before .before .length-to-long .ensures) _ (omega arith) (c .before .before .before .before .before .before .before .before .before .before .opened .ensures .0) (c .before .before .before .before .before .before .before .before .before .before .opened .ensures .1))) (c .before .e .given .1)
 
 -- src/draft.rt:54:1
 same-length-3 : tie.Need-same-length-3
@@ -64,13 +64,13 @@ same-length-3 c = search needs
 
 -- src/draft.rt:54:1
 returns-3 : tie.Need-returns-3
-returns-3 c h = body-wrote h (c .before .before .before .before .before .before .before .before .before .before .before .before .before .before .long .ensures) (c .before .before .before .before .before .before .before .before .expr .ensures .1 (body-here h (c .before .before .before .before .before .before .before .before .before .before .before .before .before .before .long .ensures) _ (omega arith) (c .before .before .before .before .before .before .before .before .before .before .before .before .opened .ensures .0) (c .before .before .before .before .before .before .before .before .before .before .before .before .opened .ensures .1))) (c .before .before .before .w .given .1) (c .before .twice .ensures (h .params)) (c .if1 .left)
+returns-3 c h = body-wrote h (c .before .before .before .before .before .before .before .before .before .before .before .before .before .before .length-to-long .ensures) (c .before .before .before .before .before .before .before .before .expr .ensures .1 (body-here h (c .before .before .before .before .before .before .before .before .before .before .before .before .before .before .length-to-long .ensures) _ (omega arith) (c .before .before .before .before .before .before .before .before .before .before .before .before .opened .ensures .0) (c .before .before .before .before .before .before .before .before .before .before .before .before .opened .ensures .1))) (c .before .before .before .w .given .1) (c .before .twice .ensures (h .params)) (c .if1 .left)
 
 pub body-at-spec : {M : Type 1} → statement M
 body-at-spec =
     tie.close
     (tie.spec
-    long-requires
+    length-to-long-requires
     slice-aggregate-opened
     opened-requires
     slice-aggregate-expr

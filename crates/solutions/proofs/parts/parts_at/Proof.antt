@@ -16,7 +16,7 @@ use Rattle.atoms.proofs.place.words_at.Reads as words-at-reads
 use Rattle.exprs.proofs.binders.binder_words.Reads as binder-words-reads
 use Rattle.solutions.proofs.parts.all_pairs.Reads as all-pairs-reads
 use Rattle.solutions.proofs.parts.body_at.Reads as body-at-reads
-use Rattle.sorts.proofs.number.wide.Reads as wide-reads
+use Rattle.words.proofs.number.word_to_length.Reads as word-to-length-reads
 
 -- src/draft.rt:86:32
 node-at-requires : tie.Need-node-at-requires
@@ -73,8 +73,8 @@ returns-3 c h =
     params-other h l three js _ (node-other (c .before .before .before .before .before .before .before .before .before .before .before .before .before .args .tree .now) (c .before .before .before .before .before .before .n .given .0 .1 .0 + c .before .before .before .words-at .result) (c .before .before .node-at2 .ensures) (c .enum-told2 .given .1))
 
 -- src/draft.rt:96:9
-wide-requires : tie.Need-wide-requires
-wide-requires c κs = search needs
+word-to-length-requires : tie.Need-word-to-length-requires
+word-to-length-requires c κs = search needs
 
 -- src/draft.rt:97:9
 all-pairs-requires : tie.Need-all-pairs-requires
@@ -83,7 +83,7 @@ all-pairs-requires c κs =
     let three = c .before .before .before .before .before .before .if1 .left in
     let js = c .before .before .before .before .before .words-at .ensures (head-spot (c .before .before .before .before .before .before .before .before .before .before .before .before .before .before .before .pre) l three) in
     let v = node-list (c .before .before .before .before .before .before .before .before .before .before .before .before .before .before .before .args .tree .now) (c .before .before .before .before .before .before .before .before .n .given .0 .1 .0 + c .before .before .before .before .before .words-at .result) (c .before .before .before .before .node-at2 .ensures) (c .before .before .k .given .1) in
-    let ms = c .wide .ensures .0 in
+    let ms = c .word-to-length .ensures .0 in
     pairs-row (c .before .before .before .before .before .before .before .before .before .before .before .before .before .before .before .pre) l three js v ms 0 (omega arith)
 
 -- src/draft.rt:98:9
@@ -93,7 +93,7 @@ returns-4 c h =
     let three = c .before .before .before .before .before .before .before .before .if1 .left in
     let js = c .before .before .before .before .before .before .before .words-at .ensures (head-spot h l three) in
     let v = node-list (c .before .before .before .before .before .before .before .before .before .before .before .before .before .before .before .before .before .args .tree .now) (c .before .before .before .before .before .before .before .before .before .before .n .given .0 .1 .0 + c .before .before .before .before .before .before .before .words-at .result) (c .before .before .before .before .before .before .node-at2 .ensures) (c .before .before .before .before .k .given .1) in
-    let ms = c .before .before .wide .ensures .0 in
+    let ms = c .before .before .word-to-length .ensures .0 in
     let is = c .before .all-pairs .ensures (pairs-row h l three js v ms 0 (omega arith)) in
     pairs-bad h l three js v ms is _ (not-true _ (c .if2 .taken))
 
@@ -108,7 +108,7 @@ binder-words-requires c κs =
     let three = c .before .before .before .before .before .before .before .before .before .before .before .before .before .if1 .left in
     let js = c .before .before .before .before .before .before .before .before .before .before .before .before .words-at .ensures (head-spot (c .before .before .before .before .before .before .before .before .before .before .before .before .before .before .before .before .before .before .before .before .before .before .pre) l three) in
     let v = node-list (c .before .before .before .before .before .before .before .before .before .before .before .before .before .before .before .before .before .before .before .before .before .before .args .tree .now) (c .before .before .before .before .before .before .before .before .before .before .before .before .before .before .before .n .given .0 .1 .0 + c .before .before .before .before .before .before .before .before .before .before .before .before .words-at .result) (c .before .before .before .before .before .before .before .before .before .before .before .node-at2 .ensures) (c .before .before .before .before .before .before .before .before .before .k .given .1) in
-    let ms = c .before .before .before .before .before .before .before .wide .ensures .0 in
+    let ms = c .before .before .before .before .before .before .before .word-to-length .ensures .0 in
     pairs-row (c .before .before .before .before .before .before .before .before .before .before .before .before .before .before .before .before .before .before .before .before .before .before .pre) l three js v ms (c .before .before .before .put1 .result) (omega (arith, c .before .before .before .put1 .ensures .is))
 
 -- src/draft.rt:102:25
@@ -143,7 +143,7 @@ body-at-requires c κs =
     let three = c .before .before .before .before .before .before .before .before .before .before .before .before .before .before .before .before .before .before .before .before .before .if1 .left in
     let js = c .before .before .before .before .before .before .before .before .before .before .before .before .before .before .before .before .before .before .before .before .words-at .ensures (head-spot (c .before .before .before .before .before .before .before .before .before .before .before .before .before .before .before .before .before .before .before .before .before .before .before .before .before .before .before .before .before .before .pre) l three) in
     let v = node-list (c .before .before .before .before .before .before .before .before .before .before .before .before .before .before .before .before .before .before .before .before .before .before .before .before .before .before .before .before .before .before .args .tree .now) (c .before .before .before .before .before .before .before .before .before .before .before .before .before .before .before .before .before .before .before .before .before .before .before .n .given .0 .1 .0 + c .before .before .before .before .before .before .before .before .before .before .before .before .before .before .before .before .before .before .before .before .words-at .result) (c .before .before .before .before .before .before .before .before .before .before .before .before .before .before .before .before .before .before .before .node-at2 .ensures) (c .before .before .before .before .before .before .before .before .before .before .before .before .before .before .before .before .before .k .given .1) in
-    let ms = c .before .before .before .before .before .before .before .before .before .before .before .before .before .before .before .wide .ensures .0 in
+    let ms = c .before .before .before .before .before .before .before .before .before .before .before .before .before .before .before .word-to-length .ensures .0 in
     let is = c .before .before .before .before .before .before .before .before .before .before .before .before .before .before .all-pairs .ensures (pairs-row (c .before .before .before .before .before .before .before .before .before .before .before .before .before .before .before .before .before .before .before .before .before .before .before .before .before .before .before .before .before .before .pre) l three js v ms 0 (omega arith)) in
     let yes = not-false (c .before .before .before .before .before .before .before .before .before .before .before .before .before .before .all-pairs .result) (c .before .before .before .before .before .before .before .before .before .before .before .before .before .if2 .left) in
     let row = pairs-row (c .before .before .before .before .before .before .before .before .before .before .before .before .before .before .before .before .before .before .before .before .before .before .before .before .before .before .before .before .before .before .pre) l three js v ms (c .before .before .before .before .before .before .before .before .before .before .before .put1 .result) (omega (arith, c .before .before .before .before .before .before .before .before .before .before .before .put1 .ensures .is)) in
@@ -161,7 +161,7 @@ returns-5 c h =
     let three = c .before .before .before .before .before .before .before .before .before .before .before .before .before .before .before .before .before .before .before .if1 .left in
     let js = c .before .before .before .before .before .before .before .before .before .before .before .before .before .before .before .before .before .before .words-at .ensures (head-spot h l three) in
     let v = node-list (c .before .before .before .before .before .before .before .before .before .before .before .before .before .before .before .before .before .before .before .before .before .before .before .before .before .before .before .before .args .tree .now) (c .before .before .before .before .before .before .before .before .before .before .before .before .before .before .before .before .before .before .before .before .before .n .given .0 .1 .0 + c .before .before .before .before .before .before .before .before .before .before .before .before .before .before .before .before .before .before .words-at .result) (c .before .before .before .before .before .before .before .before .before .before .before .before .before .before .before .before .before .node-at2 .ensures) (c .before .before .before .before .before .before .before .before .before .before .before .before .before .before .before .k .given .1) in
-    let ms = c .before .before .before .before .before .before .before .before .before .before .before .before .before .wide .ensures .0 in
+    let ms = c .before .before .before .before .before .before .before .before .before .before .before .before .before .word-to-length .ensures .0 in
     let is = c .before .before .before .before .before .before .before .before .before .before .before .before .all-pairs .ensures (pairs-row h l three js v ms 0 (omega arith)) in
     let yes = not-false (c .before .before .before .before .before .before .before .before .before .before .before .before .all-pairs .result) (c .before .before .before .before .before .before .before .before .before .before .before .if2 .left) in
     let row = pairs-row h l three js v ms (c .before .before .before .before .before .before .before .before .before .put1 .result) (omega (arith, c .before .before .before .before .before .before .before .before .before .put1 .ensures .is)) in
@@ -183,7 +183,7 @@ returns-6 c h =
     let three = c .before .before .before .before .before .before .before .before .before .before .before .before .before .before .before .before .before .before .before .before .before .before .before .before .if1 .left in
     let js = c .before .before .before .before .before .before .before .before .before .before .before .before .before .before .before .before .before .before .before .before .before .before .before .words-at .ensures (head-spot h l three) in
     let v = node-list (c .before .before .before .before .before .before .before .before .before .before .before .before .before .before .before .before .before .before .before .before .before .before .before .before .before .before .before .before .before .before .before .before .before .args .tree .now) (c .before .before .before .before .before .before .before .before .before .before .before .before .before .before .before .before .before .before .before .before .before .before .before .before .before .before .n .given .0 .1 .0 + c .before .before .before .before .before .before .before .before .before .before .before .before .before .before .before .before .before .before .before .before .before .before .before .words-at .result) (c .before .before .before .before .before .before .before .before .before .before .before .before .before .before .before .before .before .before .before .before .before .before .node-at2 .ensures) (c .before .before .before .before .before .before .before .before .before .before .before .before .before .before .before .before .before .before .before .before .k .given .1) in
-    let ms = c .before .before .before .before .before .before .before .before .before .before .before .before .before .before .before .before .before .before .wide .ensures .0 in
+    let ms = c .before .before .before .before .before .before .before .before .before .before .before .before .before .before .before .before .before .before .word-to-length .ensures .0 in
     let is = c .before .before .before .before .before .before .before .before .before .before .before .before .before .before .before .before .before .all-pairs .ensures (pairs-row h l three js v ms 0 (omega arith)) in
     let yes = not-false (c .before .before .before .before .before .before .before .before .before .before .before .before .before .before .before .before .before .all-pairs .result) (c .before .before .before .before .before .before .before .before .before .before .before .before .before .before .before .before .if2 .left) in
     let row = pairs-row h l three js v ms (c .before .before .before .before .before .before .before .before .before .before .before .before .before .before .put1 .result) (omega (arith, c .before .before .before .before .before .before .before .before .before .before .before .before .before .before .put1 .ensures .is)) in
@@ -207,7 +207,7 @@ parts-at-spec =
     enum-known-k
     enum-told-2
     returns-3
-    wide-requires
+    word-to-length-requires
     all-pairs-requires
     returns-4
     put1-requires

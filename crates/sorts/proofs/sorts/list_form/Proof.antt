@@ -1,6 +1,6 @@
 use mathlib.Core.Path.{_∙_}
 use native.Mathlib.Omega.{arith}
-use Rattle.grammar.proofs.TreeHead.{list-first, list-none, list-three}
+use Rattle.reading.proofs.TreeHead.{list-first, list-none, list-three}
 use Rattle.sorts.proofs.ListForms.{form-none, form-bad, first-long, form-symbol}
 use borrow.Author.Needs.{needs}
 use Rattle.sorts.proofs.sorts.list_form.Statement.{statement}

@@ -15,12 +15,12 @@ use Rattle.sorts.proofs.sorts.+each_sort+func_sort+list_sort+sort.Lts-l
 use Rattle.sorts.proofs.sorts.sort.Reads as sort
 use Rattle.sorts.proofs.sorts.sort.Kinds as sort-kinds
 use Rattle.sorts.proofs.sorts.+each_sort+func_sort+list_sort+sort.Lts-sort as sort-lts
-use Rattle.sorts.proofs.number.fewer.Reads as fewer-reads
-use Rattle.sorts.proofs.number.least.Reads as least-reads
+use Rattle.words.proofs.number.fewer.Reads as fewer-reads
+use Rattle.words.proofs.number.least.Reads as least-reads
 use Rattle.sorts.proofs.sort_words.put_abs.Reads as put-abs-reads
 use Rattle.sorts.proofs.sort_words.put_mark.Reads as put-mark-reads
 use Rattle.sorts.proofs.sort_words.put_row.Reads as put-row-reads
-use Rattle.sorts.proofs.tree.node_words.Reads as node-words-reads
+use Rattle.words.proofs.tree.node_words.Reads as node-words-reads
 use Rattle.sorts.proofs.sorts.func_number.Reads as func-number-reads
 use Rattle.sorts.proofs.sorts.list_form.Reads as list-form-reads
 use Rattle.sorts.proofs.sorts.row_end.Reads as row-end-reads

@@ -13,7 +13,7 @@ use Rattle.sorts.specs.Outcome.{refused}
 use Rattle.sorts.proofs.Outcomes.{out-still, out-lent}
 use Rattle.sorts.proofs.RowWords.{abs-length}
 use Rattle.sorts.proofs.RowLoop.{row-bound}
-use Rattle.grammar.proofs.TreeHead.{three-trees}
+use Rattle.reading.proofs.TreeHead.{three-trees}
 use Rattle.sorts.proofs.FuncShape.{Shape, snocTree, wideAt, no-number, no-inputs, func-shape, func-outside, func-row, arity-most}
 use Rattle.sorts.proofs.sorts.+each_sort+func_sort+list_sort+sort.Proof.Claims.{func-sort-claims, func-sort-at}
 use Rattle.sorts.proofs.sorts.func_sort.Reads.{Post}

@@ -7,7 +7,8 @@ use borrow.Author.Needs.{needs}
 use Rattle.reading.specs.Tree.{treeWords}
 use Rattle.grammar.specs.ParseSort.{parseSort, atomSort, symbolIn, view}
 use Rattle.sorts.specs.Outcome.{refused}
-use Rattle.grammar.proofs.TreeHead.{alone, head-two, is-symbol, is-list, size-symbol, no-sort}
+use Rattle.reading.proofs.TreeHead.{alone, head-two, is-symbol, is-list, size-symbol}
+use Rattle.grammar.proofs.TreeHead.{no-sort}
 use Rattle.sorts.proofs.sorts.+each_sort+func_sort+list_sort+sort.Proof.Claims.{sort-claims, sort-at}
 use Rattle.sorts.proofs.sorts.sort.Reads.{Post}
 use Rattle.sorts.proofs.sorts.+each_sort+func_sort+list_sort+sort.Lts-sort as lts

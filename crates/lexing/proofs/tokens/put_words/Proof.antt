@@ -2,8 +2,8 @@ use mathlib.Core.Path.{_≡_}
 use native.Mathlib.Omega.{arith}
 use native.Mathlib.Numerals.{add-one, add-two, add-three, add-four}
 use borrow.Author.Needs.{needs}
-use Rattle.lexing.proofs.words.put_words.Statement.{statement}
-use Rattle.lexing.proofs.words.put_words.Tie as tie
+use Rattle.lexing.proofs.tokens.put_words.Statement.{statement}
+use Rattle.lexing.proofs.tokens.put_words.Tie as tie
 
 put-requires : tie.Need-put-requires
 put-requires c κs = search needs

@@ -1,8 +1,8 @@
 use mathlib.Core.Path.{sym}
 use lib.Seq.{set-out}
 use borrow.Author.Needs.{needs}
-use Rattle.lexing.proofs.words.put.Statement.{statement}
-use Rattle.lexing.proofs.words.put.Tie as tie
+use Rattle.words.proofs.output.put.Statement.{statement}
+use Rattle.words.proofs.output.put.Tie as tie
 
 mul-out : tie.Need-mul-out
 mul-out c = search needs

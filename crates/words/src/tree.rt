@@ -4,19 +4,11 @@ ghost use mathlib.Core.List.{List, _++_};
 ghost use Prim.Native.Nat.{ℕ};
 ghost use lib.ListN.{length};
 ghost use Rattle.reading.specs.Tree.{Tree, treeWords};
-ghost use Rattle.sorts.specs.Outcome.{Begins};
-use crate::number::wide;
-
-// The kinds of trees that are told apart.
-pub const SYMBOL: u32 = 16;
-
-pub const QUOTED: u32 = 17;
-
-pub const INTEGER: u32 = 18;
-
-pub const BOOLEAN: u32 = 20;
-
-pub const LIST: u32 = 21;
+ghost use Rattle.words.specs.Begins.{Begins};
+use crate::number::word_to_length;
+use crate::tree_kinds::BOOLEAN;
+use crate::tree_kinds::INTEGER;
+use crate::tree_kinds::LIST;
 
 // How many words the first tree has.
 pub fn node_words(items: &[u32]) -> usize
@@ -25,7 +17,7 @@ pub fn node_words(items: &[u32]) -> usize
 {
     let kind = items[0];
     if kind == LIST {
-        return wide(items[2]) + 3;
+        return word_to_length(items[2]) + 3;
     }
     if kind == INTEGER {
         return 5;

@@ -3,8 +3,8 @@ use mathlib.Core.Path.{refl}
 use native.Mathlib.Omega.{arith}
 use lib.ListN.{length}
 use Rattle.reading.proofs.Zeros.{Cleared, clear-more, clear-all}
-use Rattle.lexing.proofs.words.clear.Statement.{statement}
-use Rattle.lexing.proofs.words.clear.Tie as tie
+use Rattle.words.proofs.output.clear.Statement.{statement}
+use Rattle.words.proofs.output.clear.Tie as tie
 
 abbrev Inv-loop : tie.InvT-loop
 Inv-loop out₀ i₀ out i = Cleared out₀ out i
