@@ -17,26 +17,25 @@ use Rattle.grammar.specs.Scope.{varOf}
 use Rattle.grammar.specs.ParseExpr.{child}
 use Rattle.grammar.specs.ParseBind.{parseBind}
 use Rattle.grammar.specs.Written.{toldOf, ahead}
-use Rattle.atoms.specs.Spot.{Spot, Small}
-use Rattle.atoms.specs.Outcome.{bound, Put}
-use Rattle.exprs.specs.Plans.{Parsed, refused}
-use Rattle.exprs.specs.Whole.{Whole}
+use Rattle.places.specs.Spot.{Spot, Small}
+use Rattle.places.specs.Outcome.{bound, Put}
+use Rattle.plans.specs.Plans.{Parsed, refused}
+use Rattle.plans.specs.Whole.{Whole}
 use Rattle.binds.specs.PredWords.{PredHere, countedPreds}
-use Rattle.exprs.specs.declared.expr.Progress.{Progress}
-use Rattle.exprs.specs.declared.expr.Progress.the-variants.{Refused}
+use Rattle.plans.specs.declared.progress.Progress.{Progress}
+use Rattle.plans.specs.declared.progress.Progress.the-variants.{Refused}
 use Rattle.grammar.proofs.Items.{words-front}
 use Rattle.grammar.proofs.Raise.{raise-front}
-use Rattle.atoms.proofs.Puts.{put-append}
-use Rattle.exprs.proofs.Laid.{out-ahead}
-use Rattle.exprs.proofs.Steps.{More, some}
-use Rattle.exprs.proofs.Steps as Steps
-use Rattle.atoms.proofs.SortPlace.{GotAt, BadAt, sort-short}
+use Rattle.places.proofs.Puts.{put-append}
+use Rattle.plans.proofs.Laid.{out-ahead}
+use Rattle.places.proofs.FirstTree.{More, some, none-left}
+use Rattle.places.proofs.SortPlace.{GotAt, BadAt, sort-short}
 use Rattle.binds.proofs.ListHead.{the-list, list-trees, the-items, whole-is, head-spot, others-words}
 use Rattle.binds.proofs.PredNames.{symbol-here, symbol-three}
 use Rattle.grammar.proofs.TreeHead.{no-list, no-symbol}
 use Rattle.reading.proofs.TreeHead.{alone}
-use Rattle.atoms.proofs.Places.Spots.{word0}
-use Rattle.atoms.proofs.Places.Inside.{ListNode, first-there, trees-size}
+use Rattle.places.proofs.Spots.{word0}
+use Rattle.places.proofs.Inside.{ListNode, first-there, trees-size}
 
 -- ---- what a tree is as a bind
 
@@ -125,7 +124,7 @@ module _ {text ws : List ℕ} (h : Whole text ws) where
     pub bind-none : (count : ℕ) {o o′ : List ℕ} → k ≡ 0 → Said count o o′ (Refused 8)
     bind-none count z =
         said-no count malformed
-        (ap (λ (t : Tree). parseBind text t 0) (the-list whole-spot n .is ∙ ap list (Steps.none (the-list whole-spot n .items) (sym (list-trees whole-spot n) ∙ z))) ∙ parse-none text 0)
+        (ap (λ (t : Tree). parseBind text t 0) (the-list whole-spot n .is ∙ ap list (none-left (the-list whole-spot n .items) (sym (list-trees whole-spot n) ∙ z))) ∙ parse-none text 0)
         8
         refl
 
@@ -223,7 +222,7 @@ module _ {text ws : List ℕ} (h : Whole text ws) where
               pub bind-one : (count : ℕ) {o o′ : List ℕ} → k < 2 → Said count o o′ (Refused 8)
               bind-one count l =
                   said-no count malformed
-                  (ap (λ (t : Tree). parseBind text t 0) named-is ∙ parse-one text 0 name (the-sort .first) (the-sort .others) others (q .is) (Steps.none others (omega (arith, list-trees whole-spot n, others-many))))
+                  (ap (λ (t : Tree). parseBind text t 0) named-is ∙ parse-one text 0 name (the-sort .first) (the-sort .others) others (q .is) (none-left others (omega (arith, list-trees whole-spot n, others-many))))
                   8
                   refl
 

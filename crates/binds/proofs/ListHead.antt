@@ -5,10 +5,10 @@ use mathlib.Core.List.{List, _++_}
 use native.Mathlib.Omega.{arith}
 use lib.ListN.{length, drop}
 use Rattle.reading.specs.Tree.{Tree, list, tcons, trees, treeWords, treesWords}
-use Rattle.atoms.specs.Spot.{Spot}
-use Rattle.exprs.proofs.Steps.{More, some}
-use Rattle.atoms.proofs.Places.Spots.{IsList, as-list}
-use Rattle.atoms.proofs.Places.Inside.{ListNode, items-there, first-there, others-there}
+use Rattle.places.specs.Spot.{Spot}
+use Rattle.places.proofs.FirstTree.{More, some}
+use Rattle.places.proofs.Spots.{IsList, as-list}
+use Rattle.places.proofs.Inside.{ListNode, items-there, first-there, others-there}
 
 module _ {ws : List ℕ} {at : ℕ} (p : Spot ws at) {k f : ℕ} (n : ListNode ws at k f) where
   pub the-list : IsList ws at (p .tree)

@@ -13,19 +13,19 @@ use Rattle.grammar.specs.Item.{raise, wordsOf}
 use Rattle.grammar.specs.Expr.{Pred, predItems, predsItems}
 use Rattle.grammar.specs.ParseExpr.{child, children, eachPred}
 use Rattle.grammar.specs.Written.{toldOf}
-use Rattle.atoms.specs.Spot.{Spot}
+use Rattle.places.specs.Spot.{Spot}
 use Rattle.writing.specs.Laid.{laid}
-use Rattle.atoms.specs.Outcome.{bound}
-use Rattle.exprs.specs.Plans.{Wrote, Parsed, wrote, refused}
+use Rattle.places.specs.Outcome.{bound}
+use Rattle.plans.specs.Plans.{Wrote, Parsed, wrote, refused}
 use Rattle.binds.specs.PredWords.{PredHere, ReadPred, IsAnd, Stepped, stepRead, stepInto, stepRefused, countedPreds}
-use Rattle.exprs.specs.declared.expr.Progress.the-variants.{Done, Refused}
+use Rattle.plans.specs.declared.progress.Progress.the-variants.{Done, Refused}
 use Rattle.binds.specs.declared.preds.Step.{Step}
 use Rattle.binds.specs.declared.preds.Step.the-variants as step
-use Rattle.exprs.proofs.Steps.{More}
+use Rattle.places.proofs.FirstTree.{More}
 use Rattle.grammar.proofs.FormsWritten.{raised-append}
 use Rattle.writing.proofs.Laid.{laid-append}
 use Rattle.reading.proofs.TreeHead.{tree-two, no-trees}
-use Rattle.atoms.proofs.Places.Inside.{items-there, first-there, others-there, trees-size}
+use Rattle.places.proofs.Inside.{items-there, first-there, others-there, trees-size}
 
 -- ---- trees in front of trees
 

@@ -16,23 +16,22 @@ use Rattle.grammar.specs.Item.{raise, wordsOf}
 use Rattle.grammar.specs.Expr.{VarName, Pred, kvar, nameItems, predItems}
 use Rattle.grammar.specs.Scope.{varOf}
 use Rattle.grammar.specs.ParseExpr.{child, children, symbols, kvarForm, atomChild}
-use Rattle.atoms.specs.Spot.{Spot}
+use Rattle.places.specs.Spot.{Spot}
 use Rattle.writing.specs.Laid.{laid}
-use Rattle.atoms.specs.Outcome.{bound, Put, OutcomeAt, wroteAt, refusedAt}
+use Rattle.places.specs.Outcome.{bound, Put, OutcomeAt, wroteAt, refusedAt}
 use Rattle.binds.specs.PredWords.{KvarHere, ReadPred, Stepped, stepRead, stepRefused, NameRow, namesWords}
 use Rattle.words.specs.declared.Answer.{Answer}
 use Rattle.words.specs.declared.Answer.the-variants.{Done, Refused}
 use Rattle.binds.specs.declared.preds.Step.the-variants as step
 use Rattle.grammar.proofs.Post.{Every, any-every, then-every}
 use Rattle.grammar.proofs.FormsWritten.{children-count}
-use Rattle.exprs.proofs.Steps.{More, some}
-use Rattle.exprs.proofs.Steps as Steps
-use Rattle.atoms.proofs.SortPlace.{GotAt, BadAt, every-got}
-use Rattle.atoms.proofs.Puts.{put-append}
+use Rattle.places.proofs.FirstTree.{More, some, none-left}
+use Rattle.places.proofs.SortPlace.{GotAt, BadAt, every-got}
+use Rattle.places.proofs.Puts.{put-append}
 use Rattle.grammar.proofs.TreeHead.{no-symbol}
 use Rattle.reading.proofs.TreeHead.{is-symbol, tree-two}
-use Rattle.atoms.proofs.Places.Spots.{word, word0, spot-within}
-use Rattle.atoms.proofs.Places.Inside.{list-spot, list-many, items-there, first-there, others-there, trees-size, child-tree}
+use Rattle.places.proofs.Spots.{word, word0, spot-within}
+use Rattle.places.proofs.Inside.{list-spot, list-many, items-there, first-there, others-there, trees-size, child-tree}
 
 -- ---- a symbol
 
@@ -119,7 +118,7 @@ module _ {text ws : List ℕ} {at n w : ℕ} {h : NameRow ws at n w} {o : List �
     pub naming-end : n ≤ i → OutcomeAt namesWords (symbols (children text (h .items))) w o m (Done v)
     unfolding symbols child nameItems wordsOf laid
     naming-end e =
-        let z : g .items ≡ tnil = Steps.none (g .items) (omega (arith, g .many)) in
+        let z : g .items ≡ tnil = none-left (g .items) (omega (arith, g .many)) in
         let y : OutcomeAt namesWords (symbols (children text tnil)) v m m (Done v) = wroteAt (ap Done (sym (add-zero v))) refl in
         g .goes m (Done v) (rw z y)
 

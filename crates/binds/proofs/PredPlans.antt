@@ -15,24 +15,24 @@ use Rattle.grammar.specs.Expr.{Expr, Pred, expr, predItems}
 use Rattle.grammar.specs.ParseExpr
 use Rattle.grammar.specs.ParseExpr.{child, children, childAt, eachPred, kvarForm, exprPred, atomChild}
 use Rattle.grammar.specs.Written.{exprWords, told}
-use Rattle.atoms.specs.Spot.{Seen}
-use Rattle.atoms.specs.Scopes.{slots}
+use Rattle.places.specs.Spot.{Seen}
+use Rattle.scopes.specs.Scopes.{slots}
 use Rattle.writing.specs.Laid.{laid}
-use Rattle.atoms.specs.Outcome.{bound, Put}
-use Rattle.exprs.specs.Plans.{Parsed, wrote, refused, Here, most}
+use Rattle.places.specs.Outcome.{bound, Put}
+use Rattle.plans.specs.Plans.{Parsed, wrote, refused, Here, most}
 use Rattle.binds.specs.PredWords.{PredHere, KvarHere, ReadPred, Stepped, stepRead, stepInto, stepRefused}
-use Rattle.exprs.specs.declared.expr.Progress.{Progress}
-use Rattle.exprs.specs.declared.expr.Progress.the-variants.{Done, Refused}
+use Rattle.plans.specs.declared.progress.Progress.{Progress}
+use Rattle.plans.specs.declared.progress.Progress.the-variants.{Done, Refused}
 use Rattle.binds.specs.declared.preds.Step.{Step}
 use Rattle.binds.specs.declared.preds.Step.the-variants as step
-use Rattle.exprs.proofs.Steps as Steps
-use Rattle.atoms.proofs.Puts.{put-append}
-use Rattle.exprs.proofs.Laid.{never, same-words, same-next}
+use Rattle.places.proofs.FirstTree.{none-left}
+use Rattle.places.proofs.Puts.{put-append}
+use Rattle.plans.proofs.Laid.{never, same-words, same-next}
 use Rattle.binds.proofs.ListHead.{the-list, list-trees, the-items, whole-is, head-spot}
 use Rattle.binds.proofs.PredNames.{symbol-here}
 use Rattle.reading.proofs.TreeHead.{tree-two}
-use Rattle.atoms.proofs.Places.Spots.{word0, spot-within}
-use Rattle.atoms.proofs.Places.Inside.{ListNode}
+use Rattle.places.proofs.Spots.{word0, spot-within}
+use Rattle.places.proofs.Inside.{ListNode}
 
 -- ---- what a tree is as a predicate
 
@@ -85,7 +85,7 @@ module _ {text ws : List ℕ} {at w next : ℕ} (h : PredHere text ws at w next)
     pub pred-none : (count : ℕ) {o o′ : List ℕ} → k ≡ 0 → Stepped text count (h .spot .tree) at w next o o′ (step.Refused 8)
     pred-none count z =
         stepRefused {e = malformed}
-        (ap (λ (t : Tree). child text t .preds next) (the-list (h .spot) n .is ∙ ap list (Steps.none (the-list (h .spot) n .items) (sym (list-trees (h .spot) n) ∙ z))) ∙ none-pred text next)
+        (ap (λ (t : Tree). child text t .preds next) (the-list (h .spot) n .is ∙ ap list (none-left (the-list (h .spot) n .items) (sym (list-trees (h .spot) n) ∙ z))) ∙ none-pred text next)
         refl
 
     module _ (z : k ≡ 0 → ⊥) where

@@ -10,9 +10,9 @@ use Rattle.reading.specs.Answer.{Refusal, number, ok, no}
 use Rattle.grammar.specs.Item.{Item, plain, raise, wordsOf}
 use Rattle.grammar.specs.Expr.{VarName, Pred, predItems, predsItems, nameItems}
 use Rattle.grammar.specs.ParseExpr.{child, children, eachPred, kvarForm}
-use Rattle.atoms.specs.Spot.{Spot}
+use Rattle.places.specs.Spot.{Spot}
 use Rattle.writing.specs.Laid.{laid}
-use Rattle.atoms.specs.Outcome.{bound}
+use Rattle.places.specs.Outcome.{bound}
 use Rattle.binds.specs.declared.preds.Step.{Step}
 use Rattle.binds.specs.declared.preds.Step.the-variants.{On, Refused}
 

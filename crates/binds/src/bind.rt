@@ -2,16 +2,16 @@
 ghost use Rattle.grammar.specs.Expr.{bindItems};
 ghost use Rattle.grammar.specs.ParseBind.{parseBind};
 ghost use Rattle.grammar.specs.Written.{toldOf};
-ghost use Rattle.atoms.specs.Outcome.{bound};
-ghost use Rattle.exprs.specs.Plans.{Parsed};
-ghost use Rattle.exprs.specs.Whole.{Whole};
+ghost use Rattle.places.specs.Outcome.{bound};
+ghost use Rattle.plans.specs.Plans.{Parsed};
+ghost use Rattle.plans.specs.Whole.{Whole};
 use crate::preds::preds;
-use atoms::expr_words::put2;
-use atoms::place::Node;
-use atoms::place::node_at;
-use atoms::place::words_at;
-use atoms::sort_at::sort_at;
-use exprs::expr::Progress;
+use places::expr_words::put2;
+use places::place::Node;
+use places::place::node_at;
+use places::place::words_at;
+use places::sort_at::sort_at;
+use plans::progress::Progress;
 use words::Answer;
 use words::tree_kinds::SYMBOL;
 

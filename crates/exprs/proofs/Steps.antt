@@ -17,17 +17,18 @@ use Rattle.reading.specs.Tree.{Tree, Trees, tnil, tcons, trees, treeWords, tree
 use Rattle.grammar.specs.Scope.{Scope, repeated}
 use Rattle.grammar.specs.ParseExpr.{child}
 use Rattle.grammar.specs.Written.{W, told, operandsW, endW, Last, noLast, seenLast, plainLast}
-use Rattle.atoms.specs.Spot.{Spot, Seen}
-use Rattle.atoms.specs.Scopes.{Opened, Kept, pushed, deeper, inner}
+use Rattle.places.specs.Spot.{Spot, Seen}
+use Rattle.scopes.specs.Scopes.{Opened, Kept, pushed, deeper, inner}
 use Rattle.writing.specs.Laid.{laid}
-use Rattle.exprs.specs.Plans.{Parsed, refused, Here, Row, Running, Planned, EndsAt, EndSpot, endSize, endNesting, factor, most}
-use Rattle.exprs.specs.declared.expr.Progress.{Progress}
-use Rattle.exprs.specs.declared.expr.Progress.the-variants.{Done, Refused}
-use Rattle.exprs.specs.declared.plan.Plan.{Plan}
-use Rattle.exprs.specs.declared.plan.Plan.the-variants.{Stop, Leaf, Go}
-use Rattle.exprs.specs.declared.plan.Run.{Run}
-use Rattle.atoms.proofs.Places.Entries.{kept-then, kept-fewer, opened-kept, pushed-kept, pushed-length, pushed-opened, deeper-least, deeper-most}
-use Rattle.exprs.proofs.Laid.{out-after, out-no, out-room, out-wider, out-empty}
+use Rattle.plans.specs.Plans.{Parsed, refused, Here, Row, Running, Planned, EndsAt, EndSpot, endSize, endNesting, factor, most}
+use Rattle.plans.specs.declared.progress.Progress.{Progress}
+use Rattle.plans.specs.declared.progress.Progress.the-variants.{Done, Refused}
+use Rattle.plans.specs.declared.plan.Plan.{Plan}
+use Rattle.plans.specs.declared.plan.Plan.the-variants.{Stop, Leaf, Go}
+use Rattle.plans.specs.declared.plan.Run.{Run}
+use Rattle.scopes.proofs.Frame.{kept-then, kept-fewer, opened-kept, pushed-kept, pushed-length, pushed-opened, deeper-least, deeper-most}
+use Rattle.places.proofs.FirstTree.{More, some, none-left}
+use Rattle.plans.proofs.Laid.{out-after, out-no, out-room, out-wider, out-empty}
 
 -- ---- one tree more
 
@@ -147,21 +148,6 @@ module _ (text : List ℕ) (count : ℕ) (ws : List ℕ) (at : ℕ) (es : List �
 
 -- ---- some operands
 
-pub record More (ts : Trees) : Type 0 where
-  pub first : Tree
-  pub others : Trees
-  pub is : ts ≡ tcons first others
-
-pub some : (ts : Trees) → 0 < trees ts → More ts
-unfolding trees
-some tnil h = absurd (omega arith)
-some (tcons t ts) h = record { first = t; others = ts; is = refl }
-
-pub none : (ts : Trees) → trees ts ≡ 0 → ts ≡ tnil
-unfolding trees
-none tnil h = refl
-none (tcons t ts) h = absurd (omega arith)
-
 pub record Going (text : List ℕ) (count : ℕ) (ws : List ℕ) (at have want : ℕ) (es : List ℕ) (d w next : ℕ) (h : Row text ws at have es d w next) (o m : List ℕ) (i p n v : ℕ) : Type 0 where
   pub items : Trees
   pub words : drop p ws ≡ treesWords items ++ h .rest
@@ -203,7 +189,7 @@ module _ (text : List ℕ) (count : ℕ) (ws : List ℕ) (at have want : ℕ) (e
     unfolding operandsW
     progress-short l e =
         let z : want - i ≡ suc (want - (i + 1)) = omega arith in
-        g .goes m (Refused 8) (rw (z, none (g .items) (omega (arith, g .many))) (refused refl))
+        g .goes m (Refused 8) (rw (z, none-left (g .items) (omega (arith, g .many))) (refused refl))
 
     module _ (l : i < want) (e : i < have) where
       pub next-tree : More (g .items)

@@ -4,23 +4,18 @@ ghost use lib.ListN.{length};
 ghost use Rattle.reading.specs.Tree.{treesWords};
 ghost use Rattle.grammar.specs.ParseExpr.{child};
 ghost use Rattle.grammar.specs.Written.{told, operandsW};
-ghost use Rattle.atoms.specs.Scopes.{Kept};
-ghost use Rattle.exprs.specs.Plans.{Parsed, Here, Row, factor, most};
-use crate::plan::Plan;
-use crate::plan::Run;
-use crate::plan::planned;
-use atoms::place::reach;
-use atoms::place::through;
-use atoms::place::words_at;
-use atoms::scopes::opened;
-use atoms::scopes::twice;
+ghost use Rattle.scopes.specs.Scopes.{Kept};
+ghost use Rattle.plans.specs.Plans.{Parsed, Here, Row, factor, most};
+use places::place::reach;
+use places::place::through;
+use places::place::words_at;
+use plans::plan::Plan;
+use plans::plan::Run;
+use plans::plan::planned;
+use plans::progress::Progress;
+use scopes::entries::opened;
+use scopes::entries::twice;
 use words::number::long_to_length;
-
-// The place behind the words written and the next fresh number, or a refusal.
-pub enum Progress {
-    Done(usize, u64),
-    Refused(u32),
-}
 
 // The expression at a place of the tree, its words from w on. Fresh numbers are counted from the call's first one; the reader's count is
 // added where words are written.

@@ -7,15 +7,15 @@ ghost use Rattle.flatten.specs.Operations.{exprWords, flattenFinal, flat
 ghost use Rattle.flatten.specs.Answers.{flattenAnswer, solutionAnswer};
 use crate::write::flat;
 use judge::expr_words::End;
-use words::limits::MAX_NODES;
 use judge::expr_words::NO_TEXT;
 use judge::expr_words::judge;
-use words::output::clear;
 use parse::Counted;
 use parse::Drafted;
 use parse::ending::close;
 use parse::solution::solution_draft;
 use words::Answer;
+use words::limits::MAX_NODES;
+use words::output::clear;
 
 // The flattened words; the output is not cleared yet.
 fn attempt(words: &[u32], out: &mut [u32]) -> Answer

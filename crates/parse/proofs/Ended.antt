@@ -20,14 +20,14 @@ use Rattle.grammar.specs.ParseBind.{parseBind}
 use Rattle.grammar.specs.Written.{toldOf}
 use Rattle.grammar.specs.Operations.{theTree, makeExpr, exprFinal, makeBind, bindFinal}
 use Rattle.writing.specs.Laid.{laid}
-use Rattle.atoms.specs.Scopes.{slots}
-use Rattle.exprs.specs.Plans.{Parsed, wrote, refused, Here}
-use Rattle.exprs.specs.Whole.{Whole}
+use Rattle.scopes.specs.Scopes.{slots}
+use Rattle.plans.specs.Plans.{Parsed, wrote, refused, Here}
+use Rattle.plans.specs.Whole.{Whole}
 use Rattle.grammar.specs.Item.{raisedWords}
 use Rattle.parse.specs.Answers.{Laid, AttemptedAt, countedBy, finishedBy, closedBy}
 use Rattle.parse.specs.declared.Counted.{Counted}
 use Rattle.parse.specs.declared.Counted.the-variants.{Done, Refused}
-use Rattle.exprs.specs.declared.expr.Progress.{Progress}
+use Rattle.plans.specs.declared.progress.Progress.{Progress}
 use Rattle.grammar.proofs.Raise.{words-raise}
 use Rattle.writing.proofs.Laid.{over-start}
 use Rattle.parse.specs.TreeOf.{TreeIn, NoTree}

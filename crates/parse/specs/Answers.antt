@@ -16,8 +16,8 @@ use Rattle.parse.specs.declared.Counted.{Counted}
 use Rattle.parse.specs.declared.Counted.the-variants as counted
 use Rattle.parse.specs.declared.Drafted.{Drafted}
 use Rattle.parse.specs.declared.Drafted.the-variants as drafted
-use Rattle.exprs.specs.declared.expr.Progress.{Progress}
-use Rattle.exprs.specs.declared.expr.Progress.the-variants as progress
+use Rattle.plans.specs.declared.progress.Progress.{Progress}
+use Rattle.plans.specs.declared.progress.Progress.the-variants as progress
 
 -- How many words a value has, or the refusal's number.
 abbrev pub saidBy : {A : Type 0} → (A → List ℕ) → Final A → Answer

@@ -3,7 +3,7 @@ ghost use mathlib.Core.Path.{_≡_};
 ghost use Rattle.reading.specs.Answer.{zeros};
 ghost use Rattle.parse.specs.Answers.{finishedBy, closedBy};
 use crate::Counted;
-use exprs::expr::Progress;
+use plans::progress::Progress;
 use words::limits::MAX_NUMBER;
 use words::output::clear;
 

@@ -9,8 +9,8 @@ use crate::Counted;
 use crate::ending::close;
 use crate::ending::finished;
 use crate::tree::tree_of;
-use atoms::scopes::SLOTS;
 use exprs::expr::expr;
+use scopes::entries::SLOTS;
 use words::Answer;
 
 // The expression and its words; no slice is cleared yet.

@@ -7,12 +7,12 @@ ghost use Rattle.grammar.specs.Operations.{draftFinal};
 ghost use Rattle.parse.specs.Answers.{draftSaid};
 ghost use Rattle.parse.specs.DraftAnswers.{judgedBy, AttemptedDraft, clearedBy};
 use crate::Drafted;
-use words::limits::MAX_NUMBER;
 use crate::tree::tree_of;
-use words::output::clear;
 use solutions::parts::Parts;
 use solutions::parts::parts_at;
 use words::Answer;
+use words::limits::MAX_NUMBER;
+use words::output::clear;
 
 // 13 if the numbers run out, then 7 if the draft slice has room for fewer words.
 fn judged(p: Parts, count: u64, room: usize) -> Drafted

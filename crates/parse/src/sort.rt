@@ -5,8 +5,8 @@ ghost use Rattle.grammar.specs.Sort.{sortWords};
 ghost use Rattle.grammar.specs.Operations.{sortFinal};
 ghost use Rattle.parse.specs.Answers.{sortSaid, Attempted};
 use crate::tree::tree_of;
-use words::output::clear;
 use words::Answer;
+use words::output::clear;
 
 // The sort and its words; no slice is cleared yet.
 fn attempt(text: &[u8], tree: &mut [u32], out: &mut [u32]) -> Answer

@@ -1,7 +1,7 @@
 // The tree that a text begins with, for every operation that parses it.
 ghost use Rattle.parse.specs.TreeOf.{TreeOf};
-use words::Answer;
 use text::read_one;
+use words::Answer;
 
 // How many words of the tree slice are the tree's, or the number of the refusal; no slice is cleared.
 pub fn tree_of(text: &[u8], tree: &mut [u32]) -> Answer

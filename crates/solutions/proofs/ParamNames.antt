@@ -12,12 +12,11 @@ use Rattle.grammar.specs.Sort.{Sort}
 use Rattle.grammar.specs.ParseExpr.{nameOf, sortIn, Binders, binders}
 use Rattle.grammar.specs.ParseSolution.{allNames, allSorts}
 use Rattle.sorts.specs.Rows.{isGot}
-use Rattle.atoms.specs.Spot.{Spot}
-use Rattle.exprs.specs.BinderWords.{BinderRow}
-use Rattle.exprs.proofs.Steps.{More, some}
-use Rattle.exprs.proofs.Steps as Steps
-use Rattle.exprs.proofs.BinderPairs.{pair-bad}
-use Rattle.atoms.proofs.Places.Inside.{first-there, others-there}
+use Rattle.places.specs.Spot.{Spot}
+use Rattle.plans.specs.BinderWords.{BinderRow}
+use Rattle.places.proofs.FirstTree.{More, some, none-left}
+use Rattle.plans.proofs.BinderPairs.{pair-bad}
+use Rattle.places.proofs.Inside.{first-there, others-there}
 
 -- ---- names
 
@@ -76,7 +75,7 @@ module _ {ws : List ℕ} {at n : ℕ} {h : BinderRow ws at n 0} where
     -- All are pairs.
     pub pairing-end : n ≤ i → true ≡ isGot (allNames (h .items))
     unfolding allNames
-    pairing-end e = rw (g .same, Steps.none (g .items) (omega (arith, g .many))) refl
+    pairing-end e = rw (g .same, none-left (g .items) (omega (arith, g .many))) refl
 
     module _ (l : i < n) where
       pub next-pair : More (g .items)

@@ -15,16 +15,16 @@ use Rattle.reading.specs.Answer.{number, Res, ok, no, chain, lifted}
 use Rattle.grammar.specs.Expr.{Expr, exprItems}
 use Rattle.grammar.specs.Scope.{Scope, repeated, distinct}
 use Rattle.grammar.specs.ParseExpr
-use Rattle.atoms.specs.Scopes.{Opened, slots, pushed, deeper, inner}
-use Rattle.exprs.specs.Plans.{Parsed, wrote, refused, Here}
+use Rattle.scopes.specs.Scopes.{Opened, slots, pushed, deeper, inner}
+use Rattle.plans.specs.Plans.{Parsed, wrote, refused, Here}
 use Rattle.grammar.specs.Written.{told}
 use Rattle.grammar.specs.Item.{raisedWords}
 use Rattle.solutions.specs.PartsWords.{BodyHere, bodyOf, BodyDone, bodyWrote, bodyRefused}
-use Rattle.exprs.specs.declared.expr.Progress.{Progress}
-use Rattle.exprs.specs.declared.expr.Progress.the-variants as progress
+use Rattle.plans.specs.declared.progress.Progress.{Progress}
+use Rattle.plans.specs.declared.progress.Progress.the-variants as progress
 use Rattle.solutions.specs.declared.parts.Parts.the-variants.{Done, Refused}
-use Rattle.exprs.proofs.Laid.{never, same-words, same-next}
-use Rattle.atoms.proofs.Places.Entries.{pushed-length, pushed-opened, deeper-most}
+use Rattle.plans.proofs.Laid.{never, same-words, same-next}
+use Rattle.scopes.proofs.Frame.{pushed-length, pushed-opened, deeper-most}
 
 module _ (text : List ℕ) (names : List Span) where
   -- 10 comes behind it.

@@ -19,25 +19,25 @@ use Rattle.grammar.specs.ParseExpr
 use Rattle.grammar.specs.ParseExpr.{Binders, binders}
 use Rattle.grammar.specs.ParseSolution.{allNames, allSorts, parseSolution}
 use Rattle.sorts.specs.Rows.{isGot}
-use Rattle.atoms.specs.Spot.{Spot}
+use Rattle.places.specs.Spot.{Spot}
 use Rattle.writing.specs.Laid.{laid}
-use Rattle.atoms.specs.Outcome.{Put}
+use Rattle.places.specs.Outcome.{Put}
 use Rattle.grammar.specs.Item.{raisedWords}
 use Rattle.grammar.specs.Expr.{paramItems}
-use Rattle.exprs.specs.BinderWords.{BinderRow, bindersWords}
-use Rattle.exprs.specs.Whole.{Whole}
+use Rattle.plans.specs.BinderWords.{BinderRow, bindersWords}
+use Rattle.plans.specs.Whole.{Whole}
 use Rattle.solutions.specs.PartsWords.{BodyHere, bodyOf, BodyDone, bodyWrote, bodyRefused, PartsDone, partsWrote, partsRefused}
 use Rattle.solutions.specs.declared.parts.Parts.{Parts}
 use Rattle.solutions.specs.declared.parts.Parts.the-variants.{Done, Refused}
-use Rattle.atoms.proofs.Puts.{put-append}
-use Rattle.atoms.proofs.SortPlace.{GotAt, BadAt, every-got}
-use Rattle.exprs.proofs.BinderPairs.{ReadFrom, read-from}
-use Rattle.exprs.proofs.ExistsForm.{numbered-length}
+use Rattle.places.proofs.Puts.{put-append}
+use Rattle.places.proofs.SortPlace.{GotAt, BadAt, every-got}
+use Rattle.plans.proofs.BinderPairs.{ReadFrom, read-from}
+use Rattle.plans.proofs.ExistsForm.{numbered-length}
 use Rattle.reading.proofs.TreeHead.{Three, three-trees, alone}
 use Rattle.grammar.proofs.TreeHead.{no-list}
-use Rattle.atoms.proofs.Places.Spots.{word0, spot-within, as-list, IsList}
-use Rattle.atoms.proofs.Places.ScopeNames.{named-trees}
-use Rattle.atoms.proofs.Places.Inside.{ListNode, items-there, first-there, others-there, list-length}
+use Rattle.places.proofs.Spots.{word0, spot-within, as-list, IsList}
+use Rattle.scopes.proofs.ScopeNames.{named-trees}
+use Rattle.places.proofs.Inside.{ListNode, items-there, first-there, others-there, list-length}
 use Rattle.solutions.proofs.ParamNames.{Some, names-bad, names-got, names-binders, split-got, split-bad}
 
 -- ---- what a solution is

@@ -11,11 +11,11 @@ use Rattle.grammar.specs.Item.{raisedWords}
 use Rattle.grammar.specs.Expr.{Expr, Solution, exprItems, paramItems, bodyItems}
 use Rattle.grammar.specs.Scope.{distinct}
 use Rattle.grammar.specs.ParseExpr.{child}
-use Rattle.atoms.specs.Spot.{Spot}
-use Rattle.atoms.specs.Scopes.{Pairs}
+use Rattle.places.specs.Spot.{Spot}
+use Rattle.scopes.specs.Scopes.{Pairs}
 use Rattle.writing.specs.Laid.{laid}
-use Rattle.atoms.specs.Outcome.{bound}
-use Rattle.exprs.specs.Plans.{factor}
+use Rattle.places.specs.Outcome.{bound}
+use Rattle.plans.specs.Plans.{factor}
 use Rattle.solutions.specs.declared.parts.Parts.{Parts}
 use Rattle.solutions.specs.declared.parts.Parts.the-variants as parts
 

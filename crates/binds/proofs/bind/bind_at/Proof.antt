@@ -1,7 +1,7 @@
 use native.Mathlib.Omega.{arith}
-use Rattle.atoms.proofs.Places.Spots.{spot-within, two-there}
-use Rattle.atoms.proofs.Places.Inside.{node-list, node-other}
-use Rattle.atoms.proofs.SortPlace.{got-at, bad-at}
+use Rattle.places.proofs.Spots.{spot-within, two-there}
+use Rattle.places.proofs.Inside.{node-list, node-other}
+use Rattle.places.proofs.SortPlace.{got-at, bad-at}
 use Rattle.binds.proofs.PredNames.{symbol-there}
 use Rattle.binds.proofs.BindOf.{whole-spot, bind-atom, bind-none, pair-spot, bind-no-pair, bind-short, name-spot, bind-no-name, sort-small, bind-no-sort, bind-one, pred-here, bind-preds}
 use borrow.Author.Needs.{needs}

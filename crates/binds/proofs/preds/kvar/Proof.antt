@@ -1,7 +1,7 @@
 use mathlib.Core.Path.{refl}
 use native.Mathlib.Omega.{arith}
-use Rattle.atoms.proofs.SortPlace.{got-at, bad-at}
-use Rattle.atoms.proofs.Places.Spots.{spot-within}
+use Rattle.places.proofs.SortPlace.{got-at, bad-at}
+use Rattle.places.proofs.Spots.{spot-within}
 use Rattle.binds.proofs.PredNames.{kvar-spot, kvar-there, kvar-row, kvar-few, kvar-bad, kvar-read}
 use borrow.Author.Needs.{needs}
 use Rattle.binds.proofs.preds.kvar.Statement.{statement}

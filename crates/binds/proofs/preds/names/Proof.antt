@@ -4,7 +4,7 @@ use native.Mathlib.Omega.{arith}
 use borrow.Author.Needs.{needs}
 use Prim.Native.Nat.{_-_}
 use Rattle.binds.specs.PredWords.{NameRow}
-use Rattle.atoms.proofs.Places.Spots.{two-there}
+use Rattle.places.proofs.Spots.{two-there}
 use Rattle.binds.proofs.PredNames.{Naming, naming-start, naming-end, naming-bad, naming-more, name-spot, name-room, symbol-there}
 use Rattle.binds.proofs.preds.names.Statement.{statement}
 use Rattle.binds.proofs.preds.names.Tie as tie

@@ -1,7 +1,7 @@
 use mathlib.Core.Logic.{⊎-elim}
 use native.Mathlib.Omega.{arith}
-use Rattle.atoms.proofs.Places.Spots.{two-there, spot-within}
-use Rattle.atoms.proofs.Places.Inside.{node-list, node-other}
+use Rattle.places.proofs.Spots.{two-there, spot-within}
+use Rattle.places.proofs.Inside.{node-list, node-other}
 use Rattle.binds.proofs.ListHead.{head-spot}
 use Rattle.binds.proofs.PredPlans.{pred-atom, pred-none, pred-other, six-there, pred-and, pred-named, kvar-here, pred-kvar, expr-here, expr-bad, expr-read}
 use borrow.Author.Needs.{needs}
@@ -9,10 +9,10 @@ use Rattle.binds.proofs.preds.pred.Statement.{statement}
 use Rattle.binds.proofs.preds.pred.Tie as tie
 use Rattle.binds.proofs.preds.pred.Reads as reads
 use Rattle.binds.proofs.preds.pred.Lts as lts
-use Rattle.atoms.proofs.expr_words.put1.Reads as put1-reads
-use Rattle.atoms.proofs.place.node_at.Reads as node-at-reads
-use Rattle.atoms.proofs.place.through.Reads as through-reads
-use Rattle.atoms.proofs.place.words_at.Reads as words-at-reads
+use Rattle.places.proofs.expr_words.put1.Reads as put1-reads
+use Rattle.places.proofs.place.node_at.Reads as node-at-reads
+use Rattle.places.proofs.place.through.Reads as through-reads
+use Rattle.places.proofs.place.words_at.Reads as words-at-reads
 use Rattle.exprs.proofs.expr.expr.Reads as expr-reads
 use Rattle.lexing.proofs.byte.begins_with.Reads as begins-with-reads
 use Rattle.lexing.proofs.byte.same.Reads as same-reads

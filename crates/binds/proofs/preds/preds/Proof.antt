@@ -1,18 +1,18 @@
-use Rattle.atoms.specs.Scopes.{slots}
+use Rattle.scopes.specs.Scopes.{slots}
 use lib.ListN.{length}
 use mathlib.Core.Path.{_≡_, refl, sym}
 use native.Mathlib.Omega.{arith}
 use borrow.Author.Needs.{needs}
 use Prim.Native.Nat.{_-_, _+_, _≤_}
 use Rattle.binds.specs.PredWords.{PredHere}
-use Rattle.atoms.proofs.Places.Spots.{spot-within}
+use Rattle.places.proofs.Spots.{spot-within}
 use Rattle.binds.proofs.PredLoop.{Reading, reading-start, reading-end, reading-refused, reading-more, reading-less, many-fits, pred-here}
 use Rattle.binds.proofs.preds.preds.Statement.{statement}
 use Rattle.binds.proofs.preds.preds.Tie as tie
 use Rattle.binds.proofs.preds.preds.Reads as reads
 use Rattle.binds.proofs.preds.preds.Lts as lts
-use Rattle.atoms.proofs.place.words_at.Reads as words-at-reads
-use Rattle.lexing.proofs.words.put.Reads as put-reads
+use Rattle.places.proofs.place.words_at.Reads as words-at-reads
+use Rattle.words.proofs.output.put.Reads as put-reads
 use Rattle.binds.proofs.preds.pred.Reads as pred-reads
 
 abbrev Inv-loop : tie.InvT-loop

@@ -1,4 +1,4 @@
-use Rattle.atoms.proofs.Puts.{put-append}
+use Rattle.places.proofs.Puts.{put-append}
 use mathlib.Core.List.{[], _∷_}
 use borrow.Author.Needs.{needs}
 use Rattle.binds.proofs.preds.put_kvar.Statement.{statement}

@@ -1,9 +1,9 @@
-use Rattle.atoms.proofs.Places.Entries.{kept-same, kept-then}
-use Rattle.atoms.specs.Scopes.{Kept}
+use Rattle.scopes.proofs.Frame.{kept-same, kept-then}
+use Rattle.scopes.specs.Scopes.{Kept}
 use Rattle.reading.proofs.TreeHead.{tree-two}
-use Rattle.atoms.proofs.Places.Spots.{spot-within}
+use Rattle.places.proofs.Spots.{spot-within}
 use Rattle.exprs.proofs.Steps.{as-stop, as-leaf, as-run, run-row, run-refused, last-end, last-spot, last-here, last-done, run-twice, run-done, inside-kept, Going, progress-start, progress-end, progress-short, next-spot, next-here, progress-refused, progress-more}
-use Rattle.exprs.specs.Plans.{Row}
+use Rattle.plans.specs.Plans.{Row}
 use lib.ListN.{length}
 use mathlib.Core.Path.{_≡_, refl, sym, _∙_}
 use borrow.Author.Needs.{needs}
@@ -17,13 +17,13 @@ use Rattle.exprs.proofs.expr.+expr+operands.Lts-expr as expr-lts
 use Rattle.exprs.proofs.expr.operands.Reads as operands
 use Rattle.exprs.proofs.expr.operands.Kinds as operands-kinds
 use Rattle.exprs.proofs.expr.+expr+operands.Lts-operands as operands-lts
-use Rattle.atoms.proofs.place.reach.Reads as reach-reads
-use Rattle.atoms.proofs.place.through.Reads as through-reads
-use Rattle.atoms.proofs.place.words_at.Reads as words-at-reads
-use Rattle.atoms.proofs.scopes.opened.Reads as opened-reads
+use Rattle.places.proofs.place.reach.Reads as reach-reads
+use Rattle.places.proofs.place.through.Reads as through-reads
+use Rattle.places.proofs.place.words_at.Reads as words-at-reads
+use Rattle.scopes.proofs.entries.opened.Reads as opened-reads
 use Rattle.words.proofs.number.long_to_length.Reads as long-to-length-reads
-use Rattle.atoms.proofs.scopes.twice.Reads as twice-reads
-use Rattle.exprs.proofs.plan.planned.Reads as planned-reads
+use Rattle.scopes.proofs.entries.twice.Reads as twice-reads
+use Rattle.plans.proofs.plan.planned.Reads as planned-reads
 use Rattle.exprs.proofs.expr.+expr+operands.{statement}
 use Rattle.exprs.proofs.expr.+expr+operands.Tie.{close}
 

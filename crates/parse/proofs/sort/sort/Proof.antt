@@ -7,7 +7,7 @@ use Rattle.parse.proofs.sort.sort.Statement.{statement}
 use Rattle.parse.proofs.sort.sort.Tie as tie
 use Rattle.parse.proofs.sort.sort.Reads as reads
 use Rattle.parse.proofs.sort.sort.Lts as lts
-use Rattle.lexing.proofs.words.clear.Reads as clear-reads
+use Rattle.words.proofs.output.clear.Reads as clear-reads
 use Rattle.parse.proofs.sort.attempt.Reads as attempt-reads
 
 -- src/sort.rt:38:11

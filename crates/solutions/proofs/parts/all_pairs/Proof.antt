@@ -1,8 +1,8 @@
 use Prim.Native.Nat.{_-_}
 use native.Mathlib.Omega.{arith}
 use borrow.Author.Tests.{not-true, not-false}
-use Rattle.exprs.specs.BinderWords.{BinderRow}
-use Rattle.atoms.proofs.Places.Spots.{spot-within}
+use Rattle.plans.specs.BinderWords.{BinderRow}
+use Rattle.places.proofs.Spots.{spot-within}
 use Rattle.solutions.proofs.ParamNames.{Pairing, pairing-start, pairing-end, pairing-bad, pairing-more, pair-spot}
 use Rattle.solutions.proofs.parts.all_pairs.Statement.{statement}
 use Rattle.solutions.proofs.parts.all_pairs.Tie as tie

@@ -5,8 +5,8 @@ use Rattle.solutions.proofs.parts.body_at.Statement.{statement}
 use Rattle.solutions.proofs.parts.body_at.Tie as tie
 use Rattle.solutions.proofs.parts.body_at.Reads as reads
 use Rattle.solutions.proofs.parts.body_at.Lts as lts
-use Rattle.atoms.proofs.scopes.opened.Reads as opened-reads
-use Rattle.atoms.proofs.scopes.twice.Reads as twice-reads
+use Rattle.scopes.proofs.entries.opened.Reads as opened-reads
+use Rattle.scopes.proofs.entries.twice.Reads as twice-reads
 use Rattle.exprs.proofs.expr.expr.Reads as expr-reads
 use Rattle.words.proofs.number.length_to_long.Reads as length-to-long-reads
 

@@ -1,19 +1,19 @@
 use Prim.Native.Nat.{_+_}
 use native.Mathlib.Omega.{arith}
 use borrow.Author.Tests.{not-true, not-false}
-use Rattle.atoms.proofs.SortPlace.{got-at, bad-at}
-use Rattle.atoms.proofs.Places.Spots.{spot-within}
-use Rattle.atoms.proofs.Places.Inside.{node-list, node-other}
+use Rattle.places.proofs.SortPlace.{got-at, bad-at}
+use Rattle.places.proofs.Spots.{spot-within}
+use Rattle.places.proofs.Inside.{node-list, node-other}
 use Rattle.solutions.proofs.SolutionParts.{root, whole-other, whole-count, head-spot, params-spot, params-other, pairs-row, pairs-bad, sorts-bad, parts-body, parts-done}
 use borrow.Author.Needs.{needs}
 use Rattle.solutions.proofs.parts.parts_at.Statement.{statement}
 use Rattle.solutions.proofs.parts.parts_at.Tie as tie
 use Rattle.solutions.proofs.parts.parts_at.Reads as reads
 use Rattle.solutions.proofs.parts.parts_at.Lts as lts
-use Rattle.atoms.proofs.expr_words.put1.Reads as put1-reads
-use Rattle.atoms.proofs.place.node_at.Reads as node-at-reads
-use Rattle.atoms.proofs.place.words_at.Reads as words-at-reads
-use Rattle.exprs.proofs.binders.binder_words.Reads as binder-words-reads
+use Rattle.places.proofs.expr_words.put1.Reads as put1-reads
+use Rattle.places.proofs.place.node_at.Reads as node-at-reads
+use Rattle.places.proofs.place.words_at.Reads as words-at-reads
+use Rattle.plans.proofs.binders.binder_words.Reads as binder-words-reads
 use Rattle.solutions.proofs.parts.all_pairs.Reads as all-pairs-reads
 use Rattle.solutions.proofs.parts.body_at.Reads as body-at-reads
 use Rattle.words.proofs.number.word_to_length.Reads as word-to-length-reads

@@ -1,4 +1,0 @@
-pub mod Spot
-pub mod Scopes
-pub mod Outcome
-pub mod FormNames

@@ -1,0 +1,2 @@
+pub mod FormCode
+pub mod LiteralBits

@@ -1,0 +1,32 @@
+// The bits of a literal.
+ghost use mathlib.Core.Path.{_≡_};
+ghost use Rattle.reading.specs.Number.{wideOf};
+ghost use Rattle.reading.specs.Answer.{got, andThen};
+ghost use Rattle.grammar.specs.ParseExpr.{bitsOf};
+ghost use Rattle.forms.specs.FormNames.{bitsIn};
+use lexing::byte::begins_with;
+use lexing::number::Mag;
+use lexing::number::unsigned;
+use lexing::quad::Quad;
+use words::number::least;
+
+// The value of `#b..`; bits that are none, or too many; or a string that does not begin so.
+pub enum Bits {
+    Is(Quad),
+    Bad,
+    No,
+}
+
+// One byte behind `#b` is dropped.
+pub fn bits_of(name: &[u8]) -> Bits
+    ensures { λ r. ⌜ bitsIn r ≡ andThen (bitsOf (now (name .entry))) (λ v. got (wideOf v)) ⌝ }
+{
+    if !begins_with(b"#b", name) {
+        return Bits::No;
+    }
+    let from = least(3, name.len());
+    match unsigned(&name[from..], 2) {
+        Mag::Is(q) => Bits::Is(q),
+        Mag::No => Bits::Bad,
+    }
+}

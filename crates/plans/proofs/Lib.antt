@@ -1,0 +1,9 @@
+pub mod Laid
+pub mod ListPlans
+pub mod NamedPlans
+pub mod LitPlans
+pub mod LetPlans
+pub mod BinderPairs
+pub mod ExistsForm
+pub mod Applied
+pub mod TreePlans

@@ -1,0 +1,3 @@
+pub mod ScopeNames
+pub mod Frame
+pub mod Variables
