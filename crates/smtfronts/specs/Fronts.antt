@@ -15,7 +15,8 @@ use Rattle.smt.specs.Sexp.{symbolText, list, print}
 use Rattle.smt.specs.Term.{identSx, varSxs, termSx}
 use Rattle.smt.specs.Vocabulary.{operators, relations}
 use Rattle.smt.specs.Writer.{spelledAt, fitsWidth, functionOf, Form, alone, operator, folded, letting, some, fieldsOf}
-use Rattle.smtmarks.specs.Marks.{operatorText, foldedText, boolText}
+use Rattle.smtoperators.specs.Operators.{operatorText}
+use Rattle.smtbools.specs.Bools.{foldedText, boolText}
 use Rattle.smtnames.specs.Pieces.{joined, identText, nameText, freshText, stringText, varsText}
 
 -- In front of so many operands.

@@ -32,7 +32,7 @@ use Rattle.smt.specs.Writer.{Form, fieldsOf, headKind, headOf, termOf}
 use Rattle.smt.proofs.Judged.{Formed, Fits, FormedAt, header-fits, expr-formed}
 use Rattle.smtnames.specs.Pieces.{joined, identText}
 use Rattle.smtlib.specs.Terms.{termText, seamed}
-use Rattle.smtmarks.specs.Marks.{seamOf, gapOf, closeText, nodeLets, nodeCloses}
+use Rattle.smtseams.specs.Seams.{seamOf, gapOf, closeText, nodeLets, nodeCloses}
 use Rattle.smtfronts.specs.Fronts.{frontOf, frontText, formLets, formCloses, calleeText}
 use Rattle.smtnames.specs.Written.{Tells, tells, keeps, TellsPiece, TellsPart}
 use Rattle.smtnames.specs.declared.answers.Written.{Written}

@@ -21,10 +21,10 @@ use Rattle.judge.proofs.expr_words.head.Reads as head-reads
 use Rattle.judge.proofs.expr_words.out_sort.Reads as out-sort-reads
 use Rattle.nodes.proofs.kind.kind_at.Reads as kind-at-reads
 use Rattle.smtfronts.proofs.callee.callee.Reads as callee-reads
-use Rattle.smtmarks.proofs.operands.close.Reads as close-reads
-use Rattle.smtmarks.proofs.operands.closes.Reads as closes-reads
+use Rattle.smtseams.proofs.close.Reads as close-reads
+use Rattle.smtseams.proofs.closes.Reads as closes-reads
 use Rattle.smtfronts.proofs.fronts.front.Reads as front-reads
-use Rattle.smtmarks.proofs.operands.lets.Reads as lets-reads
+use Rattle.smtseams.proofs.lets.Reads as lets-reads
 use Rattle.smtlib.proofs.terms.gap.Reads as gap-reads
 use Rattle.writing.proofs.byte.Reads as byte-reads
 use Rattle.smtlib.proofs.terms.+term+terms.{statement}
