@@ -15,10 +15,10 @@ use Rattle.sorts.specs.declared.Answer.the-variants as parsed
 use Rattle.session.specs.Session.{Call, Outcome, outcome}
 use Rattle.session.specs.Compared.{readsOrSorts}
 use Rattle.session.proofs.Unreported.{count-kept, reportsTwo, NoSecond, second-none}
-use Rattle.reader.specs.Calls.{asSaid}
-use Rattle.reader.specs.Sessions as reader
-use Rattle.reader.specs.declared.Said.the-variants.{Accepted, Refused}
-use Rattle.reader.proofs.Saying.{said-accepted, said-refused}
+use Rattle.replies.specs.Calls.{asSaid}
+use Rattle.replies.specs.Sessions as reader
+use Rattle.replies.specs.declared.Said.the-variants.{Accepted, Refused}
+use Rattle.replies.proofs.Saying.{said-accepted, said-refused}
 use Rattle.ffi.specs.Reply.{refusalOf, firstOf, secondOf, counted, Promised, flat, Flattened}
 
 by-accepted : (s : answer.Said) (a b : ℕ) → asSaid s ≡ Accepted a b → (0 ≡ refusalOf s) × (a ≡ firstOf s) × (b ≡ secondOf s)

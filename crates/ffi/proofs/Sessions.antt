@@ -12,12 +12,12 @@ use Rattle.reading.specs.Answer as answer
 use Rattle.session.specs.Session.{Call, outcome}
 use Rattle.session.specs.Compared.{readsOrSorts}
 use Rattle.session.proofs.Unreported.{Positive, positive, count-kept, read-anywhere}
-use Rattle.reader.specs.Calls.{asSaid}
-use Rattle.reader.specs.Sessions as reader
-use Rattle.reader.specs.Demand3.{Demand3}
-use Rattle.reader.specs.declared.Said.{Said}
-use Rattle.reader.specs.declared.Said.the-variants.{Accepted, Refused}
-use Rattle.reader.proofs.Whole.{demand3, next-fits}
+use Rattle.replies.specs.Calls.{asSaid}
+use Rattle.replies.specs.Sessions as reader
+use Rattle.replies.specs.Demand3.{Demand3}
+use Rattle.replies.specs.declared.Said.{Said}
+use Rattle.replies.specs.declared.Said.the-variants.{Accepted, Refused}
+use Rattle.replies.proofs.Whole.{demand3, next-fits}
 use Rattle.ffi.specs.Reply.{Reply, Promised, refusalOf, firstOf, secondOf}
 use Rattle.ffi.specs.Sessions.{Turn, opensAt, leaves, Session, saidBy, onReader, allOnReader}
 

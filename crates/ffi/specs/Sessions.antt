@@ -6,9 +6,9 @@ use lib.Dec.{eqb}
 use Rattle.reading.specs.Pick.{pick}
 use Rattle.session.specs.Session.{Call}
 use Rattle.session.specs.Compared.{readsOrSorts}
-use Rattle.reader.specs.Sessions as reader
-use Rattle.reader.specs.declared.Said.{Said}
-use Rattle.reader.specs.declared.Said.the-variants.{Accepted, Refused}
+use Rattle.replies.specs.Sessions as reader
+use Rattle.replies.specs.declared.Said.{Said}
+use Rattle.replies.specs.declared.Said.the-variants.{Accepted, Refused}
 use Rattle.ffi.specs.Reply.{Reply, Promised}
 
 -- A call and what the C function returned and left.

@@ -3,13 +3,13 @@
 // The contracts are `Promised`, of flattening `Flattened` (specs/Reply.antt) and of SMT-LIB `Spoken` (specs/Smtlib.antt): the reply is the
 // outcome of the call. Replies of calls on a reader are a session of which demand 3 is proved (proofs/Sessions.antt).
 ghost use mathlib.Core.List.{[]};
-ghost use Rattle.reader.specs.Calls.{oneCall, allCall, sortCall, exprCall, bindCall, solutionCall};
+ghost use Rattle.replies.specs.Calls.{oneCall, allCall, sortCall, exprCall, bindCall, solutionCall};
 ghost use Rattle.ffi.specs.Reply.{uncounted, counted, Promised, flat, Flattened};
 ghost use mathlib.Core.Path.{_≡_};
 ghost use Rattle.ffi.specs.Smtlib.{spoken, Spoken};
 ghost use Rattle.ffi.specs.Version.{version};
 use reader::Reader;
-use reader::Said;
+use replies::Said;
 
 // Reads the first expression of the text: how many words it has, and the byte behind it.
 #[no_mangle]

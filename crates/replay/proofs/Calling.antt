@@ -16,10 +16,11 @@ use Rattle.sorts.specs.declared.Answer.{Answer as FlatAnswer}
 use Rattle.flatten.specs.Operations.{flattenFinal, flattenOut}
 use Rattle.flatten.specs.Answers.{flattenAnswer}
 use Rattle.session.specs.Session.{Call, outcome}
-use Rattle.reader.specs.declared.Said.{Said}
+use Rattle.replies.specs.declared.Said.{Said}
 use Rattle.reader.specs.declared.Answer.{Answer}
-use Rattle.reader.specs.Calls.{oneCall, allCall, sortCall, exprCall, bindCall, solutionCall, asSaid}
-use Rattle.reader.specs.Sessions.{Promised, replied}
+use Rattle.replies.specs.Calls.{oneCall, allCall, sortCall, exprCall, bindCall, solutionCall, asSaid}
+use Rattle.replies.specs.Sessions.{Promised}
+use Rattle.reader.specs.Replied.{replied}
 use Rattle.recorded.specs.declared.line.Line.{Line}
 use Rattle.recorded.specs.declared.slices.Reply.{Reply}
 use Rattle.replay.specs.declared.State.{State}

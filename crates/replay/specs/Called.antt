@@ -11,10 +11,10 @@ use Rattle.sorts.specs.declared.Answer.{Answer as FlatAnswer}
 use Rattle.flatten.specs.Operations.{flattenFinal, flattenOut}
 use Rattle.flatten.specs.Answers.{flattenAnswer}
 use Rattle.session.specs.Session.{Call, Outcome, outcome}
-use Rattle.reader.specs.declared.Said.{Said}
-use Rattle.reader.specs.declared.Said.the-variants.{Accepted, Refused}
+use Rattle.replies.specs.declared.Said.{Said}
+use Rattle.replies.specs.declared.Said.the-variants.{Accepted, Refused}
 use Rattle.reader.specs.declared.Answer.{Answer}
-use Rattle.reader.specs.Calls.{oneCall, allCall, sortCall, exprCall, bindCall, solutionCall, asSaid}
+use Rattle.replies.specs.Calls.{oneCall, allCall, sortCall, exprCall, bindCall, solutionCall, asSaid}
 use Rattle.recorded.specs.declared.line.Line.{Line}
 use Rattle.recorded.specs.declared.slices.Reply.{Reply}
 use Rattle.recorded.specs.Spelled.{bytesIn, wordsIn}

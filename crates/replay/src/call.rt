@@ -159,13 +159,13 @@ fn reply(answer: reader::Answer) -> Reply
     let count = reader.next;
     let said = answer.said;
     match said {
-        reader::Said::Accepted(a, b) => Reply {
+        replies::Said::Accepted(a, b) => Reply {
             refusal: 0,
             a: a as u64,
             b: b as u64,
             count: count,
         },
-        reader::Said::Refused(r) => Reply {
+        replies::Said::Refused(r) => Reply {
             refusal: r as u64,
             a: 0,
             b: 0,

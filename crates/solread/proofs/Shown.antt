@@ -18,11 +18,11 @@ use Rattle.show.specs.Lines.{refusalText, solutionText}
 use Rattle.show.specs.Shown.{textOf, wordsText, shown}
 use Rattle.show.proofs.Params.{text-length}
 use Rattle.show.proofs.Showing.{answering, reveals}
-use Rattle.reader.specs.declared.Said.{Said}
-use Rattle.reader.specs.declared.Said.the-variants.{Accepted, Refused}
-use Rattle.reader.specs.Calls.{solutionCall}
+use Rattle.replies.specs.declared.Said.{Said}
+use Rattle.replies.specs.declared.Said.the-variants.{Accepted, Refused}
+use Rattle.replies.specs.Calls.{solutionCall}
 use Rattle.solread.specs.Printed.{finalText, slice, printed}
-use Rattle.reader.proofs.Solved.{ToldSolution, solved, not-solved}
+use Rattle.replies.proofs.Solved.{ToldSolution, solved, not-solved}
 
 -- So many bytes of the output are what is printed for the text.
 abbrev pub Shown : List ℕ → List ℕ → ℕ → Type 0

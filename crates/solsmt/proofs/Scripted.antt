@@ -16,10 +16,10 @@ use Rattle.grammar.specs.Expr.{Solution}
 use Rattle.judge.specs.Judge.{reads, judgeSolution}
 use Rattle.flatten.specs.Uncurry.{flattened}
 use Rattle.session.specs.Session.{final}
-use Rattle.reader.specs.declared.Said.{Said}
-use Rattle.reader.specs.declared.Said.the-variants.{Accepted, Refused}
-use Rattle.reader.specs.Calls.{solutionCall}
-use Rattle.reader.proofs.Solved.{ToldSolution, solved, not-solved}
+use Rattle.replies.specs.declared.Said.{Said}
+use Rattle.replies.specs.declared.Said.the-variants.{Accepted, Refused}
+use Rattle.replies.specs.Calls.{solutionCall}
+use Rattle.replies.proofs.Solved.{ToldSolution, solved, not-solved}
 use Rattle.writing.specs.Wrote.{WroteBytes}
 use Rattle.writing.proofs.Laid.{over-start}
 use Rattle.writing.proofs.Wrote.{either}

@@ -12,7 +12,7 @@ ghost use Rattle.smtnames.specs.Pieces.{varsText};
 ghost use Rattle.solsmt.specs.Script.{commentLine, functionLine, closedText, script};
 use nodes::kind::word_at;
 use reader::Reader;
-use reader::Said;
+use replies::Said;
 use smtlib::Answer;
 use smtlib::smtlib;
 use smtnames::answers::Walked;

@@ -20,10 +20,10 @@ use Rattle.grammar.proofs.Raise.{raise-zero}
 use Rattle.flatten.specs.Uncurry.{flattened}
 use Rattle.flatten.proofs.SolutionBack.{SolutionBack, FlatBack, flat-back}
 use Rattle.session.specs.Session.{Term, aSolution, termItems, draftItems, termWords, report, make, roomFor, final, outcome}
-use Rattle.reader.specs.declared.Said.{Said}
-use Rattle.reader.specs.declared.Said.the-variants.{Accepted, Refused}
-use Rattle.reader.specs.Calls.{asSaid, solutionCall}
-use Rattle.reader.proofs.Saying.{said-accepted, said-refused}
+use Rattle.replies.specs.declared.Said.{Said}
+use Rattle.replies.specs.declared.Said.the-variants.{Accepted, Refused}
+use Rattle.replies.specs.Calls.{asSaid, solutionCall}
+use Rattle.replies.proofs.Saying.{said-accepted, said-refused}
 
 -- A solution after flattening, whose words are read back and fit.
 record Fits (text : List ℕ) (room : ℕ) (m : Term) : Type 0 where

@@ -3,8 +3,8 @@ use Prim.Native.Nat.{ℕ}
 use mathlib.Core.List.{List, []}
 use Rattle.reading.specs.Answer as answer
 use Rattle.session.specs.Session.{Call, readOne, readAll, sort, expression, bind, solution}
-use Rattle.reader.specs.declared.Said.{Said}
-use Rattle.reader.specs.declared.Said.the-variants.{Accepted, Refused}
+use Rattle.replies.specs.declared.Said.{Said}
+use Rattle.replies.specs.declared.Said.the-variants.{Accepted, Refused}
 
 -- Each call with its text and the words of the slices that it is lent; a slice that it does not take is empty.
 abbrev pub oneCall : List ℕ → List ℕ → Call

@@ -3,8 +3,9 @@ use Prim.Native.Nat.{ℕ}
 use mathlib.Core.Path.{_≡_, refl, ap}
 use mathlib.Core.List.{List, [], _∷_, map}
 use Rattle.session.specs.Session.{Call, outcome}
-use Rattle.reader.specs.Calls.{asSaid}
-use Rattle.reader.specs.Sessions.{Reply, Promised, Turn, Session}
+use Rattle.replies.specs.Calls.{asSaid}
+use Rattle.replies.specs.Sessions.{Reply, Turn, Session}
+use Rattle.replies.specs.Sessions.{Promised}
 
 -- The reply of a call at the count c.
 abbrev pub replyTo : Call → ℕ → Reply

@@ -3,9 +3,8 @@ use Prim.Native.Nat.{ℕ}
 use mathlib.Core.Path.{_≡_}
 use mathlib.Core.List.{List, [], _∷_}
 use Rattle.session.specs.Session.{Call, outcome}
-use Rattle.reader.specs.Calls.{asSaid}
-use Rattle.reader.specs.declared.Said.{Said}
-use Rattle.reader.specs.declared.Answer.{Answer}
+use Rattle.replies.specs.Calls.{asSaid}
+use Rattle.replies.specs.declared.Said.{Said}
 
 -- What a caller sees of a call: what is said, the count of the reader that comes back, and the words of the slices.
 pub record Reply : Type 0 where
@@ -14,10 +13,6 @@ pub record Reply : Type 0 where
   pub tree : List ℕ
   pub draft : List ℕ
   pub out : List ℕ
-
--- A method's answer and the words of tree, draft and output afterwards; a slice that it does not take is empty.
-abbrev pub replied : Answer → List ℕ → List ℕ → List ℕ → Reply
-replied a tree draft out = record { said = a .said; next = a .reader .next; tree = tree; draft = draft; out = out }
 
 -- The contract of every method, for a call on a reader at the count c: the reply is the outcome of the call.
 pub record Promised (call : Call) (c : ℕ) (r : Reply) : Type 0 where

@@ -16,11 +16,12 @@ use Rattle.grammar.proofs.Raise.{raise-zero}
 use Rattle.session.specs.Session.{Call, Term, termItems, made, roomFor, final, boundBy}
 use Rattle.session.specs.Compared.{readsOrSorts, Agree}
 use Rattle.session.proofs.Calls.{made-same, final-same, decides-early, decides-spent, decides-short, room-same, not-spent}
-use Rattle.reader.specs.Sessions.{Reply, Promised, Turn, Session, lastCount}
-use Rattle.reader.specs.Demand3.{BothRefuse, BothAccept, Answered, AllAnswered, boundIn, Early, Later, Alike, early, later, Demand3}
-use Rattle.reader.specs.declared.Said.the-variants.{Refused}
-use Rattle.reader.proofs.Replying.{fine, refuses-by, accepts-by}
-use Rattle.reader.proofs.Saying.{refused-same, not-refused}
+use Rattle.replies.specs.Sessions.{Reply, Turn, Session, lastCount}
+use Rattle.replies.specs.Sessions.{Promised}
+use Rattle.replies.specs.Demand3.{BothRefuse, BothAccept, Answered, AllAnswered, boundIn, Early, Later, Alike, early, later, Demand3}
+use Rattle.replies.specs.declared.Said.the-variants.{Refused}
+use Rattle.replies.proofs.Replying.{fine, refuses-by, accepts-by}
+use Rattle.replies.proofs.Saying.{refused-same, not-refused}
 
 -- One call on two readers.
 module _ {old new : Call} {c : ℕ} {ro rn : Reply} (g : Agree old new) (h : c ≤ maxNumber) (po : Promised old c ro) (pn : Promised new 0 rn) where

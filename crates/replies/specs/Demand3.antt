@@ -12,9 +12,10 @@ use Rattle.grammar.specs.Item.{wordsOf, bound}
 use Rattle.grammar.specs.Numbers.{Exactly}
 use Rattle.session.specs.Session.{Call, Term, termItems, termWords, report, boundBy}
 use Rattle.session.specs.Compared.{opOf, readsOrSorts, ScopedTerm, ScopedFinal, Agree, SameText, LongEnough}
-use Rattle.reader.specs.Calls.{asSaid}
-use Rattle.reader.specs.Sessions.{Reply, Promised, Turn, lastCount}
-use Rattle.reader.specs.declared.Said.the-variants.{Refused}
+use Rattle.replies.specs.Calls.{asSaid}
+use Rattle.replies.specs.Sessions.{Reply, Turn, lastCount}
+use Rattle.replies.specs.Sessions.{Promised}
+use Rattle.replies.specs.declared.Said.the-variants.{Refused}
 
 -- A reply that refuses with the number r: the reader as it came in, and zeros throughout every lent slice.
 pub record Refuses (call : Call) (c r : ℕ) (reply : Reply) : Type 0 where

@@ -22,7 +22,7 @@ use Rattle.grammar.proofs.Post.{Post, any-post}
 use Rattle.parse.specs.Answers.{raisedWords}
 use Rattle.flatten.specs.Operations.{flatItems, solutionFits, solutionFinal}
 use Rattle.session.specs.Session.{Call, Term, aRead, aSort, anExpr, aBind, aSolution, termItems, draftItems, termWords, report, make, made, roomFor, final, outcome}
-use Rattle.reader.specs.Calls.{oneCall, allCall, sortCall, exprCall, bindCall, solutionCall}
+use Rattle.replies.specs.Calls.{oneCall, allCall, sortCall, exprCall, bindCall, solutionCall}
 
 -- What is known of a call at the count c, whose operation decides f.
 pub record Known {A : Type 0} (call : Call) (c : ℕ) (words : A → List ℕ) (numbers : A → Said) (f : Final A) : Type 0 where

@@ -5,8 +5,8 @@ use mathlib.Core.Bool.{true, false}
 use native.Mathlib.Omega.{arith}
 use Rattle.reading.specs.Answer as answer
 use Rattle.session.specs.Session.{Term, aRead, aSort, anExpr, aBind, aSolution, report}
-use Rattle.reader.specs.Calls.{asSaid}
-use Rattle.reader.specs.declared.Said.the-variants.{Accepted, Refused}
+use Rattle.replies.specs.Calls.{asSaid}
+use Rattle.replies.specs.declared.Said.the-variants.{Accepted, Refused}
 
 pub refused-same : {a b : ℕ} → Refused a ≡ Refused b → a ≡ b
 refused-same e = cc

@@ -14,9 +14,10 @@ use Rattle.grammar.proofs.Post.{Post}
 use Rattle.session.specs.Session.{Call, Term, termItems, draftItems, termWords, made, roomFor, final, Outcome, outcome}
 use Rattle.session.proofs.Made.{Fine, make-fine}
 use Rattle.session.proofs.Calls.{when-refused, when-accepted, decides-long}
-use Rattle.reader.specs.Calls.{asSaid}
-use Rattle.reader.specs.Sessions.{Reply, Promised}
-use Rattle.reader.specs.Demand3.{Refuses, Accepts}
+use Rattle.replies.specs.Calls.{asSaid}
+use Rattle.replies.specs.Sessions.{Reply}
+use Rattle.replies.specs.Sessions.{Promised}
+use Rattle.replies.specs.Demand3.{Refuses, Accepts}
 
 -- What a call makes is fine.
 pub fine : (call : Call) (m : Term) (n : ℕ) → made call ≡ ok m n → Fine (call .op) 0 m n

@@ -16,10 +16,10 @@ use Rattle.grammar.specs.Item.{bound}
 use Rattle.grammar.proofs.Raise.{words-raise}
 use Rattle.grammar.proofs.RuledOut.{unraised}
 use Rattle.session.specs.Session.{Call, Term, termItems, termWords}
-use Rattle.reader.specs.Sessions.{Reply}
-use Rattle.reader.specs.Demand3.{BothRefuse, BothAccept, Later, Alike, early, later}
-use Rattle.reader.specs.declared.Said.the-variants.{Accepted, Refused}
-use Rattle.reader.proofs.Saying.{refused-same, apart, not-refused}
+use Rattle.replies.specs.Sessions.{Reply}
+use Rattle.replies.specs.Demand3.{BothRefuse, BothAccept, Later, Alike, early, later}
+use Rattle.replies.specs.declared.Said.the-variants.{Accepted, Refused}
+use Rattle.replies.proofs.Saying.{refused-same, apart, not-refused}
 
 -- Lists of the same length in front of others that make the same list.
 heads-same : (xs ys r s : List ℕ) → length xs ≡ length ys → xs ++ r ≡ ys ++ s → xs ≡ ys
