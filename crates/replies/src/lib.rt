@@ -21,7 +21,7 @@ pub fn read(answer: text::Answer) -> Said
     }
 }
 
-// A sort says how many words it has, and 0.
+// A sort, and an expression that is flattened, says how many words it has, and 0.
 pub fn sized(answer: sorts::Answer) -> Said
     ensures { λ r. ⌜ r ≡ sizeSaid answer ⌝ }
 {

@@ -1,3 +1,4 @@
+pub mod Heard
 pub mod Reply
 pub mod Sessions
 pub mod Smtlib

@@ -18,8 +18,8 @@ use Rattle.replies.specs.Demand3.{Demand3}
 use Rattle.replies.specs.declared.Said.{Said}
 use Rattle.replies.specs.declared.Said.the-variants.{Accepted, Refused}
 use Rattle.replies.proofs.Whole.{demand3, next-fits}
-use Rattle.ffi.specs.Reply.{Reply, Promised, refusalOf, firstOf, secondOf}
-use Rattle.ffi.specs.Sessions.{Turn, opensAt, leaves, Session, saidBy, onReader, allOnReader}
+use Rattle.boundary.specs.Reply.{Reply, Promised, refusalOf, firstOf, secondOf}
+use Rattle.boundary.specs.Sessions.{Turn, opensAt, leaves, Session, saidBy, onReader, allOnReader}
 
 -- What is said is told by the three numbers.
 said-by : (s : answer.Said) → Positive s → pick (eqb (refusalOf s) 0) (Accepted (firstOf s) (secondOf s)) (Refused (refusalOf s)) ≡ asSaid s

@@ -3,7 +3,7 @@ use Prim.Native.Nat.{ℕ}
 use mathlib.Core.Path.{_≡_}
 use mathlib.Core.List.{List}
 use Rattle.smt.specs.Operation.{smtlibSaid, smtlibOut}
-use Rattle.ffi.specs.Reply.{refusalOf, firstOf}
+use Rattle.boundary.specs.Reply.{refusalOf, firstOf}
 
 -- The number returned, how many bytes there are, and the output.
 pub record Bytes : Type 0 where

@@ -9,7 +9,7 @@ use Rattle.session.specs.Compared.{readsOrSorts}
 use Rattle.replies.specs.Sessions as reader
 use Rattle.replies.specs.declared.Said.{Said}
 use Rattle.replies.specs.declared.Said.the-variants.{Accepted, Refused}
-use Rattle.ffi.specs.Reply.{Reply, Promised}
+use Rattle.boundary.specs.Reply.{Reply, Promised}
 
 -- A call and what the C function returned and left.
 pub record Turn : Type 0 where
