@@ -10,8 +10,8 @@ use Rattle.grammar.specs.Item.{wordsOf}
 use Rattle.grammar.specs.Expr.{Expr, Exprs, node, app, enil, econs, exprItems}
 use Rattle.grammar.specs.Shape.{MaybeSortCoded, Coded, CodedAll, depth, depths}
 use Rattle.flatten.specs.Uncurry.{join, applied, uncurry, uncurryAll}
-use Rattle.judge.specs.Judge.{reads, judgeExpr}
-use Rattle.judge.proofs.Back.{judged-back}
+use Rattle.judging.specs.Judge.{reads, judgeExpr}
+use Rattle.judging.proofs.Back.{judged-back}
 use Rattle.flatten.proofs.Uncurry.{exprs-uncurry}
 
 module _ (limit numbers : ℕ) where

@@ -16,8 +16,8 @@ use Rattle.grammar.proofs.Post.{Post, lifted-post, map-post}
 use Rattle.grammar.proofs.SolutionOf.{SolutionOf, solution-of}
 use Rattle.grammar.proofs.Small.{Small, SmallAll, small}
 use Rattle.grammar.proofs.TheTree.{the-tree}
-use Rattle.judge.specs.Judge.{reads, judgeSolution}
-use Rattle.judge.proofs.Back.{solution-back}
+use Rattle.judging.specs.Judge.{reads, judgeSolution}
+use Rattle.judging.proofs.Back.{solution-back}
 use Rattle.flatten.specs.Uncurry.{flattened}
 use Rattle.flatten.proofs.FlatCoded.{uncurry-coded, uncurry-depth}
 

@@ -14,22 +14,23 @@ use Rattle.grammar.specs.Expr.{Kind, Expr, Exprs, exprs, flag, kindItems, outSo
 use Rattle.grammar.proofs.Items.{words-append}
 use Rattle.flatten.specs.Uncurry.{join, uncurry, uncurryAll, mostOperands, mostOperandsAll}
 use Rattle.flatten.specs.Flat.{gathered, spine}
-use Rattle.judge.specs.Judge.{Judged, reads, operandsOf, argumentsOf, sortIf, header, exprDeep}
-use Rattle.judge.specs.Ends.{behindOf, endOf, headOf}
+use Rattle.judging.specs.Judge.{Judged, reads, operandsOf, argumentsOf, sortIf, header, exprDeep}
+use Rattle.judging.specs.Ends.{behindOf, endOf}
+use Rattle.heads.specs.Heads.{headOf}
 use Rattle.flatten.specs.Operations.{noText}
-use Rattle.judge.specs.Spelled.{Spelled}
+use Rattle.judging.specs.Spelled.{Spelled}
 use Rattle.writing.specs.Wrote.{mostCount, Wrote}
 use Rattle.flatten.specs.Writing.{WroteExpr, WroteExprs, Patched, Chained}
-use Rattle.judge.specs.declared.expr_words.End.{End}
-use Rattle.judge.specs.declared.expr_words.Header.the-variants as head
+use Rattle.judging.specs.declared.End.{End}
+use Rattle.heads.specs.declared.Header.the-variants as head
 use Rattle.flatten.specs.declared.write.Places.{Places}
 use Rattle.flatten.specs.declared.write.Joined.{Joined}
 use Rattle.judge.proofs.ReadExpr.{siblings, head-operands, head-arguments, head-no}
 use Rattle.flatten.proofs.Uncurry.{exprs-uncurry, exprs-join, items-join, uncurry-join, uncurry-chain, most-join}
-use Rattle.judge.proofs.Spell.{Low, spelled-inside}
-use Rattle.judge.proofs.SpellKind.{operands-spelled, arguments-spelled}
-use Rattle.judge.proofs.SpellExpr.{out-spelled, several-count, exprs-spelled}
-use Rattle.judge.proofs.Taken.{read-no-room, read-no-header, read-operands, read-arguments, read-none, read-more}
+use Rattle.judging.proofs.Spell.{Low, spelled-inside}
+use Rattle.judging.proofs.SpellKind.{operands-spelled, arguments-spelled}
+use Rattle.judging.proofs.SpellExpr.{out-spelled, several-count, exprs-spelled}
+use Rattle.judging.proofs.Taken.{read-no-room, read-no-header, read-operands, read-arguments, read-none, read-more}
 use Rattle.writing.proofs.Wrote.{wrote-none, wrote-seq, wrote-more, wrote-as, wrote-first, wrote-full}
 use Rattle.flatten.proofs.Patched.{wrote-patched}
 

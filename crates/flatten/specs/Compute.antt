@@ -1,7 +1,7 @@
 -- Opens every definition of this crate at once, for claims that are proved by computing.
 use Rattle.grammar.specs.Compute.{parseComputes}
 use Rattle.flatten.specs.Flat.{gathered, spine}
-use Rattle.judge.specs.Judge.{word, wordBelow, choose, twoWords, fourWords, several, spanWithin, nameWithin, ctors, sortKinds, sortDeep, sortAt, binderAt, bindersAt, kinds, header, sortIf, planned, exprDeep, atEnd, exprAt, judgeExpr, judgeSolution}
+use Rattle.judging.specs.Judge.{word, wordBelow, choose, twoWords, fourWords, several, spanWithin, nameWithin, ctors, sortKinds, sortDeep, sortAt, binderAt, bindersAt, kinds, header, sortIf, planned, exprDeep, atEnd, exprAt, judgeExpr, judgeSolution}
 use Rattle.flatten.specs.Operations.{flatFits, flattenBy, flattenFinal, flattenSaid, flattenOut, solutionFits, solutionFinal}
 use Rattle.flatten.specs.Uncurry.{join, applied, uncurry, mostOperands}
 

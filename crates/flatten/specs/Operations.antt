@@ -10,7 +10,7 @@ use Rattle.grammar.specs.Item.{Item, wordsOf}
 use Rattle.grammar.specs.Expr.{Expr, exprItems, Solution, solutionItems}
 use Rattle.grammar.specs.Operations.{makeSolution}
 use Rattle.flatten.specs.Uncurry.{uncurry, flattened, mostOperands}
-use Rattle.judge.specs.Judge.{Judged, reads, fails, judgeExpr}
+use Rattle.judging.specs.Judge.{Judged, reads, fails, judgeExpr}
 
 abbrev pub exprWords : Expr → List ℕ
 exprWords e = wordsOf (exprItems e)

@@ -7,7 +7,7 @@ use Rattle.grammar.specs.Item.{wordsOf}
 use Rattle.grammar.specs.Expr.{Expr, Exprs, exprItems, exprsItems, exprs}
 use Rattle.writing.specs.Wrote.{mostCount, Wrote}
 use Rattle.flatten.specs.Uncurry.{uncurry, uncurryAll, mostOperands, mostOperandsAll}
-use Rattle.judge.specs.Judge.{reads, exprDeep}
+use Rattle.judging.specs.Judge.{reads, exprDeep}
 use Rattle.flatten.specs.Operations.{noText}
 use Rattle.flatten.specs.declared.write.Places.{Places}
 use Rattle.flatten.specs.declared.write.Joined.{Joined}

@@ -8,18 +8,18 @@ ghost use Rattle.grammar.specs.Sort.{Sort};
 ghost use Rattle.grammar.specs.Expr.{Expr, Exprs, enil, econs};
 ghost use Rattle.flatten.specs.Uncurry.{join};
 ghost use Rattle.flatten.specs.Flat.{gathered, spine};
-ghost use Rattle.judge.specs.Judge.{reads, several, sortIf, exprDeep};
+ghost use Rattle.judging.specs.Judge.{reads, several, sortIf, exprDeep};
 ghost use Rattle.flatten.specs.Operations.{noText};
-ghost use Rattle.judge.specs.Spelled.{Spelled};
+ghost use Rattle.judging.specs.Spelled.{Spelled};
 ghost use Rattle.writing.specs.Wrote.{Wrote, mostCount};
 ghost use Rattle.flatten.specs.Writing.{WroteExpr, WroteExprs, Patched, Chained};
-use judge::expr_words::End;
-use judge::expr_words::Header;
+use heads::Header;
+use heads::head;
 use judge::expr_words::NO_TEXT;
-use judge::expr_words::behind;
 use judge::expr_words::exprs_end;
-use judge::expr_words::head;
 use judge::expr_words::out_sort;
+use judging::End;
+use judging::behind;
 use lexing::words::put;
 
 // One more than the largest count that a word holds.

@@ -3,7 +3,7 @@ ghost use mathlib.Core.Path.{_≡_};
 ghost use mathlib.Core.List.{List};
 ghost use Prim.Native.Nat.{ℕ};
 ghost use Rattle.grammar.specs.Expr.{Binder, Kind};
-ghost use Rattle.judge.specs.Judge.{reads, operandsOf, bindersAt, header};
+ghost use Rattle.judging.specs.Judge.{reads, operandsOf, bindersAt, header};
 ghost use Rattle.nodes.specs.Node.{nodeOf};
 ghost use Rattle.nodes.specs.declared.kind.Node.the-variants as told;
 ghost use Rattle.writing.specs.Quads.{asWide};

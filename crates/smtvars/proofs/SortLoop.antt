@@ -7,9 +7,9 @@ use lib.ListN.{length, length-append}
 use Rattle.reading.specs.Answer.{Ans, got}
 use Rattle.reading.proofs.Placed.{at-inside, at-right}
 use Rattle.grammar.specs.Sort.{Sort, Sorts, sorts, sortWords, sortsWords}
-use Rattle.judge.specs.Judge.{reads, sortAt}
-use Rattle.judge.specs.Spelled.{Spelled}
-use Rattle.judge.proofs.Spell.{Low}
+use Rattle.judging.specs.Judge.{reads, sortAt}
+use Rattle.judging.specs.Spelled.{Spelled}
+use Rattle.judging.proofs.Spell.{Low}
 use Rattle.writing.specs.Wrote.{WroteBytes}
 use Rattle.smtnames.specs.Pieces.{joined, sortText}
 use Rattle.smtsorts.specs.SortNode.{sortNodeAt, sizeOf, insideOf, openText}

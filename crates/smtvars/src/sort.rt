@@ -4,7 +4,7 @@ ghost use mathlib.Core.List.{List, [], _∷_};
 ghost use Prim.Native.Nat.{ℕ};
 ghost use lib.ListN.{replicate};
 ghost use Rattle.grammar.specs.Sort.{Sort};
-ghost use Rattle.judge.specs.Judge.{reads, sortAt};
+ghost use Rattle.judging.specs.Judge.{reads, sortAt};
 ghost use Rattle.writing.specs.Wrote.{WroteBytes};
 ghost use Rattle.smtnames.specs.Pieces.{sortText};
 ghost use Rattle.smtlevels.specs.Open.{total, ending, settled};

@@ -10,7 +10,7 @@ use Rattle.reading.specs.Pick.{pick}
 use Rattle.reading.specs.Bytes.{Maybe, just}
 use Rattle.reading.proofs.Over.{over-length, over-fits}
 use Rattle.grammar.specs.Expr.{Solution}
-use Rattle.judge.specs.Judge.{judgeSolution}
+use Rattle.judging.specs.Judge.{judgeSolution}
 use Rattle.flatten.specs.Uncurry.{flattened}
 use Rattle.flatten.specs.Operations.{noText}
 use Rattle.session.specs.Session.{final}

@@ -5,7 +5,7 @@ ghost use Prim.Native.Nat.{ℕ, _+_, _≤_, _<_};
 ghost use lib.ListN.{length, take, drop};
 ghost use Rattle.reading.specs.Answer.{got};
 ghost use Rattle.grammar.specs.Expr.{Solution};
-ghost use Rattle.judge.specs.Judge.{reads, judgeSolution};
+ghost use Rattle.judging.specs.Judge.{reads, judgeSolution};
 ghost use Rattle.writing.specs.Wrote.{WroteBytes};
 ghost use Rattle.smt.specs.Writer.{solutionTerm};
 ghost use Rattle.smtnames.specs.Pieces.{varsText};

@@ -3,7 +3,7 @@ use mathlib.Core.Path.{_≡_, refl, sym, _∙_}
 use native.Mathlib.Omega.{arith}
 use lib.ListN.{length}
 use Rattle.grammar.specs.Expr.{Exprs}
-use Rattle.judge.specs.Judge.{reads}
+use Rattle.judging.specs.Judge.{reads}
 use Rattle.flatten.specs.Operations.{noText}
 use Rattle.judge.proofs.ReadExpr.{siblings}
 use Rattle.flatten.proofs.WriteSteps.{LeftExprs, exprs-all, exprs-next, exprs-none, flat-no-room, flat-no-header, flat-operands, flat-arguments, arguments-joined, chain-no-room, chain-no-header, chain-lone, chain-on}
@@ -23,10 +23,10 @@ use Rattle.flatten.proofs.write.flats.Reads as flats
 use Rattle.flatten.proofs.write.flats.Kinds as flats-kinds
 use Rattle.flatten.proofs.write.+all_arguments+chain+flat+flats.Lts-flats as flats-lts
 use Rattle.judge.proofs.expr_words.exprs_end.Reads as exprs-end-reads
-use Rattle.judge.proofs.expr_words.head.Reads as head-reads
+use Rattle.heads.proofs.head.Reads as head-reads
 use Rattle.judge.proofs.expr_words.out_sort.Reads as out-sort-reads
 use Rattle.flatten.proofs.write.added.Reads as added-reads
-use Rattle.judge.proofs.expr_words.behind.Reads as behind-reads
+use Rattle.judging.proofs.behind.Reads as behind-reads
 use Rattle.flatten.proofs.write.copy.Reads as copy-reads
 use Rattle.flatten.proofs.write.lone.Reads as lone-reads
 use Rattle.flatten.proofs.write.patch.Reads as patch-reads

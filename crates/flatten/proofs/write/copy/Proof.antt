@@ -4,7 +4,7 @@ use mathlib.Core.Path.{_≡_, refl, _∙_}
 use mathlib.Core.List.{List}
 use native.Mathlib.Omega.{arith}
 use lib.ListN.{length, length-set}
-use Rattle.judge.specs.Spelled.{Spelled}
+use Rattle.judging.specs.Spelled.{Spelled}
 use Rattle.flatten.proofs.WriteSteps.{Left, left-all, left-next, left-none, left-full, left-past}
 use Rattle.flatten.proofs.write.copy.Statement.{statement}
 use Rattle.flatten.proofs.write.copy.Tie as tie

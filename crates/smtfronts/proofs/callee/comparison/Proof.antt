@@ -1,6 +1,6 @@
 use native.Mathlib.Omega.{arith}
 use Rattle.grammar.specs.Names.{theory}
-use Rattle.judge.proofs.ReadHead.{next}
+use Rattle.heads.proofs.ReadHead.{next}
 use Rattle.smt.specs.Vocabulary.{bitVectors}
 use Rattle.smtfronts.proofs.FrontsFunctions.{function-told, function-none}
 use borrow.Author.Needs.{needs}

@@ -1,7 +1,7 @@
 use Prim.Native.Nat.{_≤_}
 use native.Mathlib.Omega.{arith}
 use Rattle.grammar.specs.Names.{theory}
-use Rattle.judge.proofs.ReadHead.{next}
+use Rattle.heads.proofs.ReadHead.{next}
 use Rattle.smt.specs.Vocabulary.{bitVectors}
 use Rattle.smtfronts.proofs.FrontsFunctions.{function-told}
 use borrow.Author.Needs.{needs}
