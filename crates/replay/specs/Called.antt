@@ -16,9 +16,9 @@ use Rattle.replies.specs.declared.Said.the-variants.{Accepted, Refused}
 use Rattle.reader.specs.declared.Answer.{Answer}
 use Rattle.replies.specs.Calls.{oneCall, allCall, sortCall, exprCall, bindCall, solutionCall, asSaid}
 use Rattle.recorded.specs.declared.line.Line.{Line}
-use Rattle.recorded.specs.declared.slices.Reply.{Reply}
+use Rattle.compared.specs.declared.Reply.{Reply}
 use Rattle.recorded.specs.Spelled.{bytesIn, wordsIn}
-use Rattle.recorded.specs.Recorded.{patterns, isRecorded, isClear}
+use Rattle.compared.specs.Recorded.{patterns, isRecorded, isClear}
 
 -- The numbers of what a reader says, at the count of the reader that comes back. After a refusal nothing is reported.
 abbrev pub replyTo : Said → ℕ → Reply

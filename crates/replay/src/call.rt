@@ -1,15 +1,15 @@
 // One call of a reader.
 ghost use mathlib.Core.Path.{_≡_};
-ghost use Rattle.recorded.specs.Recorded.{isClear, filled};
+ghost use Rattle.compared.specs.Recorded.{isClear, filled};
 ghost use Rattle.session.specs.Session.{outcome};
 ghost use Rattle.replay.specs.Called.{replyTo, callOf, Ran, isOutcome, isSameOn, countOn, isSame, countAfter};
+use compared::Reply;
+use compared::fill;
+use compared::is_recorded;
+use compared::is_zero;
 use recorded::input::put_bytes;
 use recorded::input::put_words;
 use recorded::line::Line;
-use recorded::slices::Reply;
-use recorded::slices::fill;
-use recorded::slices::is_recorded;
-use recorded::slices::is_zero;
 
 // The reader that came back, and whether the answer was the recorded one.
 pub struct Done {

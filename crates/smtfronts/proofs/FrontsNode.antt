@@ -22,7 +22,7 @@ use Rattle.smtnames.specs.Pieces.{joined, nameText, freshText, stringText, vars
 use Rattle.smtoperators.specs.Operators.{operatorText}
 use Rattle.smtbools.specs.Bools.{foldedText}
 use Rattle.smtfronts.specs.Fronts.{frontOf, frontText, bitsText, nodeText, Numbered, existsText}
-use Rattle.smtfronts.proofs.FrontsSymbols.{own-bare}
+use Rattle.smtfunctions.proofs.Symbols.{own-bare}
 
 -- Operators and relations have numbers in their tables.
 op-small : (op : BinOp) → opNumber op < 5

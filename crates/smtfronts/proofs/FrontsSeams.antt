@@ -19,7 +19,8 @@ use Rattle.smt.specs.Writer.{freshSymbol, bitsIdent, fitsWidth, Form, alone, so
 use Rattle.smt.proofs.Text.{barred-text, fresh-text}
 use Rattle.smtnames.specs.Pieces.{identText, nameText, freshText}
 use Rattle.smtseams.specs.Seams.{nodeLets, nodeCloses}
-use Rattle.smtfronts.specs.Fronts.{formLets, formCloses, functionText, calleeText}
+use Rattle.smtfronts.specs.Fronts.{formLets, formCloses, calleeText}
+use Rattle.smtfunctions.specs.Functions.{functionText}
 use Rattle.smtfronts.proofs.FrontsFormed.{every-got}
 
 -- A form with the same bytes between its operands and behind them.

@@ -17,10 +17,10 @@ use smtlevels::standing;
 use smtlevels::standing_below;
 use smtnames::answers::Walked;
 use smtnames::answers::Written;
-use smtsorts::sort_node::count;
 use smtsorts::sort_node::opened;
-use smtsorts::sort_node::size;
-use smtsorts::sort_node::sort_at;
+use sortnodes::count;
+use sortnodes::size;
+use sortnodes::sort_at;
 use writing::byte;
 
 // How many lists end behind a sort without sorts inside it, and how many of the others are known.
