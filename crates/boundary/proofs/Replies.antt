@@ -7,7 +7,7 @@ use lib.ListN.{length}
 use Rattle.reading.specs.Answer as answer
 use Rattle.reading.specs.Answer.{Final, accepts, refuses, saidOf}
 use Rattle.grammar.specs.Expr.{Expr}
-use Rattle.flatten.specs.Operations.{exprWords, flattenFinal, flattenSaid, flattenOut}
+use Rattle.flattening.specs.Operations.{exprWords, flattenFinal, flattenSaid, flattenOut}
 use Rattle.flatten.specs.Answers.{flattenAnswer}
 use Rattle.sorts.specs.declared.Answer.{Answer}
 use Rattle.session.specs.Session.{Call, Outcome, outcome}

@@ -3,7 +3,7 @@ use Prim.Native.Nat.{ℕ}
 use mathlib.Core.Path.{_≡_}
 use mathlib.Core.List.{List, []}
 use Rattle.reading.specs.Answer.{Said, accepted, refused}
-use Rattle.flatten.specs.Operations.{flattenSaid, flattenOut}
+use Rattle.flattening.specs.Operations.{flattenSaid, flattenOut}
 use Rattle.session.specs.Session.{Call, outcome}
 
 -- What is said, as three numbers: the refusal, 0 if accepted, and the two that are reported, 0 after a refusal.

@@ -12,10 +12,10 @@ use Rattle.grammar.specs.Expr.{Expr}
 use Rattle.judging.specs.Judge.{Judged, reads, fails, judgeExpr}
 use Rattle.judging.proofs.Spell.{Low}
 use Rattle.judging.proofs.SpellExpr.{judged-spelled}
-use Rattle.flatten.specs.Uncurry.{uncurry, mostOperands}
-use Rattle.flatten.specs.Operations.{exprWords, noText, flatFits, flattenBy, flattenFinal, flattenSaid}
-use Rattle.flatten.proofs.Uncurry.{shorter}
-use Rattle.flatten.proofs.FewOperands.{most-size}
+use Rattle.flattening.specs.Uncurry.{uncurry, mostOperands}
+use Rattle.flattening.specs.Operations.{exprWords, noText, flatFits, flattenBy, flattenFinal, flattenSaid}
+use Rattle.flattening.proofs.Uncurry.{shorter}
+use Rattle.flattening.proofs.FewOperands.{most-size}
 use Rattle.refusals.specs.Refusals.{isAmong, ofFlatten, FlattenRefusals}
 use Rattle.refusals.proofs.JudgeRefusals.{Fails, judge-fails}
 use Rattle.refusals.proofs.Said.{same-number, lacking-room}

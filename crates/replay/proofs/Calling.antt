@@ -13,7 +13,7 @@ use Rattle.reading.proofs.Picks.{pick-true, pick-false, pick-eq, pick-ne, pick-
 use Rattle.reading.proofs.Bytes.{same-refl}
 use Rattle.reading.proofs.Over.{over-length, over-fits}
 use Rattle.sorts.specs.declared.Answer.{Answer as FlatAnswer}
-use Rattle.flatten.specs.Operations.{flattenFinal, flattenOut}
+use Rattle.flattening.specs.Operations.{flattenFinal, flattenOut}
 use Rattle.flatten.specs.Answers.{flattenAnswer}
 use Rattle.session.specs.Session.{Call, outcome}
 use Rattle.replies.specs.declared.Said.{Said}

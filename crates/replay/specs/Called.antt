@@ -8,7 +8,7 @@ use lib.ListN.{length, drop}
 use Rattle.reading.specs.Pick.{pick}
 use Rattle.sorts.specs.declared.Answer.the-variants.{Done as flatDone, Refused as flatRefused}
 use Rattle.sorts.specs.declared.Answer.{Answer as FlatAnswer}
-use Rattle.flatten.specs.Operations.{flattenFinal, flattenOut}
+use Rattle.flattening.specs.Operations.{flattenFinal, flattenOut}
 use Rattle.flatten.specs.Answers.{flattenAnswer}
 use Rattle.session.specs.Session.{Call, Outcome, outcome}
 use Rattle.replies.specs.declared.Said.{Said}

@@ -20,7 +20,7 @@ use Rattle.grammar.proofs.Items.{words-plains}
 use Rattle.grammar.proofs.Raise.{raise-plains}
 use Rattle.grammar.proofs.Post.{Post, any-post}
 use Rattle.parse.specs.Answers.{raisedWords}
-use Rattle.flatten.specs.Operations.{flatItems, solutionFits, solutionFinal}
+use Rattle.flattening.specs.Operations.{flatItems, solutionFits, solutionFinal}
 use Rattle.session.specs.Session.{Call, Term, aRead, aSort, anExpr, aBind, aSolution, termItems, draftItems, termWords, report, make, made, roomFor, final, outcome}
 use Rattle.replies.specs.Calls.{oneCall, allCall, sortCall, exprCall, bindCall, solutionCall}
 

@@ -17,8 +17,8 @@ use Rattle.grammar.specs.Expr.{Solution, solutionItems}
 use Rattle.grammar.specs.Operations.{makeSolution}
 use Rattle.grammar.proofs.Post.{Post}
 use Rattle.grammar.proofs.Raise.{raise-zero}
-use Rattle.flatten.specs.Uncurry.{flattened}
-use Rattle.flatten.proofs.SolutionBack.{SolutionBack, FlatBack, flat-back}
+use Rattle.flattening.specs.Uncurry.{flattened}
+use Rattle.flattening.proofs.SolutionBack.{SolutionBack, FlatBack, flat-back}
 use Rattle.session.specs.Session.{Term, aSolution, termItems, draftItems, termWords, report, make, roomFor, final, outcome}
 use Rattle.replies.specs.declared.Said.{Said}
 use Rattle.replies.specs.declared.Said.the-variants.{Accepted, Refused}

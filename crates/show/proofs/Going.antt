@@ -18,7 +18,7 @@ use Rattle.judging.specs.Ends.{endOf}
 use Rattle.judging.specs.declared.End.the-variants as end
 use Rattle.judging.proofs.Spell.{Low, spelled-inside}
 use Rattle.judging.proofs.SpellExpr.{expr-spelled}
-use Rattle.flatten.specs.Operations.{noText}
+use Rattle.flattening.specs.Operations.{noText}
 use Rattle.show.specs.Lines.{line, refusalText, paramLines, solutionText}
 use Rattle.show.specs.Shown.{wordsText, hasRoom, shown}
 use Rattle.show.proofs.Stores.{sets-append}

@@ -24,7 +24,7 @@ use Rattle.judging.proofs.Spell.{Low, post-reads, spelled-none}
 use Rattle.judging.proofs.SpellSort.{binders-behind}
 use Rattle.judging.proofs.SpellExpr.{expr-spelled}
 use Rattle.judging.proofs.SolutionParts.{Parts, parts-of}
-use Rattle.flatten.specs.Operations.{noText}
+use Rattle.flattening.specs.Operations.{noText}
 use Rattle.show.specs.Lines.{solutionText}
 use Rattle.show.specs.Shown.{textOf, wordsText, hasRoom}
 use Rattle.show.proofs.Params.{text-length}

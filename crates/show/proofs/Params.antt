@@ -16,7 +16,7 @@ use Rattle.judging.proofs.FieldsBack.{moved}
 use Rattle.judging.proofs.Spell.{Low, post-reads, spelled-inside, spelled-none, spelled-seq, a-two}
 use Rattle.judging.proofs.SpellSort.{a-sort}
 use Rattle.judging.proofs.Taken.{first-read, same-value, same-end}
-use Rattle.flatten.specs.Operations.{noText}
+use Rattle.flattening.specs.Operations.{noText}
 use Rattle.show.specs.Lines.{line, refusalText, paramLines, solutionText}
 use Rattle.show.proofs.Printing.{between, line-length}
 

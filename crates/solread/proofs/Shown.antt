@@ -11,8 +11,8 @@ use Rattle.reading.specs.Bytes.{Maybe, just}
 use Rattle.reading.proofs.Over.{over-length, over-fits}
 use Rattle.grammar.specs.Expr.{Solution}
 use Rattle.judging.specs.Judge.{judgeSolution}
-use Rattle.flatten.specs.Uncurry.{flattened}
-use Rattle.flatten.specs.Operations.{noText}
+use Rattle.flattening.specs.Uncurry.{flattened}
+use Rattle.flattening.specs.Operations.{noText}
 use Rattle.session.specs.Session.{final}
 use Rattle.show.specs.Lines.{refusalText, solutionText}
 use Rattle.show.specs.Shown.{textOf, wordsText, shown}

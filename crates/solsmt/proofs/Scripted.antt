@@ -14,7 +14,7 @@ use Rattle.reading.specs.Answer.{number, noRoom, Ans, got, bad}
 use Rattle.reading.proofs.Over.{over-fits}
 use Rattle.grammar.specs.Expr.{Solution}
 use Rattle.judging.specs.Judge.{reads, judgeSolution}
-use Rattle.flatten.specs.Uncurry.{flattened}
+use Rattle.flattening.specs.Uncurry.{flattened}
 use Rattle.session.specs.Session.{final}
 use Rattle.replies.specs.declared.Said.{Said}
 use Rattle.replies.specs.declared.Said.the-variants.{Accepted, Refused}

@@ -1,5 +1,5 @@
 use mathlib.Core.Path.{_∙_}
-use Rattle.flatten.specs.Operations.{flatItems}
+use Rattle.flattening.specs.Operations.{flatItems}
 use Rattle.replies.proofs.Outcomes.{solution-known}
 use Rattle.replies.proofs.Told.{counted-told, reply}
 use borrow.Author.Needs.{needs}
