@@ -1,15 +1,18 @@
 // The library's functions for C and Rust, each but the last three a call on a reader that is opened at a count. Each returns the refusal's number, 0 if
 // accepted; a slice passes as a pointer and a length in elements. After a refusal the reported numbers are 0, and the count is as it was.
-// The contracts are `Promised`, of flattening `Flattened` (specs/Reply.antt) and of SMT-LIB `Spoken` (specs/Smtlib.antt): the reply is the
-// outcome of the call. Replies of calls on a reader are a session of which demand 3 is proved (proofs/Sessions.antt).
+// The contracts are `Promised`, of flattening `Flattened` and of SMT-LIB `Spoken`: the reply is the outcome of the call. They stand in
+// crates/boundary, which decides what is reported, and where demand 3 is proved of a session of these functions.
 ghost use mathlib.Core.List.{[]};
-ghost use Rattle.reader.specs.Calls.{oneCall, allCall, sortCall, exprCall, bindCall, solutionCall};
-ghost use Rattle.ffi.specs.Reply.{uncounted, counted, Promised, flat, Flattened};
+ghost use Rattle.replies.specs.Calls.{oneCall, allCall, sortCall, exprCall, bindCall, solutionCall};
+ghost use Rattle.boundary.specs.Reply.{uncounted, counted, Promised, flat, Flattened};
 ghost use mathlib.Core.Path.{_≡_};
-ghost use Rattle.ffi.specs.Smtlib.{spoken, Spoken};
-ghost use Rattle.ffi.specs.Version.{version};
+ghost use Rattle.boundary.specs.Smtlib.{spoken, Spoken};
+ghost use Rattle.boundary.specs.Version.{version as versionOf};
+use boundary::numbers;
+use boundary::version;
+use boundary::written;
 use reader::Reader;
-use reader::Said;
+use replies::sized;
 
 // Reads the first expression of the text: how many words it has, and the byte behind it.
 #[no_mangle]
@@ -23,18 +26,10 @@ pub extern "C" fn pinhkray_read_one(
 {
     let answer = Reader::open(0).read_one(text, out);
     let said = answer.said;
-    match said {
-        Said::Accepted(n, end) => {
-            *words = n as u64;
-            *next = end as u64;
-            0
-        }
-        Said::Refused(r) => {
-            *words = 0;
-            *next = 0;
-            r
-        }
-    }
+    let told = numbers(said);
+    *words = told.first;
+    *next = told.second;
+    told.refusal
 }
 
 // Reads all expressions of the text: how many there are, and how many words they have.
@@ -49,18 +44,10 @@ pub extern "C" fn pinhkray_read_all(
 {
     let answer = Reader::open(0).read_all(text, out);
     let said = answer.said;
-    match said {
-        Said::Accepted(k, n) => {
-            *expressions = k as u64;
-            *words = n as u64;
-            0
-        }
-        Said::Refused(r) => {
-            *expressions = 0;
-            *words = 0;
-            r
-        }
-    }
+    let told = numbers(said);
+    *expressions = told.first;
+    *words = told.second;
+    told.refusal
 }
 
 // The sort that the text begins with: how many words it has. The tree is a working slice, and zero afterwards.
@@ -75,16 +62,9 @@ pub extern "C" fn pinhkray_sort(
 {
     let answer = Reader::open(0).sort(text, tree, out);
     let said = answer.said;
-    match said {
-        Said::Accepted(size, _) => {
-            *words = size as u64;
-            0
-        }
-        Said::Refused(r) => {
-            *words = 0;
-            r
-        }
-    }
+    let told = numbers(said);
+    *words = told.first;
+    told.refusal
 }
 
 // The expression that the text begins with, not flattened: how many words it has, and the count of the reader afterwards.
@@ -102,16 +82,9 @@ pub extern "C" fn pinhkray_expression(
     let answer = Reader::open(count).expression(text, tree, out);
     *count_after = answer.reader.next;
     let said = answer.said;
-    match said {
-        Said::Accepted(n, _) => {
-            *words = n as u64;
-            0
-        }
-        Said::Refused(r) => {
-            *words = 0;
-            r
-        }
-    }
+    let told = numbers(said);
+    *words = told.first;
+    told.refusal
 }
 
 // The bind that the text begins with: how many words it has, and the count of the reader afterwards.
@@ -129,16 +102,9 @@ pub extern "C" fn pinhkray_bind(
     let reply = Reader::open(count).bind(text, tree, out);
     *count_after = reply.reader.next;
     let said = reply.said;
-    match said {
-        Said::Accepted(n, _) => {
-            *words = n as u64;
-            0
-        }
-        Said::Refused(r) => {
-            *words = 0;
-            r
-        }
-    }
+    let told = numbers(said);
+    *words = told.first;
+    told.refusal
 }
 
 // The solution that the text begins with, flattened: how many words it has, and the count of the reader afterwards. The tree and the draft
@@ -158,16 +124,9 @@ pub extern "C" fn pinhkray_solution(
     let solved = Reader::open(count).solution(text, tree, draft, out);
     *count_after = solved.reader.next;
     let said = solved.said;
-    match said {
-        Said::Accepted(n, _) => {
-            *words = n as u64;
-            0
-        }
-        Said::Refused(r) => {
-            *words = 0;
-            r
-        }
-    }
+    let told = numbers(said);
+    *words = told.first;
+    told.refusal
 }
 
 // Flattens the words of an expression: how many words there are then. It takes no reader, and changes none of the words read.
@@ -175,16 +134,9 @@ pub extern "C" fn pinhkray_solution(
 pub extern "C" fn pinhkray_flatten(words_in: &[u32], out: &mut [u32], words: &mut u64) -> u32
     ensures { λ r. ⌜ Flattened (now («words_in» .entry)) (now (out .entry)) (flat r (now (words .exit)) (now (out .exit))) ⌝ }
 {
-    match flatten::flatten(words_in, out) {
-        words::Answer::Done(flat) => {
-            *words = flat as u64;
-            0
-        }
-        words::Answer::Refused(why) => {
-            *words = 0;
-            why
-        }
-    }
+    let told = numbers(sized(flatten::flatten(words_in, out)));
+    *words = told.first;
+    told.refusal
 }
 
 // Writes the words of a solution as SMT-LIB's list of sorted variables, a space and one term: how many bytes there are. The spans of the words
@@ -198,22 +150,15 @@ pub extern "C" fn pinhkray_smtlib(
 ) -> u32
     ensures { λ r. ⌜ Spoken (now (words .entry)) (now (text .entry)) (now (out .entry)) (spoken r (now (bytes .exit)) (now (out .exit))) ⌝ }
 {
-    match smtlib::smtlib(words, text, out) {
-        smtlib::Answer::Done(n) => {
-            *bytes = n as u64;
-            0
-        }
-        smtlib::Answer::Refused(r) => {
-            *bytes = 0;
-            r
-        }
-    }
+    let told = numbers(written(smtlib::smtlib(words, text, out)));
+    *bytes = told.first;
+    told.refusal
 }
 
 // The version of the interface.
 #[no_mangle]
 pub extern "C" fn pinhkray_version() -> u32
-    ensures { λ r. ⌜ r ≡ version ⌝ }
+    ensures { λ r. ⌜ r ≡ versionOf ⌝ }
 {
-    2
+    version()
 }

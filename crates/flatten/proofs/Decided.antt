@@ -29,20 +29,20 @@ use Rattle.writing.proofs.Laid.{over-start}
 use Rattle.parse.specs.declared.Counted.the-variants as counted
 use Rattle.parse.specs.declared.Drafted.the-variants as drafted
 use Rattle.words.specs.declared.Answer.the-variants as answer
-use Rattle.flatten.specs.Uncurry.{uncurry, mostOperands}
-use Rattle.judge.specs.Judge.{reads, fails, exprDeep, exprAt, atEnd, judgeExpr}
-use Rattle.judge.specs.Ends.{endOf}
-use Rattle.flatten.specs.Operations.{exprWords, noText, flatFits, flattenBy, flattenFinal, flatItems, solutionFits, solutionFinal}
+use Rattle.flattening.specs.Uncurry.{uncurry, mostOperands}
+use Rattle.judging.specs.Judge.{reads, fails, exprDeep, exprAt, atEnd, judgeExpr}
+use Rattle.judging.specs.Ends.{endOf}
+use Rattle.flattening.specs.Operations.{exprWords, noText, flatFits, flattenBy, flattenFinal, flatItems, solutionFits, solutionFinal}
 use Rattle.writing.specs.Wrote.{mostCount, Wrote}
-use Rattle.flatten.specs.Writing.{WroteExpr}
-use Rattle.judge.specs.declared.expr_words.End.the-variants as end
-use Rattle.flatten.specs.declared.write.Places.{Places}
+use Rattle.flatwriter.specs.Writing.{WroteExpr}
+use Rattle.judging.specs.declared.End.the-variants as end
+use Rattle.flatwriter.specs.declared.Places.{Places}
 use Rattle.judge.proofs.ReadExpr.{ends-at, ends-no}
-use Rattle.flatten.proofs.Raise.{uncurry-raise}
-use Rattle.flatten.proofs.Uncurry.{shorter}
-use Rattle.flatten.proofs.FewOperands.{most-size}
+use Rattle.flattening.proofs.Raise.{uncurry-raise}
+use Rattle.flattening.proofs.Uncurry.{shorter}
+use Rattle.flattening.proofs.FewOperands.{most-size}
 use Rattle.flatten.proofs.Parsed.{ParsedSolution, parsed-solution}
-use Rattle.judge.proofs.Taken.{first-read, never-reads}
+use Rattle.judging.proofs.Taken.{first-read, never-reads}
 use Rattle.writing.proofs.Wrote.{either, wrote-laid, wrote-seq, wrote-as}
 
 -- Words that are judged as an expression are read as it.

@@ -1,11 +1,2 @@
-pub mod Uncurry
-pub mod Bound
-pub mod FlatCoded
-pub mod SolutionBack
-pub mod Raise
-pub mod Cases
 pub mod Parsed
-pub mod Patched
-pub mod WriteSteps
-pub mod FewOperands
 pub mod Decided

@@ -24,9 +24,9 @@ use Rattle.grammar.proofs.SolutionOf.{SolutionOf, solution-of}
 use Rattle.grammar.proofs.Small.{Small, SmallAll, small}
 use Rattle.grammar.proofs.Size.{Sized, SizedAll, sized}
 use Rattle.grammar.proofs.TheTree.{the-tree}
-use Rattle.judge.specs.Judge.{reads, judgeExpr}
-use Rattle.flatten.specs.Operations.{noText}
-use Rattle.judge.proofs.Back.{judged-back}
+use Rattle.judging.specs.Judge.{reads, judgeExpr}
+use Rattle.flattening.specs.Operations.{noText}
+use Rattle.judging.proofs.Back.{judged-back}
 
 -- The words of an expression, with its numbers raised by any count that has room for them, are judged as that expression.
 abbrev pub JudgedBack : Expr → ℕ → Type 0

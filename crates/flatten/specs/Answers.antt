@@ -5,7 +5,7 @@ use Rattle.grammar.specs.Expr.{Expr, Solution}
 use Rattle.words.specs.declared.Answer.{Answer}
 use Rattle.parse.specs.Answers.{saidBy, countedBy}
 use Rattle.parse.specs.declared.Counted.{Counted}
-use Rattle.flatten.specs.Operations.{exprWords, flatItems}
+use Rattle.flattening.specs.Operations.{exprWords, flatItems}
 
 -- How many words there are, or the refusal's number.
 abbrev pub flattenAnswer : Final Expr → Answer

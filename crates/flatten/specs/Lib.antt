@@ -1,6 +1,1 @@
-pub mod Uncurry
-pub mod Flat
-pub mod Operations
 pub mod Answers
-pub mod Writing
-pub mod Compute

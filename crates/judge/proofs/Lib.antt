@@ -1,15 +1,1 @@
-pub mod FieldsBack
-pub mod SortBack
-pub mod KindBack
-pub mod Back
-pub mod ReadFields
-pub mod SortWalk
-pub mod SortRead
-pub mod ReadHead
 pub mod ReadExpr
-pub mod Spell
-pub mod SpellSort
-pub mod SpellKind
-pub mod SpellExpr
-pub mod Taken
-pub mod SolutionParts

@@ -10,12 +10,13 @@ use Rattle.reading.specs.Limits.{maxNodes}
 use Rattle.reading.specs.Pick.{pick}
 use Rattle.reading.specs.Bytes.{just}
 use Rattle.grammar.specs.Expr.{Kind, Exprs, node, app, enil, econs}
-use Rattle.judge.specs.declared.expr_words.End.{End}
-use Rattle.judge.specs.declared.expr_words.End.the-variants.{At, No}
-use Rattle.judge.specs.declared.expr_words.Header.the-variants as head
-use Rattle.judge.specs.Judge.{Judged, reads, fails, Reader, Plan, operandsOf, argumentsOf, several, sortAt, sortIf, kinds, header, planned, exprDeep, atEnd, exprAt, judgeExpr, judgeSolution, word, bindersAt}
-use Rattle.judge.specs.Ends.{endOf, headOf}
-use Rattle.judge.proofs.ReadFields.{ends-ret, word-in, word-out}
+use Rattle.judging.specs.declared.End.{End}
+use Rattle.judging.specs.declared.End.the-variants.{At, No}
+use Rattle.heads.specs.declared.Header.the-variants as head
+use Rattle.judging.specs.Judge.{Judged, reads, fails, Reader, Plan, operandsOf, argumentsOf, several, sortAt, sortIf, kinds, header, planned, exprDeep, atEnd, exprAt, judgeExpr, judgeSolution, word, bindersAt}
+use Rattle.judging.specs.Ends.{endOf}
+use Rattle.heads.specs.Heads.{headOf}
+use Rattle.judging.proofs.ReadFields.{ends-ret, word-in, word-out}
 
 -- A reading whose end or refusal is known.
 pub ends-at : {A : Type 0} (x : Judged A) {n : ℕ} → At n ≡ endOf x → (a : A) × (x ≡ reads a n)

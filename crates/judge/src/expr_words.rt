@@ -1,159 +1,19 @@
-// Words judged: where a sort, an expression or binders end that begin at a place, or the refusal of words that are none.
+// Words judged: where an expression ends that begins at a place, and words that are one expression or one solution; or the refusal of others.
 ghost use mathlib.Core.Path.{_≡_};
-ghost use mathlib.Core.List.{[], _∷_};
-ghost use Prim.Native.Nat.{_≤_};
-ghost use lib.ListN.{length};
 ghost use Rattle.grammar.specs.Expr.{enil, econs};
-ghost use Rattle.judge.specs.Judge.{word, wordBelow, choose, kinds, header, sortIf, exprDeep, several, judgeExpr, judgeSolution};
-ghost use Rattle.judge.specs.Ends.{endOf, headOf, operandsAt, behindOf};
-use crate::sort_words::binders_end;
-use crate::sort_words::sort_end;
-use crate::sort_words::span_end;
-use words::expr_kinds::AND;
-use words::expr_kinds::APP;
-use words::expr_kinds::ATOM;
-use words::expr_kinds::BINARY;
-use words::expr_kinds::BIT_VEC;
-use words::expr_kinds::BOOLEAN;
-use words::expr_kinds::EXISTS;
-use words::expr_kinds::FRESH;
-use words::expr_kinds::IF;
-use words::expr_kinds::IFF;
-use words::expr_kinds::IMP;
-use words::expr_kinds::IS_CTOR;
+ghost use Rattle.judging.specs.Judge.{sortIf, exprDeep, several, judgeExpr, judgeSolution};
+ghost use Rattle.judging.specs.Ends.{endOf};
+use heads::Header;
+use heads::head;
+use judging::End;
+use sortwords::binders_end;
+use sortwords::sort_end;
 use words::expr_kinds::KINDS_END;
-use words::expr_kinds::LET;
-use words::expr_kinds::NAMED;
-use words::expr_kinds::NEG;
-use words::expr_kinds::NOT;
 use words::expr_kinds::NUMERAL;
-use words::expr_kinds::OR;
-use words::expr_kinds::STRING;
-use words::expr_kinds::THEORY;
 use words::limits::MAX_NODES;
 
 // The limit of spans where no text is lent with the words: no span ends behind it.
 pub const NO_TEXT: u64 = 8589934592;
-
-// The place behind what was read, or the number of a refusal.
-pub enum End {
-    At(usize),
-    No(u32),
-}
-
-// What the kind and the fields of an expression say: the place behind them, and how many operands follow; or, of an application, whether
-// an output sort follows its arguments and how many these are; or a refusal.
-pub enum Header {
-    Operands(usize, u32),
-    Arguments(usize, bool, u32),
-    No(u32),
-}
-
-// So many words of any value.
-fn skip(words: &[u32], at: usize, n: usize) -> End
-    requires { ⌜ at ≤ length (now words) ⌝ }
-    ensures { λ r. ⌜ r ≡ endOf (several word [] (λ a rest. a ∷ rest) n (now (words .entry)) at) ⌝ }
-{
-    if words.len() - at < n {
-        return End::No(14);
-    }
-    End::At(at + n)
-}
-
-// A word below a bound.
-fn below(words: &[u32], at: usize, bound: u32) -> End
-    ensures { λ r. ⌜ r ≡ endOf (wordBelow bound (now (words .entry)) at) ⌝ }
-{
-    if at < words.len() {
-        if words[at] < bound {
-            return End::At(at + 1);
-        }
-    }
-    End::No(14)
-}
-
-// So many operands behind the fields.
-fn operands(fields: End, n: u32) -> Header
-    ensures { λ r. ⌜ r ≡ operandsAt fields n ⌝ }
-{
-    match fields {
-        End::At(a) => Header::Operands(a, n),
-        End::No(r) => Header::No(r),
-    }
-}
-
-// The fields of And, kind 42, and of Or: how many operands follow.
-fn counted(words: &[u32], at: usize) -> Header
-    ensures { λ r. ⌜ r ≡ headOf (choose 32 (kinds 0) 42 (now (words .entry)) at) ⌝ }
-{
-    if at < words.len() {
-        return Header::Operands(at + 1, words[at]);
-    }
-    Header::No(14)
-}
-
-// The fields of an application, kind 38: whether it has an output sort, and how many arguments follow.
-fn arguments(words: &[u32], at: usize) -> Header
-    ensures { λ r. ⌜ r ≡ headOf (choose 32 (kinds 0) 38 (now (words .entry)) at) ⌝ }
-{
-    if at < words.len() {
-        let f = words[at];
-        let a = at + 1;
-        if f < 2 {
-            if a < words.len() {
-                return Header::Arguments(a + 1, f == 1, words[a]);
-            }
-        }
-    }
-    Header::No(14)
-}
-
-// The fields of Exists, kind 51: how many binders, and these.
-fn quantified(words: &[u32], at: usize, limit: u64) -> Header
-    ensures { λ r. ⌜ r ≡ headOf (choose 32 (kinds limit) 51 (now (words .entry)) at) ⌝ }
-{
-    if at < words.len() {
-        return operands(binders_end(words, at + 1, words[at], limit), 1);
-    }
-    Header::No(14)
-}
-
-// The kind and the fields of an expression.
-pub fn head(words: &[u32], at: usize, limit: u64) -> Header
-    ensures { λ r. ⌜ r ≡ headOf (header limit (now (words .entry)) at) ⌝ }
-{
-    if words.len() <= at {
-        return Header::No(14);
-    }
-    let k = words[at];
-    let a = at + 1;
-    if k < NUMERAL {
-        return Header::No(14);
-    }
-    match k {
-        NUMERAL => operands(skip(words, a, 4), 0),
-        BOOLEAN => operands(below(words, a, 2), 0),
-        STRING => operands(span_end(words, a, limit), 0),
-        BIT_VEC => operands(skip(words, a, 5), 0),
-        FRESH => operands(skip(words, a, 2), 0),
-        NAMED => operands(span_end(words, a, limit), 0),
-        APP => arguments(words, a),
-        NEG => Header::Operands(a, 1),
-        BINARY => operands(below(words, a, 5), 2),
-        IF => Header::Operands(a, 3),
-        AND => counted(words, a),
-        OR => counted(words, a),
-        NOT => Header::Operands(a, 1),
-        IMP => Header::Operands(a, 2),
-        IFF => Header::Operands(a, 2),
-        ATOM => operands(below(words, a, 6), 2),
-        LET => operands(span_end(words, a, limit), 2),
-        THEORY => operands(below(words, a, 42), 0),
-        IS_CTOR => operands(span_end(words, a, limit), 1),
-        EXISTS => quantified(words, a, limit),
-        _ => Header::No(14),
-    }
-}
 
 // An expression where there is no room for one.
 fn no_room(words: &[u32], at: usize) -> End
@@ -255,15 +115,5 @@ pub fn solution(words: &[u32], limit: u64) -> End
             End::No(r) => End::No(r),
         },
         End::No(r) => End::No(r),
-    }
-}
-
-// The place behind what was judged before, or the place before it.
-pub fn behind(end: End, at: usize) -> usize
-    ensures { λ r. ⌜ r ≡ behindOf end at ⌝ }
-{
-    match end {
-        End::At(n) => n,
-        End::No(_) => at,
     }
 }

@@ -9,12 +9,12 @@ use Rattle.reading.specs.Answer.{notWords}
 use Rattle.reading.proofs.Picks.{pick-holds}
 use Rattle.grammar.specs.Expr.{opAdd, opSub, opMul, opDiv, opMod, relEq, relNe, relGt, relGe, relLt, relLe, Binder, Kind, kNum, kBool, kStr, kBitVec, kFresh, kNamed, kNeg, kBin, kIf, kAnd, kOr, kNot, kImp, kIff, kAtom, kLet, kTheory, kIsCtor, kExists}
 use Rattle.grammar.specs.Shape.{opensScope}
-use Rattle.judge.specs.Judge.{reads, Reader, _>>=_, ret, fail, word, wordBelow, among, orFail, choose, twoWords, fourWords, Plan, operandsOf, argumentsOf, plan, spanWithin, nameWithin, bindersAt, kinds, header}
+use Rattle.judging.specs.Judge.{reads, Reader, _>>=_, ret, fail, word, wordBelow, among, orFail, choose, twoWords, fourWords, Plan, operandsOf, argumentsOf, plan, spanWithin, nameWithin, bindersAt, kinds, header}
 use Rattle.nodes.specs.Node.{nodeOf}
 use Rattle.nodes.specs.declared.kind.Node.the-variants as told
-use Rattle.judge.proofs.SpellKind.{binders-count}
+use Rattle.judging.proofs.SpellKind.{binders-count}
 use Rattle.nodes.proofs.NodeAt.{plansOf}
-use Rattle.judge.proofs.Taken.{never-reads, first-read, word-read}
+use Rattle.judging.proofs.Taken.{never-reads, first-read, word-read}
 
 module _ (limit : ℕ) (ws : List ℕ) where
   -- Where an exists is read, its binders are read one word behind.

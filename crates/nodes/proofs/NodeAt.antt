@@ -13,12 +13,12 @@ use Rattle.reading.specs.Number.{Wide}
 use Rattle.reading.specs.Answer.{notWords}
 use Rattle.grammar.specs.Expr.{VarName, opAdd, opSub, opMul, opDiv, opMod, relEq, relNe, relGt, relGe, relLt, relLe, Kind, kNum, kBool, kStr, kBitVec, kFresh, kNamed, kBin, kAtom, kLet, kTheory, kIsCtor, kExists}
 use Rattle.grammar.specs.Scope.{varOf}
-use Rattle.judge.specs.Judge.{reads, Reader, _>>=_, ret, fail, word, wordBelow, among, orFail, choose, twoWords, fourWords, Plan, operandsOf, argumentsOf, plan, spanWithin, nameWithin, bindersAt, kinds, header}
+use Rattle.judging.specs.Judge.{reads, Reader, _>>=_, ret, fail, word, wordBelow, among, orFail, choose, twoWords, fourWords, Plan, operandsOf, argumentsOf, plan, spanWithin, nameWithin, bindersAt, kinds, header}
 use Rattle.nodes.specs.Node.{nodeOf, nodesAt, orOther, nodeAt}
 use Rattle.nodes.specs.declared.kind.Node.{Node}
 use Rattle.nodes.specs.declared.kind.Node.the-variants as told
-use Rattle.judge.proofs.SpellKind.{binders-count}
-use Rattle.judge.proofs.Taken.{never-reads, first-read, same-value, same-end, word-read}
+use Rattle.judging.proofs.SpellKind.{binders-count}
+use Rattle.judging.proofs.Taken.{never-reads, first-read, same-value, same-end, word-read}
 
 -- Behind the end there is nothing to be found.
 pub behind-end : (ws : List ℕ) (i : ℕ) → length ws ≤ i → getD ws i 0 ≡ 0

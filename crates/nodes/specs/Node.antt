@@ -6,7 +6,7 @@ use lib.ListN.{length, getD}
 use Rattle.reading.specs.Pick.{pick}
 use Rattle.reading.specs.Bytes.{Maybe, nothing, just}
 use Rattle.grammar.specs.Expr.{opNumber, relNumber, Kind, kNum, kBool, kStr, kBitVec, kFresh, kNamed, kNeg, kBin, kIf, kAnd, kOr, kNot, kImp, kIff, kAtom, kLet, kTheory, kIsCtor, kExists}
-use Rattle.judge.specs.Judge.{among}
+use Rattle.judging.specs.Judge.{among}
 use Rattle.nodes.specs.declared.kind.Node.{Node}
 use Rattle.nodes.specs.declared.kind.Node.the-variants as told
 

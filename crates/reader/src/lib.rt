@@ -1,27 +1,26 @@
 // The reader: one count, and the operations of document 01 as its methods. The count is the next fresh number, and one reader may serve for
 // years: each call takes it by value and gives it back inside the answer, with the count raised by the numbers that the answer binds, so
-// that no number is bound twice. Each contract is `Promised` (specs/Sessions.antt): the reply is the `outcome` of the call, at the reader's
-// count (crates/session/specs/Session.antt). specs/Calls.antt says which call each method is. Demand 3 is proved of those very replies, for
-// every list of calls (specs/Demand3.antt).
+// that no number is bound twice. Each contract is `Promised` (crates/replies/specs/Sessions.antt): the reply is the `outcome` of the call, at
+// the reader's count (crates/session/specs/Session.antt). What is said is decided in crates/replies, where demand 3 is proved of those very
+// replies, for every list of calls.
 //
 // No method asks anything of its caller. An accepted call writes its words from the start of the output, and nothing behind them. A refused
 // one gives the reader back as it came, and zeroes every slice that it was lent. Tree and draft are working slices, and zero after
 // every call.
 ghost use mathlib.Core.Path.{_≡_};
 ghost use mathlib.Core.List.{[]};
-ghost use Rattle.reader.specs.Calls.{oneCall, allCall, sortCall, exprCall, bindCall, solutionCall};
-ghost use Rattle.reader.specs.Sessions.{Promised, replied};
-use parse::Counted;
+ghost use Rattle.replies.specs.Calls.{oneCall, allCall, sortCall, exprCall, bindCall, solutionCall};
+ghost use Rattle.replies.specs.Sessions.{Promised};
+ghost use Rattle.reader.specs.Replied.{replied};
+use replies::Said;
+use replies::count_after;
+use replies::counted;
+use replies::read;
+use replies::sized;
 
 // The next fresh number.
 pub struct Reader {
     pub next: u64,
-}
-
-// The two numbers that an accepted call reports, or the number of the refusal.
-pub enum Said {
-    Accepted(usize, usize),
-    Refused(u32),
 }
 
 // What a call says, and the reader for the next call.
@@ -44,15 +43,9 @@ impl Reader {
     pub fn read_one(self, text: &[u8], out: &mut [u32]) -> Answer
         ensures { λ r. ⌜ Promised (oneCall (now (text .entry)) (now (out .entry))) (self .next) (replied r [] [] (now (out .exit))) ⌝ }
     {
-        match text::read_one(text, out) {
-            text::Answer::Accepted(words, end) => Answer {
-                reader: self,
-                said: Said::Accepted(words, end),
-            },
-            text::Answer::Refused(r) => Answer {
-                reader: self,
-                said: Said::Refused(r),
-            },
+        Answer {
+            said: read(text::read_one(text, out)),
+            reader: self,
         }
     }
 
@@ -60,15 +53,9 @@ impl Reader {
     pub fn read_all(self, text: &[u8], out: &mut [u32]) -> Answer
         ensures { λ r. ⌜ Promised (allCall (now (text .entry)) (now (out .entry))) (self .next) (replied r [] [] (now (out .exit))) ⌝ }
     {
-        match text::read_all(text, out) {
-            text::Answer::Accepted(expressions, words) => Answer {
-                reader: self,
-                said: Said::Accepted(expressions, words),
-            },
-            text::Answer::Refused(r) => Answer {
-                reader: self,
-                said: Said::Refused(r),
-            },
+        Answer {
+            said: read(text::read_all(text, out)),
+            reader: self,
         }
     }
 
@@ -77,15 +64,9 @@ impl Reader {
     pub fn sort(self, text: &[u8], tree: &mut [u32], out: &mut [u32]) -> Answer
         ensures { λ r. ⌜ Promised (sortCall (now (text .entry)) (now (tree .entry)) (now (out .entry))) (self .next) (replied r (now (tree .exit)) [] (now (out .exit))) ⌝ }
     {
-        match parse::sort::sort(text, tree, out) {
-            words::Answer::Done(size) => Answer {
-                reader: self,
-                said: Said::Accepted(size, 0),
-            },
-            words::Answer::Refused(r) => Answer {
-                reader: self,
-                said: Said::Refused(r),
-            },
+        Answer {
+            said: sized(parse::sort::sort(text, tree, out)),
+            reader: self,
         }
     }
 
@@ -94,16 +75,12 @@ impl Reader {
     pub fn expression(self, text: &[u8], tree: &mut [u32], out: &mut [u32]) -> Answer
         ensures { λ r. ⌜ Promised (exprCall (now (text .entry)) (now (tree .entry)) (now (out .entry))) (self .next) (replied r (now (tree .exit)) [] (now (out .exit))) ⌝ }
     {
-        let start = self.next;
-        match parse::expression::expression(text, tree, out, start) {
-            Counted::Done(words, next) => Answer {
-                reader: Reader { next },
-                said: Said::Accepted(words, 0),
+        let answer = parse::expression::expression(text, tree, out, self.next);
+        Answer {
+            reader: Reader {
+                next: count_after(answer, self.next),
             },
-            Counted::Refused(r) => Answer {
-                reader: Reader { next: start },
-                said: Said::Refused(r),
-            },
+            said: counted(answer),
         }
     }
 
@@ -112,16 +89,12 @@ impl Reader {
     pub fn bind(self, text: &[u8], tree: &mut [u32], out: &mut [u32]) -> Answer
         ensures { λ r. ⌜ Promised (bindCall (now (text .entry)) (now (tree .entry)) (now (out .entry))) (self .next) (replied r (now (tree .exit)) [] (now (out .exit))) ⌝ }
     {
-        let first = self.next;
-        match parse::bind::bind(text, tree, out, first) {
-            Counted::Done(words, after) => Answer {
-                reader: Reader { next: after },
-                said: Said::Accepted(words, 0),
+        let answer = parse::bind::bind(text, tree, out, self.next);
+        Answer {
+            reader: Reader {
+                next: count_after(answer, self.next),
             },
-            Counted::Refused(r) => Answer {
-                reader: Reader { next: first },
-                said: Said::Refused(r),
-            },
+            said: counted(answer),
         }
     }
 
@@ -137,16 +110,12 @@ impl Reader {
     ) -> Answer
         ensures { λ r. ⌜ Promised (solutionCall (now (text .entry)) (now (tree .entry)) (now (draft .entry)) (now (out .entry))) (self .next) (replied r (now (tree .exit)) (now (draft .exit)) (now (out .exit))) ⌝ }
     {
-        let before = self.next;
-        match flatten::solution(text, tree, draft, out, before) {
-            Counted::Done(words, raised) => Answer {
-                reader: Reader { next: raised },
-                said: Said::Accepted(words, 0),
+        let answer = flatten::solution(text, tree, draft, out, self.next);
+        Answer {
+            reader: Reader {
+                next: count_after(answer, self.next),
             },
-            Counted::Refused(r) => Answer {
-                reader: Reader { next: before },
-                said: Said::Refused(r),
-            },
+            said: counted(answer),
         }
     }
 }

@@ -2,4 +2,3 @@ pub mod Digits
 pub mod Places
 pub mod Parts
 pub mod Storing
-pub mod Compared

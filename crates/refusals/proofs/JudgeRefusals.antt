@@ -9,7 +9,7 @@ use Rattle.reading.specs.Pick.{pick}
 use Rattle.reading.specs.Answer.{notWords, number, tooDeep}
 use Rattle.grammar.specs.Sort.{Sort}
 use Rattle.grammar.specs.Expr.{Expr, enil, econs}
-use Rattle.judge.specs.Judge.{Judged, reads, fails, Reader, goOn, _>>=_, ret, fail, word, wordBelow, among, orFail, choose, twoWords, fourWords, several, Plan, operandsOf, argumentsOf, spanWithin, nameWithin, ctors, sortKinds, sortDeep, sortAt, binderAt, bindersAt, kinds, header, sortIf, planned, exprDeep, atEnd, exprAt, judgeExpr, judgeSolution}
+use Rattle.judging.specs.Judge.{Judged, reads, fails, Reader, goOn, _>>=_, ret, fail, word, wordBelow, among, orFail, choose, twoWords, fourWords, several, Plan, operandsOf, argumentsOf, spanWithin, nameWithin, ctors, sortKinds, sortDeep, sortAt, binderAt, bindersAt, kinds, header, sortIf, planned, exprDeep, atEnd, exprAt, judgeExpr, judgeSolution}
 
 -- What holds of a refusal.
 abbrev pub Fails : {A : Type 0} → (ℕ → Type 0) → Judged A → Type 0

@@ -32,7 +32,7 @@ use Rattle.grammar.proofs.SortOf.{SortOf, sort-of}
 use Rattle.grammar.proofs.SizeBind.{bind-size}
 use Rattle.grammar.proofs.TheTree.{the-tree}
 use Rattle.reading.proofs.TextTree.{TextTree}
-use Rattle.flatten.proofs.Uncurry.{solution-shorter}
+use Rattle.flattening.proofs.Uncurry.{solution-shorter}
 use Rattle.flatten.proofs.Parsed.{ParsedExpr, ParsedSolution, parsed-expr, parsed-solution}
 use Rattle.session.specs.Session.{Op, readOne, readAll, sort, expression, bind, solution, Call, Term, aRead, aSort, anExpr, aBind, aSolution, termItems, draftItems, make, made, roomFor, Outcome, outcome}
 use Rattle.session.specs.Compared.{readsOrSorts}

@@ -7,7 +7,7 @@ use lib.ListN.{length}
 use Rattle.reading.specs.Pick.{pick}
 use Rattle.reading.specs.Answer.{number, unwritable, unprintable, Ans, fitsIn, Said, accepted, refused, saidOf}
 use Rattle.grammar.specs.Expr.{Solution}
-use Rattle.judge.specs.Judge.{Judged, reads, fails, judgeSolution}
+use Rattle.judging.specs.Judge.{Judged, reads, fails, judgeSolution}
 use Rattle.smt.specs.Writer.{written}
 use Rattle.smt.specs.Claims.{Answered, isWritten, isUnwritable, isUnprintable}
 use Rattle.smt.specs.Operation.{bytesFinal, smtlibBy, smtlibFinal, smtlibSaid}

@@ -9,7 +9,7 @@ use Rattle.reading.specs.Limits.{maxBytes, maxLists, maxNodes, maxNumber}
 use Rattle.reading.specs.Pick.{pick}
 use Rattle.reading.specs.Bytes.{ascii}
 use Rattle.reading.specs.Answer.{Said, accepted, refused}
-use Rattle.flatten.specs.Operations.{flattenSaid}
+use Rattle.flattening.specs.Operations.{flattenSaid}
 use Rattle.smt.specs.Operation.{smtlibSaid}
 use Rattle.smt.specs.Compute.{smtComputes}
 use Rattle.session.specs.Session.{Op, readOne, readAll, sort, expression, bind, solution, Call, outcome}

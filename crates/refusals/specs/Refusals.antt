@@ -7,7 +7,7 @@ use lib.Dec.{eqb}
 use lib.ListN.{length, getD, replicate}
 use Rattle.reading.specs.Pick.{pick}
 use Rattle.reading.specs.Answer.{number, noRoom, refused}
-use Rattle.flatten.specs.Operations.{flattenSaid}
+use Rattle.flattening.specs.Operations.{flattenSaid}
 use Rattle.smt.specs.Operation.{smtlibSaid}
 use Rattle.session.specs.Session.{Op, readOne, readAll, sort, expression, bind, solution, Call, outcome}
 

@@ -13,22 +13,23 @@ use Rattle.reading.proofs.Picks.{pick-true, pick-false, pick-eq, pick-ne, pick-
 use Rattle.reading.proofs.Bytes.{same-refl}
 use Rattle.reading.proofs.Over.{over-length, over-fits}
 use Rattle.words.specs.declared.Answer.{Answer as FlatAnswer}
-use Rattle.flatten.specs.Operations.{flattenFinal, flattenOut}
+use Rattle.flattening.specs.Operations.{flattenFinal, flattenOut}
 use Rattle.flatten.specs.Answers.{flattenAnswer}
 use Rattle.session.specs.Session.{Call, outcome}
-use Rattle.reader.specs.declared.Said.{Said}
+use Rattle.replies.specs.declared.Said.{Said}
 use Rattle.reader.specs.declared.Answer.{Answer}
-use Rattle.reader.specs.Calls.{oneCall, allCall, sortCall, exprCall, bindCall, solutionCall, asSaid}
-use Rattle.reader.specs.Sessions.{Promised, replied}
+use Rattle.replies.specs.Calls.{oneCall, allCall, sortCall, exprCall, bindCall, solutionCall, asSaid}
+use Rattle.replies.specs.Sessions.{Promised}
+use Rattle.reader.specs.Replied.{replied}
 use Rattle.recorded.specs.declared.line.Line.{Line}
-use Rattle.recorded.specs.declared.slices.Reply.{Reply}
+use Rattle.compared.specs.declared.Reply.{Reply}
 use Rattle.replay.specs.declared.State.{State}
 use Rattle.recorded.specs.Numbers.{most}
 use Rattle.recorded.specs.Spelled.{wordsIn}
-use Rattle.recorded.specs.Recorded.{patterns, filled, isZero, isRecorded, isClear}
+use Rattle.compared.specs.Recorded.{patterns, filled, isZero, isRecorded, isClear}
 use Rattle.replay.specs.Called.{replyTo, flatReply, callOf, Ran, isOutcome, outcomeOn, isLent, isSameOn, countOn, textOf, isSame, countAfter, isFlattened, isFlat, isRight}
 use Rattle.replay.specs.Tally.{Told, Stepped}
-use Rattle.recorded.proofs.Compared.{and-no, and-yes}
+use Rattle.compared.proofs.Comparing.{and-no, and-yes}
 
 -- Zeros are zero.
 zeros-zero : (l : List ℕ) → isZero (zeros l) ≡ true

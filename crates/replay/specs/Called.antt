@@ -8,17 +8,17 @@ use lib.ListN.{length, drop}
 use Rattle.reading.specs.Pick.{pick}
 use Rattle.words.specs.declared.Answer.the-variants.{Done as flatDone, Refused as flatRefused}
 use Rattle.words.specs.declared.Answer.{Answer as FlatAnswer}
-use Rattle.flatten.specs.Operations.{flattenFinal, flattenOut}
+use Rattle.flattening.specs.Operations.{flattenFinal, flattenOut}
 use Rattle.flatten.specs.Answers.{flattenAnswer}
 use Rattle.session.specs.Session.{Call, Outcome, outcome}
-use Rattle.reader.specs.declared.Said.{Said}
-use Rattle.reader.specs.declared.Said.the-variants.{Accepted, Refused}
+use Rattle.replies.specs.declared.Said.{Said}
+use Rattle.replies.specs.declared.Said.the-variants.{Accepted, Refused}
 use Rattle.reader.specs.declared.Answer.{Answer}
-use Rattle.reader.specs.Calls.{oneCall, allCall, sortCall, exprCall, bindCall, solutionCall, asSaid}
+use Rattle.replies.specs.Calls.{oneCall, allCall, sortCall, exprCall, bindCall, solutionCall, asSaid}
 use Rattle.recorded.specs.declared.line.Line.{Line}
-use Rattle.recorded.specs.declared.slices.Reply.{Reply}
+use Rattle.compared.specs.declared.Reply.{Reply}
 use Rattle.recorded.specs.Spelled.{bytesIn, wordsIn}
-use Rattle.recorded.specs.Recorded.{patterns, isRecorded, isClear}
+use Rattle.compared.specs.Recorded.{patterns, isRecorded, isClear}
 
 -- The numbers of what a reader says, at the count of the reader that comes back. After a refusal nothing is reported.
 abbrev pub replyTo : Said → ℕ → Reply

@@ -1,15 +1,15 @@
 // One call of a reader.
 ghost use mathlib.Core.Path.{_≡_};
-ghost use Rattle.recorded.specs.Recorded.{isClear, filled};
+ghost use Rattle.compared.specs.Recorded.{isClear, filled};
 ghost use Rattle.session.specs.Session.{outcome};
 ghost use Rattle.replay.specs.Called.{replyTo, callOf, Ran, isOutcome, isSameOn, countOn, isSame, countAfter};
+use compared::Reply;
+use compared::fill;
+use compared::is_recorded;
+use compared::is_zero;
 use recorded::input::put_bytes;
 use recorded::input::put_words;
 use recorded::line::Line;
-use recorded::slices::Reply;
-use recorded::slices::fill;
-use recorded::slices::is_recorded;
-use recorded::slices::is_zero;
 
 // The reader that came back, and whether the answer was the recorded one.
 pub struct Done {
@@ -159,13 +159,13 @@ fn reply(answer: reader::Answer) -> Reply
     let count = reader.next;
     let said = answer.said;
     match said {
-        reader::Said::Accepted(a, b) => Reply {
+        replies::Said::Accepted(a, b) => Reply {
             refusal: 0,
             a: a as u64,
             b: b as u64,
             count: count,
         },
-        reader::Said::Refused(r) => Reply {
+        replies::Said::Refused(r) => Reply {
             refusal: r as u64,
             a: 0,
             b: 0,

@@ -1,12 +1,12 @@
 // One call of flattening.
 ghost use mathlib.Core.Path.{_≡_};
-ghost use Rattle.recorded.specs.Recorded.{filled};
+ghost use Rattle.compared.specs.Recorded.{filled};
 ghost use Rattle.replay.specs.Called.{flatReply, isFlattened, isFlat};
+use compared::Reply;
+use compared::fill;
+use compared::is_recorded;
 use recorded::input::put_words;
 use recorded::line::Line;
-use recorded::slices::Reply;
-use recorded::slices::fill;
-use recorded::slices::is_recorded;
 
 // The most words that are recorded.
 const WORDS: usize = 8192;

@@ -23,8 +23,8 @@ use Rattle.grammar.proofs.Walk.{child-of}
 use Rattle.grammar.proofs.WalkPreds.{KeptPreds, preds-of}
 use Rattle.grammar.proofs.SolutionOf.{SolutionOf, solution-of}
 use Rattle.grammar.proofs.Good.{runs, Good, GoodAll, good, bound-numbered}
-use Rattle.flatten.specs.Uncurry.{flattened}
-use Rattle.flatten.proofs.Bound.{flattened-same, flattened-scoped}
+use Rattle.flattening.specs.Uncurry.{flattened}
+use Rattle.flattening.proofs.Bound.{flattened-same, flattened-scoped}
 use Rattle.session.specs.Session.{Term, anExpr, aBind, aSolution, termItems}
 use Rattle.session.specs.Compared.{ScopedTerm}
 

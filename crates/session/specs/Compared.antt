@@ -6,7 +6,7 @@ use mathlib.Core.List.{[]}
 use lib.ListN.{length}
 use Rattle.reading.specs.Answer.{Final, accepts, refuses}
 use Rattle.grammar.specs.Scoped.{Scoped, ScopedPreds, ScopedSolution}
-use Rattle.flatten.specs.Uncurry.{flattened}
+use Rattle.flattening.specs.Uncurry.{flattened}
 use Rattle.session.specs.Session.{Op, readOne, readAll, sort, expression, bind, solution, Call, Term, aRead, aSort, anExpr, aBind, aSolution, roomFor}
 
 -- The operation that answers with such a term.

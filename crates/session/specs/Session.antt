@@ -10,7 +10,7 @@ use Rattle.grammar.specs.Sort.{Sort, sortWords}
 use Rattle.grammar.specs.Item.{Item, plains, raise, wordsOf, bound}
 use Rattle.grammar.specs.Expr.{Expr, exprItems, Bind, bindItems, Solution, solutionItems}
 use Rattle.grammar.specs.Operations.{makeSort, makeExpr, makeBind, makeSolution}
-use Rattle.flatten.specs.Uncurry.{flattened}
+use Rattle.flattening.specs.Uncurry.{flattened}
 
 pub data Op : Type 0 where
   readOne readAll sort expression bind solution : Op

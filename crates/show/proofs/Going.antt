@@ -12,13 +12,13 @@ use Rattle.reading.specs.Answer.{over}
 use Rattle.reading.proofs.Over.{over-more, over-length}
 use Rattle.grammar.specs.Item.{wordsOf}
 use Rattle.grammar.specs.Expr.{Binder, exprItems, Solution}
-use Rattle.judge.specs.Judge.{reads, sortAt, bindersAt, exprDeep}
-use Rattle.judge.specs.Spelled.{Spelled}
-use Rattle.judge.specs.Ends.{endOf}
-use Rattle.judge.specs.declared.expr_words.End.the-variants as end
-use Rattle.judge.proofs.Spell.{Low, spelled-inside}
-use Rattle.judge.proofs.SpellExpr.{expr-spelled}
-use Rattle.flatten.specs.Operations.{noText}
+use Rattle.judging.specs.Judge.{reads, sortAt, bindersAt, exprDeep}
+use Rattle.judging.specs.Spelled.{Spelled}
+use Rattle.judging.specs.Ends.{endOf}
+use Rattle.judging.specs.declared.End.the-variants as end
+use Rattle.judging.proofs.Spell.{Low, spelled-inside}
+use Rattle.judging.proofs.SpellExpr.{expr-spelled}
+use Rattle.flattening.specs.Operations.{noText}
 use Rattle.show.specs.Lines.{line, refusalText, paramLines, solutionText}
 use Rattle.show.specs.Shown.{wordsText, hasRoom, shown}
 use Rattle.show.proofs.Stores.{sets-append}

@@ -14,17 +14,17 @@ use Rattle.reading.specs.Answer.{notWords}
 use Rattle.grammar.specs.Item.{wordsOf}
 use Rattle.grammar.specs.Expr.{Binder, Expr, Solution, binderItems}
 use Rattle.grammar.proofs.Lengths.{size-solution}
-use Rattle.judge.specs.Judge.{Judged, reads, fails, Reader, _>>=_, bindersAt, exprDeep, exprAt, atEnd, judgeSolution}
-use Rattle.judge.specs.Spelled.{Spelled}
-use Rattle.judge.specs.Ends.{endOf}
-use Rattle.judge.specs.declared.expr_words.End.the-variants as end
-use Rattle.judge.proofs.ReadFields.{word-in, word-out}
+use Rattle.judging.specs.Judge.{Judged, reads, fails, Reader, _>>=_, bindersAt, exprDeep, exprAt, atEnd, judgeSolution}
+use Rattle.judging.specs.Spelled.{Spelled}
+use Rattle.judging.specs.Ends.{endOf}
+use Rattle.judging.specs.declared.End.the-variants as end
+use Rattle.judging.proofs.ReadFields.{word-in, word-out}
 use Rattle.judge.proofs.ReadExpr.{ends-at, ends-no}
-use Rattle.judge.proofs.Spell.{Low, post-reads, spelled-none}
-use Rattle.judge.proofs.SpellSort.{binders-behind}
-use Rattle.judge.proofs.SpellExpr.{expr-spelled}
-use Rattle.judge.proofs.SolutionParts.{Parts, parts-of}
-use Rattle.flatten.specs.Operations.{noText}
+use Rattle.judging.proofs.Spell.{Low, post-reads, spelled-none}
+use Rattle.judging.proofs.SpellSort.{binders-behind}
+use Rattle.judging.proofs.SpellExpr.{expr-spelled}
+use Rattle.judging.proofs.SolutionParts.{Parts, parts-of}
+use Rattle.flattening.specs.Operations.{noText}
 use Rattle.show.specs.Lines.{solutionText}
 use Rattle.show.specs.Shown.{textOf, wordsText, hasRoom}
 use Rattle.show.proofs.Params.{text-length}

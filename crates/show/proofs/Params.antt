@@ -10,13 +10,13 @@ use Rattle.grammar.specs.Sort.{two, sortWords}
 use Rattle.grammar.specs.Item.{Item, wordsOf}
 use Rattle.grammar.specs.Expr.{Binder, Expr, exprItems, Solution, binderItems, sortItems, solutionItems}
 use Rattle.grammar.proofs.Items.{words-front}
-use Rattle.judge.specs.Judge.{reads, several, twoWords, sortAt, binderAt, bindersAt}
-use Rattle.judge.specs.Spelled.{Spelled}
-use Rattle.judge.proofs.FieldsBack.{moved}
-use Rattle.judge.proofs.Spell.{Low, post-reads, spelled-inside, spelled-none, spelled-seq, a-two}
-use Rattle.judge.proofs.SpellSort.{a-sort}
-use Rattle.judge.proofs.Taken.{first-read, same-value, same-end}
-use Rattle.flatten.specs.Operations.{noText}
+use Rattle.judging.specs.Judge.{reads, several, twoWords, sortAt, binderAt, bindersAt}
+use Rattle.judging.specs.Spelled.{Spelled}
+use Rattle.judging.proofs.FieldsBack.{moved}
+use Rattle.judging.proofs.Spell.{Low, post-reads, spelled-inside, spelled-none, spelled-seq, a-two}
+use Rattle.judging.proofs.SpellSort.{a-sort}
+use Rattle.judging.proofs.Taken.{first-read, same-value, same-end}
+use Rattle.flattening.specs.Operations.{noText}
 use Rattle.show.specs.Lines.{line, refusalText, paramLines, solutionText}
 use Rattle.show.proofs.Printing.{between, line-length}
 

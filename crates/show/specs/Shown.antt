@@ -8,8 +8,8 @@ use Rattle.reading.specs.Pick.{pick}
 use Rattle.reading.specs.Bytes.{Maybe, nothing, just}
 use Rattle.reading.specs.Answer.{zeros, over}
 use Rattle.grammar.specs.Expr.{Solution}
-use Rattle.judge.specs.Judge.{Judged, reads, fails, judgeSolution}
-use Rattle.flatten.specs.Operations.{noText}
+use Rattle.judging.specs.Judge.{Judged, reads, fails, judgeSolution}
+use Rattle.flattening.specs.Operations.{noText}
 use Rattle.show.specs.Lines.{solutionText}
 
 -- The text of what was judged: words that are refused have none.

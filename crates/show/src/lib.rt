@@ -11,10 +11,10 @@ ghost use Rattle.reading.specs.Bytes.{just};
 ghost use Rattle.writing.specs.Digits.{eightDigits};
 ghost use Rattle.show.specs.Lines.{line as lineOf, refusalText};
 ghost use Rattle.show.specs.Shown.{wordsText, hasRoom, shown};
-use judge::expr_words::End;
 use judge::expr_words::NO_TEXT;
 use judge::expr_words::solution as solution_end;
-use judge::sort_words::sort_end;
+use judging::End;
+use sortwords::sort_end;
 use writing::clear;
 use writing::digit;
 

@@ -9,8 +9,8 @@ use Rattle.reading.specs.Pick.{pick}
 use Rattle.reading.specs.Limits.{maxNodes}
 use Rattle.grammar.specs.Expr.{opAdd, opSub, opMul, opDiv, opMod, relEq, relNe, relGt, relGe, relLt, relLe, Kind, kNum, kBool, kStr, kBitVec, kFresh, kNamed, kNeg, kBin, kIf, kAnd, kOr, kNot, kImp, kIff, kAtom, kLet, kTheory, kIsCtor, kExists, Expr, Exprs, node, app, enil, econs, exprs, Solution}
 use Rattle.grammar.specs.Shape.{HasOperands}
-use Rattle.judge.specs.Judge.{reads, fails, Reader, _>>=_, fail, word, wordBelow, among, orFail, choose, twoWords, fourWords, several, Plan, operandsOf, argumentsOf, plan, spanWithin, nameWithin, bindersAt, kinds, header, sortIf, planned, exprDeep, atEnd, exprAt, judgeSolution}
-use Rattle.judge.proofs.Spell.{Post, chain-post, post-any, post-reads}
+use Rattle.judging.specs.Judge.{reads, fails, Reader, _>>=_, fail, word, wordBelow, among, orFail, choose, twoWords, fourWords, several, Plan, operandsOf, argumentsOf, plan, spanWithin, nameWithin, bindersAt, kinds, header, sortIf, planned, exprDeep, atEnd, exprAt, judgeSolution}
+use Rattle.judging.proofs.Spell.{Post, chain-post, post-any, post-reads}
 use Rattle.reading.specs.Answer.{notWords}
 
 -- Each node has the operands that its kind takes.

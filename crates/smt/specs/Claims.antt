@@ -6,7 +6,7 @@ use lib.ListN.{length}
 use Rattle.reading.specs.Bytes.{just}
 use Rattle.reading.specs.Answer.{Ans, got, bad, unwritable, unprintable}
 use Rattle.grammar.specs.Expr.{Solution}
-use Rattle.judge.specs.Judge.{reads, judgeSolution}
+use Rattle.judging.specs.Judge.{reads, judgeSolution}
 use Rattle.smt.specs.Writer.{written}
 use Rattle.smt.specs.Meaning.{readSolution}
 use Rattle.smt.specs.Shape.{shape}

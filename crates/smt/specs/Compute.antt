@@ -1,6 +1,6 @@
 -- Opens every definition of this crate at once, for claims that are proved by computing.
 use Rattle.grammar.specs.Compute.{parseComputes}
-use Rattle.judge.specs.Judge.{word, wordBelow, choose, twoWords, fourWords, several, spanWithin, nameWithin, ctors, sortKinds, sortDeep, sortAt, binderAt, bindersAt, kinds, header, sortIf, planned, exprDeep, atEnd, exprAt, judgeSolution}
+use Rattle.judging.specs.Judge.{word, wordBelow, choose, twoWords, fourWords, several, spanWithin, nameWithin, ctors, sortKinds, sortDeep, sortAt, binderAt, bindersAt, kinds, header, sortIf, planned, exprDeep, atEnd, exprAt, judgeSolution}
 use Rattle.writing.specs.Digits.{figures, decimal}
 use Rattle.smt.specs.Sexp.{symbolByte, white, printable, quotable, reservedWords, isReserved, simple, symbolText, print}
 use Rattle.smt.specs.SexpBack.{canonical, natural, runSx, classOf, step, ended, more, tokensIn, snoc, build, readSxs}

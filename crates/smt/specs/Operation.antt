@@ -5,7 +5,7 @@ use lib.ListN.{length}
 use Rattle.reading.specs.Pick.{pick}
 use Rattle.reading.specs.Answer.{number, noRoom, Ans, got, bad, Final, accepts, refuses, fitsIn, Said, accepted, saidOf, outputOf}
 use Rattle.grammar.specs.Expr.{Solution}
-use Rattle.judge.specs.Judge.{Judged, reads, fails, judgeSolution}
+use Rattle.judging.specs.Judge.{Judged, reads, fails, judgeSolution}
 use Rattle.smt.specs.Writer.{written}
 
 -- Bytes that are written, or 15 or 16; then 7.

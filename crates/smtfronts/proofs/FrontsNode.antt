@@ -19,9 +19,10 @@ use Rattle.smt.specs.Vocabulary.{operators, relations}
 use Rattle.smt.specs.Writer.{spelledAt, bitsIdent, fitsWidth, freshSymbol, Form, alone, operator, folded, letting, some, bytesOf, symbolOf, varsOf, fieldsOf, sortOf}
 use Rattle.smt.proofs.Text.{barred-text, fresh-text, operator-text, relation-text, bits-text, test-text}
 use Rattle.smtnames.specs.Pieces.{joined, nameText, freshText, stringText, varsText}
-use Rattle.smtmarks.specs.Marks.{operatorText, foldedText}
+use Rattle.smtoperators.specs.Operators.{operatorText}
+use Rattle.smtbools.specs.Bools.{foldedText}
 use Rattle.smtfronts.specs.Fronts.{frontOf, frontText, bitsText, nodeText, Numbered, existsText}
-use Rattle.smtfronts.proofs.FrontsSymbols.{own-bare}
+use Rattle.smtfunctions.proofs.Symbols.{own-bare}
 
 -- Operators and relations have numbers in their tables.
 op-small : (op : BinOp) → opNumber op < 5

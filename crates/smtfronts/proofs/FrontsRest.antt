@@ -7,7 +7,7 @@ use Rattle.reading.specs.Answer.{bad, unwritable}
 use Rattle.nodes.specs.declared.kind.Node.{Node}
 use Rattle.nodes.specs.declared.kind.Node.the-variants as told
 use Rattle.smtfronts.specs.Fronts.{calleeText}
-use Rattle.smtmarks.proofs.Rest.{Among}
+use Rattle.smtseams.proofs.Rest.{Among}
 
 -- Every kind but variables and theory functions.
 abbrev callee-left : List ℕ

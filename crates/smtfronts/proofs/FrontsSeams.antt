@@ -18,8 +18,9 @@ use Rattle.smt.specs.Term.{plainIdent, SmtSort, Var, tid}
 use Rattle.smt.specs.Writer.{freshSymbol, bitsIdent, fitsWidth, Form, alone, some, bytesOf, symbolOf, sortOf, varsOf, fieldsOf, headKind}
 use Rattle.smt.proofs.Text.{barred-text, fresh-text}
 use Rattle.smtnames.specs.Pieces.{identText, nameText, freshText}
-use Rattle.smtmarks.specs.Marks.{nodeLets, nodeCloses}
-use Rattle.smtfronts.specs.Fronts.{formLets, formCloses, functionText, calleeText}
+use Rattle.smtseams.specs.Seams.{nodeLets, nodeCloses}
+use Rattle.smtfronts.specs.Fronts.{formLets, formCloses, calleeText}
+use Rattle.smtfunctions.specs.Functions.{functionText}
 use Rattle.smtfronts.proofs.FrontsFormed.{every-got}
 
 -- A form with the same bytes between its operands and behind them.

@@ -11,11 +11,11 @@ use Rattle.reading.specs.Number.{Wide, valueOf}
 use Rattle.reading.specs.Answer.{got, bad, unwritable}
 use Rattle.reading.proofs.Picks.{pick-yes, pick-no}
 use Rattle.grammar.specs.Expr.{Binder, Kind}
-use Rattle.judge.specs.Judge.{reads, operandsOf, bindersAt, header}
+use Rattle.judging.specs.Judge.{reads, operandsOf, bindersAt, header}
 use Rattle.nodes.specs.Node.{nodeOf}
 use Rattle.nodes.specs.declared.kind.Node.{Node}
 use Rattle.nodes.specs.declared.kind.Node.the-variants as told
-use Rattle.judge.proofs.SpellKind.{binders-count}
+use Rattle.judging.proofs.SpellKind.{binders-count}
 use Rattle.nodes.proofs.ExistsAt.{exists-binders, header-inside, exists-told}
 use Rattle.writing.specs.Digits.{decimal}
 use Rattle.smt.specs.Writer.{fitsWidth}

@@ -12,7 +12,8 @@ use Rattle.smt.specs.Sexp.{print, spaced}
 use Rattle.smt.specs.Term.{Ident, Term, Terms, tid, tapp, tlet, texists, bnil, tnil, tcons, terms, identSx, termSx, termSxs}
 use Rattle.smt.specs.Writer.{Form, alone, operator, folded, letting, some, applying, formed}
 use Rattle.smt.proofs.Text.{applied-text, let-text, exists-text}
-use Rattle.smtmarks.specs.Marks.{operatorText, seamOf, closeText}
+use Rattle.smtoperators.specs.Operators.{operatorText}
+use Rattle.smtseams.specs.Seams.{seamOf, closeText}
 use Rattle.smtfronts.specs.Fronts.{frontOf, formLets, formCloses}
 
 -- The texts of terms, with these bytes between them.

@@ -14,9 +14,11 @@ use Rattle.writing.specs.Digits.{decimal}
 use Rattle.smt.specs.Sexp.{symbolText, list, print}
 use Rattle.smt.specs.Term.{identSx, varSxs, termSx}
 use Rattle.smt.specs.Vocabulary.{operators, relations}
-use Rattle.smt.specs.Writer.{spelledAt, fitsWidth, functionOf, Form, alone, operator, folded, letting, some, fieldsOf}
-use Rattle.smtmarks.specs.Marks.{operatorText, foldedText, boolText}
-use Rattle.smtnames.specs.Pieces.{joined, identText, nameText, freshText, stringText, varsText}
+use Rattle.smt.specs.Writer.{spelledAt, fitsWidth, Form, alone, operator, folded, letting, some, fieldsOf}
+use Rattle.smtoperators.specs.Operators.{operatorText}
+use Rattle.smtbools.specs.Bools.{foldedText, boolText}
+use Rattle.smtfunctions.specs.Functions.{functionText}
+use Rattle.smtnames.specs.Pieces.{joined, nameText, freshText, stringText, varsText}
 
 -- In front of so many operands.
 unfoldable pub frontOf : Form → ℕ → List ℕ
@@ -106,9 +108,6 @@ existsText text [] = got []
 existsText text (b ∷ bs) = joined (got (ascii "(exists ")) (joined (varsText text (b ∷ bs)) (got (ascii " ")))
 
 -- The head of an application with arguments, behind a parenthesis and before a space.
-unfoldable pub functionText : ℕ → Ans (List ℕ)
-functionText k = identText (functionOf k)
-
 abbrev pub calleeText : List ℕ → Node → Ans (List ℕ)
 calleeText text (told.Num a b c d) = bad unwritable
 calleeText text (told.Bool b) = bad unwritable

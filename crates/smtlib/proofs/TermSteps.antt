@@ -13,26 +13,27 @@ use Rattle.reading.proofs.Placed.{at-word}
 use Rattle.grammar.specs.Sort.{Sort}
 use Rattle.grammar.specs.Expr.{Kind, Expr, Exprs, node, app, enil, econs, exprs}
 use Rattle.grammar.specs.Shape.{HasOperands}
-use Rattle.judge.specs.Judge.{Judged, reads, fails, Plan, operandsOf, argumentsOf, several, sortIf, header, exprDeep}
-use Rattle.judge.specs.Ends.{endOf, headOf as headerOf, behindOf}
+use Rattle.judging.specs.Judge.{Judged, reads, fails, Plan, operandsOf, argumentsOf, several, sortIf, header, exprDeep}
+use Rattle.judging.specs.Ends.{endOf, behindOf}
+use Rattle.heads.specs.Heads.{headOf as headerOf}
 use Rattle.nodes.specs.Node.{nodeOf, nodesAt, nodeAt}
-use Rattle.judge.specs.declared.expr_words.End.{End}
-use Rattle.judge.specs.declared.expr_words.Header.the-variants as head
+use Rattle.judging.specs.declared.End.{End}
+use Rattle.heads.specs.declared.Header.the-variants as head
 use Rattle.nodes.specs.declared.kind.Node.{Node}
 use Rattle.nodes.specs.declared.kind.Node.the-variants as told
 use Rattle.judge.proofs.ReadExpr.{siblings, head-operands as kind-of, head-arguments, head-no}
 use Rattle.nodes.proofs.NodeAt.{node-told, told-at}
-use Rattle.judge.proofs.Spell.{Low, post-reads}
-use Rattle.judge.proofs.SpellKind.{arguments-spelled}
-use Rattle.judge.proofs.SpellExpr.{several-count}
-use Rattle.judge.proofs.Taken.{never-reads, read-no-room, read-no-header, read-operands, read-arguments, read-none, read-more}
+use Rattle.judging.proofs.Spell.{Low, post-reads}
+use Rattle.judging.proofs.SpellKind.{arguments-spelled}
+use Rattle.judging.proofs.SpellExpr.{several-count}
+use Rattle.judging.proofs.Taken.{never-reads, read-no-room, read-no-header, read-operands, read-arguments, read-none, read-more}
 use Rattle.writing.specs.Wrote.{WroteBytes}
 use Rattle.writing.proofs.Wrote.{wrote-none, wrote-then}
 use Rattle.smt.specs.Writer.{Form, fieldsOf, headKind, headOf, termOf}
 use Rattle.smt.proofs.Judged.{Formed, Fits, FormedAt, header-fits, expr-formed}
 use Rattle.smtnames.specs.Pieces.{joined, identText}
 use Rattle.smtlib.specs.Terms.{termText, seamed}
-use Rattle.smtmarks.specs.Marks.{seamOf, gapOf, closeText, nodeLets, nodeCloses}
+use Rattle.smtseams.specs.Seams.{seamOf, gapOf, closeText, nodeLets, nodeCloses}
 use Rattle.smtfronts.specs.Fronts.{frontOf, frontText, formLets, formCloses, calleeText}
 use Rattle.smtnames.specs.Written.{Tells, tells, keeps, TellsPiece, TellsPart}
 use Rattle.smtnames.specs.declared.answers.Written.{Written}

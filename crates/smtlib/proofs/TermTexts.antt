@@ -14,7 +14,7 @@ use Rattle.smt.specs.Term.{Ident, identSx, Term, Terms, tnil, tcons, termSx, te
 use Rattle.smt.specs.Writer.{Form, formed, fieldsOf, application, headKind, headOf, termOf, termsOf}
 use Rattle.smtnames.specs.Pieces.{joined, identText}
 use Rattle.smtlib.specs.Terms.{termText, seamed}
-use Rattle.smtmarks.specs.Marks.{seamOf, closeText}
+use Rattle.smtseams.specs.Seams.{seamOf, closeText}
 use Rattle.smtfronts.specs.Fronts.{frontOf, frontText, formLets, formCloses}
 use Rattle.smtfronts.proofs.FrontsTerm.{between, applied-between, formed-text}
 use Rattle.smtfronts.proofs.FrontsFormed.{kind-becomes}

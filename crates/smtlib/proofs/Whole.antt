@@ -10,11 +10,11 @@ use Rattle.reading.specs.Pick.{pick}
 use Rattle.reading.specs.Limits.{maxNodes}
 use Rattle.reading.specs.Answer.{Refusal, number, noRoom, Ans, got, bad, andThen, Final, accepts, refuses, fitsIn, zeros, over, outputOf}
 use Rattle.grammar.specs.Expr.{Binder, Expr, Solution}
-use Rattle.judge.specs.Judge.{Judged, reads, fails, bindersAt, exprDeep, judgeSolution}
-use Rattle.judge.specs.Ends.{endOf}
-use Rattle.judge.specs.declared.expr_words.End.the-variants as end
+use Rattle.judging.specs.Judge.{Judged, reads, fails, bindersAt, exprDeep, judgeSolution}
+use Rattle.judging.specs.Ends.{endOf}
+use Rattle.judging.specs.declared.End.the-variants as end
 use Rattle.judge.proofs.ReadExpr.{ends-at, ends-no}
-use Rattle.judge.proofs.SolutionParts.{Parts, parts-of}
+use Rattle.judging.proofs.SolutionParts.{Parts, parts-of}
 use Rattle.writing.specs.Laid.{laid}
 use Rattle.writing.specs.Wrote.{Wrote, WroteBytes}
 use Rattle.writing.proofs.Laid.{over-start}

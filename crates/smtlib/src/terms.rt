@@ -2,28 +2,28 @@
 ghost use mathlib.Core.Path.{_≡_};
 ghost use Prim.Native.Nat.{ℕ};
 ghost use Rattle.grammar.specs.Expr.{Expr, Exprs, enil, econs};
-ghost use Rattle.judge.specs.Judge.{reads, several, exprDeep};
+ghost use Rattle.judging.specs.Judge.{reads, several, exprDeep};
 ghost use lib.ListN.{length};
 ghost use Rattle.smtlib.specs.Terms.{termText, seamed};
 ghost use Rattle.writing.specs.Wrote.{WroteBytes};
-ghost use Rattle.smtmarks.specs.Marks.{seamOf, gapOf};
+ghost use Rattle.smtseams.specs.Seams.{seamOf, gapOf};
 ghost use Rattle.smtnames.specs.Written.{TellsPart};
-use judge::expr_words::End;
-use judge::expr_words::Header;
-use judge::expr_words::behind;
+use heads::Header;
+use heads::head;
 use judge::expr_words::expr_end;
 use judge::expr_words::exprs_end;
-use judge::expr_words::head;
 use judge::expr_words::out_sort;
+use judging::End;
+use judging::behind;
 use nodes::kind::kind_at;
 use smtfronts::callee::callee;
 use smtfronts::fronts::front;
-use smtmarks::operands::close;
-use smtmarks::operands::closes;
-use smtmarks::operands::lets;
-use smtmarks::operands::seam;
 use smtnames::answers::Walked;
 use smtnames::answers::Written;
+use smtseams::close;
+use smtseams::closes;
+use smtseams::lets;
+use smtseams::seam;
 use writing::byte;
 
 // The expression at a place, which was judged with room for so many inside one another. The head of an application stands behind its

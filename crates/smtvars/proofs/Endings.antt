@@ -12,11 +12,11 @@ use Rattle.reading.proofs.Picks.{pick-true, pick-false}
 use Rattle.grammar.specs.Numbers.{hit}
 use Rattle.smtlevels.specs.Open.{total, ending, settled}
 use Rattle.smtlevels.proofs.Open.{hit-yes, hit-no, past-total, past-here, past-there}
-use Rattle.smtsorts.specs.SortNode.{sortNodeAt, sizeOf, insideOf}
+use Rattle.sortnodes.specs.Told.{sortNodeAt, sizeOf, insideOf}
 use Rattle.smtvars.specs.SortWalk.{Step, into, past, Walk, here, more, endText}
 use Rattle.smtlevels.specs.Levels.{Known, below}
-use Rattle.smtsorts.specs.declared.sort_node.SortNode.{SortNode}
-use Rattle.smtsorts.specs.declared.sort_node.SortNode.the-variants as told
+use Rattle.sortnodes.specs.declared.SortNode.{SortNode}
+use Rattle.sortnodes.specs.declared.SortNode.the-variants as told
 
 -- A sort takes one word at least, and five at most before the sorts inside it.
 pub size-some : (x : SortNode) → 0 < sizeOf x

@@ -7,16 +7,17 @@ use lib.ListN.{length, length-append}
 use Rattle.reading.specs.Answer.{Ans, got}
 use Rattle.reading.proofs.Placed.{at-inside, at-right}
 use Rattle.grammar.specs.Sort.{Sort, Sorts, sorts, sortWords, sortsWords}
-use Rattle.judge.specs.Judge.{reads, sortAt}
-use Rattle.judge.specs.Spelled.{Spelled}
-use Rattle.judge.proofs.Spell.{Low}
+use Rattle.judging.specs.Judge.{reads, sortAt}
+use Rattle.judging.specs.Spelled.{Spelled}
+use Rattle.judging.proofs.Spell.{Low}
 use Rattle.writing.specs.Wrote.{WroteBytes}
 use Rattle.smtnames.specs.Pieces.{joined, sortText}
-use Rattle.smtsorts.specs.SortNode.{sortNodeAt, sizeOf, insideOf, openText}
+use Rattle.sortnodes.specs.Told.{sortNodeAt, sizeOf, insideOf}
+use Rattle.smtsorts.specs.SortNode.{openText}
 use Rattle.smtlevels.specs.Open.{total, settled}
 use Rattle.smtvars.specs.SortWalk.{endText, Step, into, past, Walk, here, more}
 use Rattle.smtlevels.specs.Levels.{Known}
-use Rattle.smtsorts.specs.declared.sort_node.SortNode.{SortNode}
+use Rattle.sortnodes.specs.declared.SortNode.{SortNode}
 use Rattle.smtnames.proofs.Joined.{joined-assoc, joined-none, joined-end}
 use Rattle.smtnames.proofs.Tells.{Put, put, Gone, put-none, put-seq, put-as, put-bad, gone-behind, gone-first, gone-as}
 use Rattle.smtvars.proofs.WordsRead.{sort-spelled}

@@ -11,9 +11,10 @@ use Rattle.reading.proofs.Placed.{at-tail, at-word}
 use Rattle.grammar.specs.Sort.{cSet, cMap, cData, Sort, Sorts, sInt, sBool, sReal, sStr, sBitVec, sSize, sVar, sFunc, sAbs, sApp, snil, scons, sorts, sortWords, sortsWords}
 use Rattle.smt.specs.Writer.{widthOf, sortOf}
 use Rattle.smtnames.specs.Pieces.{joined, sortText}
-use Rattle.smtsorts.specs.SortNode.{appliedAt, sortNodeAt, sizeOf, insideOf, arrayText, openText}
-use Rattle.smtsorts.specs.declared.sort_node.SortNode.{SortNode}
-use Rattle.smtsorts.specs.declared.sort_node.SortNode.the-variants as told
+use Rattle.sortnodes.specs.Told.{appliedAt, sortNodeAt, sizeOf, insideOf}
+use Rattle.smtsorts.specs.SortNode.{arrayText, openText}
+use Rattle.sortnodes.specs.declared.SortNode.{SortNode}
+use Rattle.sortnodes.specs.declared.SortNode.the-variants as told
 use Rattle.smtvars.proofs.SortTexts.{spacedText, array-inside, data-inside, data-leaf, width-leaf, int-leaf, bool-leaf, real-leaf, string-leaf}
 
 -- What is told of a sort.

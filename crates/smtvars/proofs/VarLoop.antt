@@ -8,7 +8,7 @@ use Rattle.reading.specs.Pick.{pick}
 use Rattle.reading.specs.Answer.{Ans, got}
 use Rattle.reading.proofs.Picks.{pick-lt, pick-ge, pick-holds}
 use Rattle.grammar.specs.Expr.{Binder}
-use Rattle.judge.specs.Judge.{reads, binderAt, bindersAt}
+use Rattle.judging.specs.Judge.{reads, binderAt, bindersAt}
 use Rattle.writing.specs.Wrote.{WroteBytes}
 use Rattle.smtnames.specs.Pieces.{joined, varText}
 use Rattle.smtnames.specs.Written.{TellsPart}

@@ -6,11 +6,11 @@ use native.Mathlib.Omega.{arith}
 use lib.ListN.{length, getD}
 use Rattle.grammar.specs.Sort.{Sort, sortWords}
 use Rattle.grammar.specs.Expr.{Binder}
-use Rattle.judge.specs.Judge.{reads, word, twoWords, several, sortDeep, sortAt, binderAt, bindersAt}
-use Rattle.judge.specs.Spelled.{Spelled}
-use Rattle.judge.proofs.Taken.{never-reads, first-read, same-value, same-end, word-read}
-use Rattle.judge.proofs.Spell.{Low, post-reads, spelled-none}
-use Rattle.judge.proofs.SpellSort.{a-sort}
+use Rattle.judging.specs.Judge.{reads, word, twoWords, several, sortDeep, sortAt, binderAt, bindersAt}
+use Rattle.judging.specs.Spelled.{Spelled}
+use Rattle.judging.proofs.Taken.{never-reads, first-read, same-value, same-end, word-read}
+use Rattle.judging.proofs.Spell.{Low, post-reads, spelled-none}
+use Rattle.judging.proofs.SpellSort.{a-sort}
 
 -- A sort begins inside the words, and is spelled there.
 deep-inside : (limit deep : ℕ) (ws : List ℕ) (at : ℕ) {s : Sort} {n : ℕ} → sortDeep limit deep ws at ≡ reads s n → at < length ws

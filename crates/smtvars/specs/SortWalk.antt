@@ -6,7 +6,7 @@ use lib.Dec.{eqb}
 use lib.ListN.{length, replicate}
 use Rattle.reading.specs.Pick.{pick}
 use Rattle.smtlevels.specs.Open.{total, ending, settled}
-use Rattle.smtsorts.specs.SortNode.{sortNodeAt, sizeOf, insideOf}
+use Rattle.sortnodes.specs.Told.{sortNodeAt, sizeOf, insideOf}
 
 -- One step of the walk inside the words, from a place and the open lists to the next place and the lists that are open there: into a sort with sorts inside it, or past one without.
 pub data Step (ws : List ℕ) : ℕ → List ℕ → ℕ → List ℕ → Type 0 where

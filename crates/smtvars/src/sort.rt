@@ -4,7 +4,7 @@ ghost use mathlib.Core.List.{List, [], _∷_};
 ghost use Prim.Native.Nat.{ℕ};
 ghost use lib.ListN.{replicate};
 ghost use Rattle.grammar.specs.Sort.{Sort};
-ghost use Rattle.judge.specs.Judge.{reads, sortAt};
+ghost use Rattle.judging.specs.Judge.{reads, sortAt};
 ghost use Rattle.writing.specs.Wrote.{WroteBytes};
 ghost use Rattle.smtnames.specs.Pieces.{sortText};
 ghost use Rattle.smtlevels.specs.Open.{total, ending, settled};
@@ -17,10 +17,10 @@ use smtlevels::standing;
 use smtlevels::standing_below;
 use smtnames::answers::Walked;
 use smtnames::answers::Written;
-use smtsorts::sort_node::count;
 use smtsorts::sort_node::opened;
-use smtsorts::sort_node::size;
-use smtsorts::sort_node::sort_at;
+use sortnodes::count;
+use sortnodes::size;
+use sortnodes::sort_at;
 use writing::byte;
 
 // How many lists end behind a sort without sorts inside it, and how many of the others are known.

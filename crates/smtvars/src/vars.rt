@@ -3,7 +3,7 @@ ghost use mathlib.Core.Path.{_≡_};
 ghost use mathlib.Core.List.{List};
 ghost use Prim.Native.Nat.{ℕ};
 ghost use Rattle.grammar.specs.Expr.{Binder};
-ghost use Rattle.judge.specs.Judge.{reads, binderAt, bindersAt};
+ghost use Rattle.judging.specs.Judge.{reads, binderAt, bindersAt};
 ghost use Rattle.smtnames.specs.Pieces.{varText, varsText};
 ghost use Rattle.smtnames.specs.Written.{TellsPart};
 use crate::sort::sort;

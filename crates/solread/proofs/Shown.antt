@@ -10,19 +10,19 @@ use Rattle.reading.specs.Pick.{pick}
 use Rattle.reading.specs.Bytes.{Maybe, just}
 use Rattle.reading.proofs.Over.{over-length, over-fits}
 use Rattle.grammar.specs.Expr.{Solution}
-use Rattle.judge.specs.Judge.{judgeSolution}
-use Rattle.flatten.specs.Uncurry.{flattened}
-use Rattle.flatten.specs.Operations.{noText}
+use Rattle.judging.specs.Judge.{judgeSolution}
+use Rattle.flattening.specs.Uncurry.{flattened}
+use Rattle.flattening.specs.Operations.{noText}
 use Rattle.session.specs.Session.{final}
 use Rattle.show.specs.Lines.{refusalText, solutionText}
 use Rattle.show.specs.Shown.{textOf, wordsText, shown}
 use Rattle.show.proofs.Params.{text-length}
 use Rattle.show.proofs.Showing.{answering, reveals}
-use Rattle.reader.specs.declared.Said.{Said}
-use Rattle.reader.specs.declared.Said.the-variants.{Accepted, Refused}
-use Rattle.reader.specs.Calls.{solutionCall}
+use Rattle.replies.specs.declared.Said.{Said}
+use Rattle.replies.specs.declared.Said.the-variants.{Accepted, Refused}
+use Rattle.replies.specs.Calls.{solutionCall}
 use Rattle.solread.specs.Printed.{finalText, slice, printed}
-use Rattle.reader.proofs.Solved.{ToldSolution, solved, not-solved}
+use Rattle.replies.proofs.Solved.{ToldSolution, solved, not-solved}
 
 -- So many bytes of the output are what is printed for the text.
 abbrev pub Shown : List ℕ → List ℕ → ℕ → Type 0

@@ -5,9 +5,9 @@ use lib.Dec.{ltb}
 use lib.ListN.{length, replicate}
 use Rattle.reading.specs.Pick.{pick}
 use Rattle.reading.specs.Answer.{number, tooLong, Final, accepts, refuses}
-use Rattle.flatten.specs.Uncurry.{flattened}
+use Rattle.flattening.specs.Uncurry.{flattened}
 use Rattle.session.specs.Session.{Term, aRead, aSort, anExpr, aBind, aSolution, final}
-use Rattle.reader.specs.Calls.{solutionCall}
+use Rattle.replies.specs.Calls.{solutionCall}
 use Rattle.show.specs.Lines.{refusalText, solutionText}
 
 -- The lines of what such a call makes, which is always a solution.

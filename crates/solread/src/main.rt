@@ -4,7 +4,7 @@ ghost use Prim.Native.Nat.{_≤_};
 ghost use lib.ListN.{length, take};
 ghost use Rattle.solread.specs.Printed.{printed};
 use reader::Reader;
-use reader::Said;
+use replies::Said;
 
 // What is printed for a text, from the start of the output on; answers how many bytes that is.
 fn answer(text: &[u8], out: &mut [u8]) -> usize

@@ -12,8 +12,8 @@ use Rattle.reading.specs.Pick.{pick}
 use Rattle.reading.specs.Answer.{number, noRoom, Ans, got, bad, andThen, accepts, refuses, over, outputOf}
 use Rattle.reading.proofs.Over.{over-length, over-fits}
 use Rattle.grammar.specs.Expr.{Solution}
-use Rattle.judge.specs.Judge.{Judged, reads, fails, judgeSolution}
-use Rattle.judge.proofs.Taken.{same-value}
+use Rattle.judging.specs.Judge.{Judged, reads, fails, judgeSolution}
+use Rattle.judging.proofs.Taken.{same-value}
 use Rattle.writing.specs.Wrote.{WroteBytes}
 use Rattle.writing.proofs.Wrote.{either}
 use Rattle.smt.specs.Sexp.{list, print}

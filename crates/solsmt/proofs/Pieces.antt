@@ -8,8 +8,8 @@ use lib.Seq.{take-all}
 use Rattle.reading.specs.Bytes.{ascii}
 use Rattle.reading.specs.Answer.{Ans, got}
 use Rattle.grammar.specs.Expr.{Binder, Solution}
-use Rattle.judge.specs.Judge.{reads, bindersAt, judgeSolution}
-use Rattle.judge.proofs.SolutionParts.{Parts, parts-of}
+use Rattle.judging.specs.Judge.{reads, bindersAt, judgeSolution}
+use Rattle.judging.proofs.SolutionParts.{Parts, parts-of}
 use Rattle.writing.specs.Digits.{digit}
 use Rattle.writing.specs.Wrote.{WroteBytes}
 use Rattle.writing.proofs.Wrote.{wrote-then, wrote-as}

@@ -13,13 +13,13 @@ use Rattle.reading.specs.Bytes.{ascii}
 use Rattle.reading.specs.Answer.{number, noRoom, Ans, got, bad}
 use Rattle.reading.proofs.Over.{over-fits}
 use Rattle.grammar.specs.Expr.{Solution}
-use Rattle.judge.specs.Judge.{reads, judgeSolution}
-use Rattle.flatten.specs.Uncurry.{flattened}
+use Rattle.judging.specs.Judge.{reads, judgeSolution}
+use Rattle.flattening.specs.Uncurry.{flattened}
 use Rattle.session.specs.Session.{final}
-use Rattle.reader.specs.declared.Said.{Said}
-use Rattle.reader.specs.declared.Said.the-variants.{Accepted, Refused}
-use Rattle.reader.specs.Calls.{solutionCall}
-use Rattle.reader.proofs.Solved.{ToldSolution, solved, not-solved}
+use Rattle.replies.specs.declared.Said.{Said}
+use Rattle.replies.specs.declared.Said.the-variants.{Accepted, Refused}
+use Rattle.replies.specs.Calls.{solutionCall}
+use Rattle.replies.proofs.Solved.{ToldSolution, solved, not-solved}
 use Rattle.writing.specs.Wrote.{WroteBytes}
 use Rattle.writing.proofs.Laid.{over-start}
 use Rattle.writing.proofs.Wrote.{either}

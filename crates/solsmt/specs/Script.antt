@@ -6,9 +6,9 @@ use lib.ListN.{length, replicate}
 use Rattle.reading.specs.Pick.{pick}
 use Rattle.reading.specs.Bytes.{ascii}
 use Rattle.reading.specs.Answer.{number, noRoom, tooLong, Ans, got, bad, Final, accepts, refuses}
-use Rattle.flatten.specs.Uncurry.{flattened}
+use Rattle.flattening.specs.Uncurry.{flattened}
 use Rattle.session.specs.Session.{Term, aRead, aSort, anExpr, aBind, aSolution, final}
-use Rattle.reader.specs.Calls.{solutionCall}
+use Rattle.replies.specs.Calls.{solutionCall}
 use Rattle.writing.specs.Digits.{twoDigits}
 use Rattle.smt.specs.Sexp.{list, print}
 use Rattle.smt.specs.Term.{varSxs, termSx, Closed, closedBytes}

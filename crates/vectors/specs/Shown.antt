@@ -5,7 +5,7 @@ use mathlib.Core.List.{List, [], _∷_, map}
 use lib.ListN.{replicate}
 use Rattle.reading.specs.Bytes.{ascii}
 use Rattle.reading.specs.Answer.{Final, accepts, refuses, Said}
-use Rattle.flatten.specs.Operations.{exprWords, flattenFinal}
+use Rattle.flattening.specs.Operations.{exprWords, flattenFinal}
 use Rattle.session.specs.Session.{Op, Call, termWords, final, outcome}
 use Rattle.session.specs.Compute.{readerComputes}
 

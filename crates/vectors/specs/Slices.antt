@@ -7,7 +7,7 @@ use mathlib.Core.List.{List, [], _∷_, map}
 use lib.ListN.{replicate}
 use Rattle.reading.specs.Bytes.{ascii}
 use Rattle.reading.specs.Answer.{Said, accepted, refused}
-use Rattle.flatten.specs.Operations.{flattenSaid, flattenOut}
+use Rattle.flattening.specs.Operations.{flattenSaid, flattenOut}
 use Rattle.session.specs.Session.{Op, readOne, readAll, sort, expression, bind, solution, Call, Outcome, outcome}
 use Rattle.session.specs.Compute.{readerComputes}
 

@@ -1,5 +1,5 @@
 use mathlib.Core.Path.{refl}
-use Rattle.ffi.proofs.Replies.{counted-accepted, counted-refused}
+use Rattle.boundary.proofs.Replies.{counted-reply}
 use borrow.Author.Needs.{needs}
 use Rattle.ffi.proofs.pinhkray_bind.Statement.{statement}
 use Rattle.ffi.proofs.pinhkray_bind.Tie as tie
@@ -10,11 +10,8 @@ open-requires c κs = search needs
 bind-requires : tie.Need-bind-requires
 bind-requires c κs = search needs
 
-enum-known-said : tie.Need-enum-known-said
-enum-known-said c = search needs
-
-enum-known-said-2 : tie.Need-enum-known-said-2
-enum-known-said-2 c = search needs
+numbers-requires : tie.Need-numbers-requires
+numbers-requires c κs = search needs
 
 same-length : tie.Need-same-length
 same-length c = search needs
@@ -23,28 +20,9 @@ same-length-2 : tie.Need-same-length-2
 same-length-2 c = search needs
 
 returns : tie.Need-returns
-returns c = counted-accepted (c .before .before .before .before .before .before .before .before .before .before .«open» .ensures) (c .before .before .before .before .before .before .before .bind .ensures) _ _ (c .before .said .given .1) refl
-
-same-length-3 : tie.Need-same-length-3
-same-length-3 c = search needs
-
-same-length-4 : tie.Need-same-length-4
-same-length-4 c = search needs
-
-returns-2 : tie.Need-returns-2
-returns-2 c = counted-refused (c .before .before .before .before .before .before .before .before .before .before .«open» .ensures) (c .before .before .before .before .before .before .before .bind .ensures) _ (c .before .said2 .given .1)
+returns c = counted-reply (c .before .before .before .before .before .before .before .before .«open» .ensures) (c .before .before .before .before .before .bind .ensures) _ (c .numbers .ensures) refl
 
 pub pinhkray-bind-spec : {M : Type 1} → statement M
 pinhkray-bind-spec =
     tie.close
-    (tie.spec
-    open-requires
-    bind-requires
-    enum-known-said
-    enum-known-said-2
-    same-length
-    same-length-2
-    returns
-    same-length-3
-    same-length-4
-    returns-2)
+    (tie.spec open-requires bind-requires numbers-requires same-length same-length-2 returns)

@@ -1,5 +1,5 @@
 use mathlib.Core.Path.{refl}
-use Rattle.ffi.proofs.Replies.{sort-accepted, read-refused}
+use Rattle.boundary.proofs.Replies.{sort-reply}
 use borrow.Author.Needs.{needs}
 use Rattle.ffi.proofs.pinhkray_sort.Statement.{statement}
 use Rattle.ffi.proofs.pinhkray_sort.Tie as tie
@@ -10,11 +10,8 @@ open-requires c κs = search needs
 sort-requires : tie.Need-sort-requires
 sort-requires c κs = search needs
 
-enum-known-said : tie.Need-enum-known-said
-enum-known-said c = search needs
-
-enum-known-said-2 : tie.Need-enum-known-said-2
-enum-known-said-2 c = search needs
+numbers-requires : tie.Need-numbers-requires
+numbers-requires c κs = search needs
 
 same-length : tie.Need-same-length
 same-length c = search needs
@@ -23,28 +20,9 @@ same-length-2 : tie.Need-same-length-2
 same-length-2 c = search needs
 
 returns : tie.Need-returns
-returns c = sort-accepted (c .before .before .before .before .before .before .before .before .before .before .«open» .ensures) (c .before .before .before .before .before .before .before .sort .ensures) _ _ (c .before .said .given .1) refl refl refl
-
-same-length-3 : tie.Need-same-length-3
-same-length-3 c = search needs
-
-same-length-4 : tie.Need-same-length-4
-same-length-4 c = search needs
-
-returns-2 : tie.Need-returns-2
-returns-2 c = read-refused (c .before .before .before .before .before .before .before .before .before .before .«open» .ensures) (c .before .before .before .before .before .before .before .sort .ensures) _ (c .before .said2 .given .1) refl refl
+returns c = sort-reply (c .before .before .before .before .before .before .before .before .«open» .ensures) (c .before .before .before .before .before .sort .ensures) _ (c .numbers .ensures) refl refl refl
 
 pub pinhkray-sort-spec : {M : Type 1} → statement M
 pinhkray-sort-spec =
     tie.close
-    (tie.spec
-    open-requires
-    sort-requires
-    enum-known-said
-    enum-known-said-2
-    same-length
-    same-length-2
-    returns
-    same-length-3
-    same-length-4
-    returns-2)
+    (tie.spec open-requires sort-requires numbers-requires same-length same-length-2 returns)

@@ -1,7 +1,7 @@
 use mathlib.Core.Path.{sym}
 use lib.Seq.{length-take-le}
 use Rattle.solread.specs.Printed.{slice}
-use Rattle.reader.proofs.Solved.{ToldSolution}
+use Rattle.replies.proofs.Solved.{ToldSolution}
 use Rattle.solread.proofs.Shown.{shown-long, shown-refused, shown-accepted, words-inside}
 use borrow.Author.Needs.{needs}
 use Rattle.solread.proofs.answer.Statement.{statement}

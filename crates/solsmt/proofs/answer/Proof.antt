@@ -1,6 +1,6 @@
 use mathlib.Core.Path.{sym}
 use lib.Seq.{length-take-le}
-use Rattle.reader.proofs.Solved.{ToldSolution}
+use Rattle.replies.proofs.Solved.{ToldSolution}
 use Rattle.solsmt.specs.Script.{slice}
 use Rattle.solsmt.proofs.Scripted.{printed-long, printed-refused, printed-accepted, words-inside}
 use borrow.Author.Needs.{needs}

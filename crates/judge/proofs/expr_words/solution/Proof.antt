@@ -6,7 +6,7 @@ use Rattle.judge.proofs.expr_words.solution.Tie as tie
 use Rattle.judge.proofs.expr_words.solution.Reads as reads
 use Rattle.judge.proofs.expr_words.solution.Lts as lts
 use Rattle.judge.proofs.expr_words.expr_end.Reads as expr-end-reads
-use Rattle.judge.proofs.sort_words.binders_end.Reads as binders-end-reads
+use Rattle.sortwords.proofs.binders_end.Reads as binders-end-reads
 
 -- src/expr_words.rt:244:9
 returns : tie.Need-returns

@@ -3,7 +3,7 @@ use mathlib.Core.Path.{refl, ap}
 use native.Mathlib.Omega.{arith}
 use Rattle.nodes.specs.Node.{nodesAt}
 use Rattle.nodes.proofs.NodeAt.{behind-end, told-at, told-low, told-high}
-use Rattle.judge.proofs.ReadHead.{next}
+use Rattle.heads.proofs.ReadHead.{next}
 use borrow.Author.Needs.{needs}
 use Rattle.nodes.proofs.kind.kind_at.Statement.{statement}
 use Rattle.nodes.proofs.kind.kind_at.Tie as tie

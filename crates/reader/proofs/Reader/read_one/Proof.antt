@@ -1,11 +1,11 @@
-use mathlib.Core.Path.{refl}
+use mathlib.Core.Path.{refl, _∙_}
 use mathlib.Core.Bool.{false}
 use Prim.Native.Nat.{_≤_}
 use native.Mathlib.Omega.{arith}
 use Rattle.reading.specs.Limits.{maxNumber}
 use Rattle.reading.specs.Reading.{readOut}
-use Rattle.reader.proofs.Outcomes.{one-known}
-use Rattle.reader.proofs.Told.{read-accepted, read-refused, reply}
+use Rattle.replies.proofs.Outcomes.{one-known}
+use Rattle.replies.proofs.Told.{read-told, reply}
 use borrow.Author.Needs.{needs}
 use Rattle.reader.proofs.Reader.read_one.Statement.{statement}
 use Rattle.reader.proofs.Reader.read_one.Tie as tie
@@ -13,11 +13,8 @@ use Rattle.reader.proofs.Reader.read_one.Tie as tie
 read-one-requires : tie.Need-read-one-requires
 read-one-requires c κs = search needs
 
-enum-known-words : tie.Need-enum-known-words
-enum-known-words c = search needs
-
-enum-known-r : tie.Need-enum-known-r
-enum-known-r c = search needs
+read-requires : tie.Need-read-requires
+read-requires c κs = search needs
 
 same-length : tie.Need-same-length
 same-length c = search needs
@@ -25,34 +22,12 @@ same-length c = search needs
 returns : tie.Need-returns
 unfolding readOut
 returns c =
-    let a = c .before .before .before .before .before .before .before .before .before .args in
-    let e = c .before .before .before .before .before .read-one .ensures in
+    let a = c .before .before .before .before .before .before .before .args in
+    let e = c .before .before .before .read-one .ensures in
     let small : a .self .next ≤ maxNumber = omega arith in
     let k = one-known (a .text .now) (a .out .now) (a .self .next) small in
-    let q = read-accepted false (a .text .now) (a .out .now) _ (a .self .next) small k _ _ _ (c .before .words .given .1) (e .0) in
-    reply k q refl refl (e .1)
-
-same-length-2 : tie.Need-same-length-2
-same-length-2 c = search needs
-
-returns-2 : tie.Need-returns-2
-unfolding readOut
-returns-2 c =
-    let a = c .before .before .before .before .before .before .before .before .before .args in
-    let e = c .before .before .before .before .before .read-one .ensures in
-    let small : a .self .next ≤ maxNumber = omega arith in
-    let k = one-known (a .text .now) (a .out .now) (a .self .next) small in
-    let q = read-refused false (a .text .now) (a .out .now) _ (a .self .next) small k _ _ (c .before .r .given .1) (e .0) in
-    reply k q refl refl (e .1)
+    let q = read-told false (a .text .now) (a .out .now) _ (a .self .next) small k _ (e .0) in
+    reply k (c .read .ensures ∙ q .0, q .1) refl refl (e .1)
 
 pub read-one-spec : {M : Type 1} → statement M
-read-one-spec =
-    tie.close
-    (tie.spec
-    read-one-requires
-    enum-known-words
-    enum-known-r
-    same-length
-    returns
-    same-length-2
-    returns-2)
+read-one-spec = tie.close (tie.spec read-one-requires read-requires same-length returns)

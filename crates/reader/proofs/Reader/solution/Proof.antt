@@ -1,6 +1,7 @@
-use Rattle.flatten.specs.Operations.{flatItems}
-use Rattle.reader.proofs.Outcomes.{solution-known}
-use Rattle.reader.proofs.Told.{counted-done, counted-refused, reply}
+use mathlib.Core.Path.{_∙_}
+use Rattle.flattening.specs.Operations.{flatItems}
+use Rattle.replies.proofs.Outcomes.{solution-known}
+use Rattle.replies.proofs.Told.{counted-told, reply}
 use borrow.Author.Needs.{needs}
 use Rattle.reader.proofs.Reader.solution.Statement.{statement}
 use Rattle.reader.proofs.Reader.solution.Tie as tie
@@ -8,11 +9,11 @@ use Rattle.reader.proofs.Reader.solution.Tie as tie
 solution-requires : tie.Need-solution-requires
 solution-requires c κs = search needs
 
-enum-known-words : tie.Need-enum-known-words
-enum-known-words c = search needs
+count-after-requires : tie.Need-count-after-requires
+count-after-requires c κs = search needs
 
-enum-known-r : tie.Need-enum-known-r
-enum-known-r c = search needs
+counted-requires : tie.Need-counted-requires
+counted-requires c κs = search needs
 
 same-length : tie.Need-same-length
 same-length c = search needs
@@ -25,41 +26,20 @@ same-length-3 c = search needs
 
 returns : tie.Need-returns
 returns c =
-    let a = c .before .before .before .before .before .before .before .before .before .before .before .before .before .before .before .before .before .args in
-    let e = c .before .before .before .before .before .before .before .before .before .solution .ensures in
+    let a = c .before .before .before .before .before .before .before .before .before .before .before .before .before .before .before .before .args in
+    let e = c .before .before .before .before .before .before .before .before .solution .ensures in
     let k = solution-known (a .text .now) (a .tree .now) (a .out .now) (a .self .next) (a .draft .now) in
-    let q = counted-done flatItems _ _ _ k _ _ _ (c .before .words .given .1) (e .0) in
-    reply k q (e .1 .0) (e .1 .1 .0) (e .1 .1 .1)
-
-same-length-4 : tie.Need-same-length-4
-same-length-4 c = search needs
-
-same-length-5 : tie.Need-same-length-5
-same-length-5 c = search needs
-
-same-length-6 : tie.Need-same-length-6
-same-length-6 c = search needs
-
-returns-2 : tie.Need-returns-2
-returns-2 c =
-    let a = c .before .before .before .before .before .before .before .before .before .before .before .before .before .before .before .before .before .args in
-    let e = c .before .before .before .before .before .before .before .before .before .solution .ensures in
-    let k = solution-known (a .text .now) (a .tree .now) (a .out .now) (a .self .next) (a .draft .now) in
-    let q = counted-refused flatItems _ _ _ k _ _ (c .before .r .given .1) (e .0) in
-    reply k q (e .1 .0) (e .1 .1 .0) (e .1 .1 .1)
+    let q = counted-told flatItems _ _ _ k _ (e .0) in
+    reply k (c .counted .ensures ∙ q .0, c .before .count-after .ensures ∙ q .1) (e .1 .0) (e .1 .1 .0) (e .1 .1 .1)
 
 pub solution-spec : {M : Type 1} → statement M
 solution-spec =
     tie.close
     (tie.spec
     solution-requires
-    enum-known-words
-    enum-known-r
+    count-after-requires
+    counted-requires
     same-length
     same-length-2
     same-length-3
-    returns
-    same-length-4
-    same-length-5
-    same-length-6
-    returns-2)
+    returns)

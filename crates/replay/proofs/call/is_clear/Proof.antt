@@ -1,8 +1,8 @@
 use mathlib.Core.Path.{refl, sym, _∙_}
 use borrow.Author.Tests.{not-true, not-false}
 use Rattle.reading.proofs.Picks.{pick-eq, pick-ne}
-use Rattle.recorded.specs.Recorded.{isClear}
-use Rattle.recorded.proofs.Compared.{and-no, and-yes}
+use Rattle.compared.specs.Recorded.{isClear}
+use Rattle.compared.proofs.Comparing.{and-no, and-yes}
 use Rattle.replay.proofs.call.is_clear.Statement.{statement}
 use Rattle.replay.proofs.call.is_clear.Tie as tie
 

@@ -1,5 +1,5 @@
 use mathlib.Core.Path.{sym, ap}
-use Rattle.reader.specs.declared.Said.{Said}
+use Rattle.replies.specs.declared.Said.{Said}
 use Rattle.replay.specs.Called.{replyTo}
 use borrow.Author.Needs.{needs}
 use Rattle.replay.proofs.call.reply.Statement.{statement}

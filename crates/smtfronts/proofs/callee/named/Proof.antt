@@ -6,7 +6,7 @@ use Rattle.smtfronts.proofs.callee.named.Statement.{statement}
 use Rattle.smtfronts.proofs.callee.named.Tie as tie
 use Rattle.smtfronts.proofs.callee.named.Reads as reads
 use Rattle.smtfronts.proofs.callee.named.Lts as lts
-use Rattle.smtfronts.proofs.callee.function.Reads as function-reads
+use Rattle.smtfunctions.proofs.function.Reads as function-reads
 use Rattle.smtnames.proofs.names.fresh.Reads as fresh-reads
 use Rattle.smtnames.proofs.names.name.Reads as name-reads
 

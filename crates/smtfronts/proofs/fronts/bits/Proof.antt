@@ -8,7 +8,7 @@ use Rattle.smtfronts.proofs.fronts.bits.Statement.{statement}
 use Rattle.smtfronts.proofs.fronts.bits.Tie as tie
 use Rattle.smtfronts.proofs.fronts.bits.Reads as reads
 use Rattle.smtfronts.proofs.fronts.bits.Lts as lts
-use Rattle.smtmarks.proofs.width.fits.Reads as fits-reads
+use Rattle.smtwidth.proofs.fits.Reads as fits-reads
 use Rattle.writing.proofs.byte.Reads as byte-reads
 use Rattle.writing.proofs.bytes.Reads as bytes-reads
 use Rattle.writing.proofs.decimal.Reads as decimal-reads

@@ -8,11 +8,11 @@ use Rattle.smtfronts.proofs.fronts.plain_front.Tie as tie
 use Rattle.smtfronts.proofs.fronts.plain_front.Reads as reads
 use Rattle.smtfronts.proofs.fronts.plain_front.Lts as lts
 use Rattle.smtfronts.proofs.fronts.bits.Reads as bits-reads
-use Rattle.smtmarks.proofs.operators.boolean.Reads as boolean-reads
-use Rattle.smtmarks.proofs.operators.folded.Reads as folded-reads
+use Rattle.smtbools.proofs.boolean.Reads as boolean-reads
+use Rattle.smtbools.proofs.folded.Reads as folded-reads
 use Rattle.smtfronts.proofs.fronts.let_front.Reads as let-front-reads
-use Rattle.smtmarks.proofs.operators.operator.Reads as operator-reads
-use Rattle.smtmarks.proofs.operators.relation.Reads as relation-reads
+use Rattle.smtoperators.proofs.operator.Reads as operator-reads
+use Rattle.smtoperators.proofs.relation.Reads as relation-reads
 use Rattle.smtfronts.proofs.fronts.test_front.Reads as test-front-reads
 use Rattle.smtnames.proofs.names.fresh.Reads as fresh-reads
 use Rattle.smtnames.proofs.names.name.Reads as name-reads

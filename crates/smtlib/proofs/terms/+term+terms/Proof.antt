@@ -3,7 +3,7 @@ use borrow.Author.Needs.{needs}
 use mathlib.Core.Path.{_≡_, refl, sym, _∙_}
 use lib.ListN.{length}
 use Rattle.grammar.specs.Expr.{Exprs, enil, econs}
-use Rattle.judge.specs.Judge.{reads, several, exprDeep}
+use Rattle.judging.specs.Judge.{reads, several, exprDeep}
 use Rattle.smtlib.proofs.TermSteps.{LeftTerms, terms-all, terms-done, terms-gone, terms-next, term-no-room, term-no-header, front-gone, operands-gone, operands-done, applied-none, arguments-gone, callee-gone, applied-done}
 use Prim.Native.Nat.{ℕ, _<_, _+_, _*_}
 use borrow.Fn.Kinds.{In}
@@ -14,17 +14,17 @@ use Rattle.smtlib.proofs.terms.+term+terms.Lts-term as term-lts
 use Rattle.smtlib.proofs.terms.terms.Reads as terms
 use Rattle.smtlib.proofs.terms.terms.Kinds as terms-kinds
 use Rattle.smtlib.proofs.terms.+term+terms.Lts-terms as terms-lts
-use Rattle.judge.proofs.expr_words.behind.Reads as behind-reads
+use Rattle.judging.proofs.behind.Reads as behind-reads
 use Rattle.judge.proofs.expr_words.expr_end.Reads as expr-end-reads
 use Rattle.judge.proofs.expr_words.exprs_end.Reads as exprs-end-reads
-use Rattle.judge.proofs.expr_words.head.Reads as head-reads
+use Rattle.heads.proofs.head.Reads as head-reads
 use Rattle.judge.proofs.expr_words.out_sort.Reads as out-sort-reads
 use Rattle.nodes.proofs.kind.kind_at.Reads as kind-at-reads
 use Rattle.smtfronts.proofs.callee.callee.Reads as callee-reads
-use Rattle.smtmarks.proofs.operands.close.Reads as close-reads
-use Rattle.smtmarks.proofs.operands.closes.Reads as closes-reads
+use Rattle.smtseams.proofs.close.Reads as close-reads
+use Rattle.smtseams.proofs.closes.Reads as closes-reads
 use Rattle.smtfronts.proofs.fronts.front.Reads as front-reads
-use Rattle.smtmarks.proofs.operands.lets.Reads as lets-reads
+use Rattle.smtseams.proofs.lets.Reads as lets-reads
 use Rattle.smtlib.proofs.terms.gap.Reads as gap-reads
 use Rattle.writing.proofs.byte.Reads as byte-reads
 use Rattle.smtlib.proofs.terms.+term+terms.{statement}

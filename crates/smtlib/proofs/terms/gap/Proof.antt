@@ -4,7 +4,7 @@ use Rattle.smtlib.proofs.terms.gap.Statement.{statement}
 use Rattle.smtlib.proofs.terms.gap.Tie as tie
 use Rattle.smtlib.proofs.terms.gap.Reads as reads
 use Rattle.smtlib.proofs.terms.gap.Lts as lts
-use Rattle.smtmarks.proofs.operands.seam.Reads as seam-reads
+use Rattle.smtseams.proofs.seam.Reads as seam-reads
 
 -- src/terms.rt:76:9
 returns : tie.Need-returns

@@ -1,4 +1,4 @@
-use Rattle.judge.proofs.Spell.{Low}
+use Rattle.judging.proofs.Spell.{Low}
 use borrow.Author.Needs.{needs}
 use Prim.Native.Nat.{ℕ, _-_}
 use mathlib.Core.Path.{_≡_, refl, ap, _∙_}
@@ -6,7 +6,7 @@ use mathlib.Core.Logic.{⊎-elim}
 use native.Mathlib.Omega.{arith}
 use lib.ListN.{length, length-replicate}
 use Rattle.grammar.specs.Sort.{Sort}
-use Rattle.judge.specs.Judge.{reads, sortAt}
+use Rattle.judging.specs.Judge.{reads, sortAt}
 use Rattle.smtlevels.specs.Levels.{Within}
 use Rattle.smtnames.proofs.Tells.{gone-told, piece-put, piece-gone, part-told}
 use Rattle.smtvars.proofs.Endings.{size-some, size-few}

@@ -7,7 +7,7 @@ use mathlib.Core.List.{List}
 use native.Mathlib.Omega.{arith}
 use lib.ListN.{length}
 use Rattle.grammar.specs.Expr.{Binder}
-use Rattle.judge.specs.Judge.{reads, bindersAt}
+use Rattle.judging.specs.Judge.{reads, bindersAt}
 use Rattle.smtnames.proofs.Tells.{gone-told, part-told, put, put-as, gone-as, put-seq, gone-behind}
 use Rattle.smtvars.proofs.VarLoop.{Coming, coming-start, coming-end, coming-put, coming-next, next-spaced, next-first, next-gone, next-as}
 use Rattle.smtvars.proofs.vars.vars.Statement.{statement}

@@ -1,0 +1,5 @@
+pub mod Heard
+pub mod Reply
+pub mod Sessions
+pub mod Smtlib
+pub mod Version

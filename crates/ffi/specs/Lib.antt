@@ -1,4 +1,0 @@
-pub mod Reply
-pub mod Sessions
-pub mod Smtlib
-pub mod Version

@@ -1,0 +1,7 @@
+pub mod Uncurry
+pub mod Bound
+pub mod FlatCoded
+pub mod SolutionBack
+pub mod Raise
+pub mod Cases
+pub mod FewOperands

@@ -1,0 +1,4 @@
+pub mod Uncurry
+pub mod Flat
+pub mod Operations
+pub mod Compute

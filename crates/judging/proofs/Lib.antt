@@ -1,0 +1,11 @@
+pub mod FieldsBack
+pub mod SortBack
+pub mod KindBack
+pub mod Back
+pub mod ReadFields
+pub mod Spell
+pub mod SpellSort
+pub mod SpellKind
+pub mod SpellExpr
+pub mod Taken
+pub mod SolutionParts

@@ -1,0 +1,4 @@
+pub mod Heard
+pub mod Calls
+pub mod Sessions
+pub mod Demand3

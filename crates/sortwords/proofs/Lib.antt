@@ -1,0 +1,2 @@
+pub mod SortWalk
+pub mod SortRead
