@@ -3,7 +3,7 @@
 
 ANSWERS is crates/replay/stdin and TERMS compare/smtlib.txt unless other files are named. With `short`, as the gate runs it, texts of more than 1,000 bytes are left out
 unless they are too long to be read at all, and words and terms of more than 1,000: each takes the prover some seconds. The prover evaluates `final`, of which `outcome` is made
-(crates/session/specs/Session.antt), `flattenFinal` (crates/flatten/specs/Operations.antt) and `smtlibFinal` (crates/smt/specs/Operation.antt) on each case, and
+(crates/session/specs/Session.antt), `flattenFinal` (crates/flattening/specs/Operations.antt) and `smtlibFinal` (crates/smt/specs/Operation.antt) on each case, and
 has to find the recorded refusal or numbers, the count and the words or bytes; no code of the library runs. The cases go into crates of their own, beside links to the
 crates here, in target/definitions.
 """
@@ -63,7 +63,7 @@ use Rattle.reading.specs.Answer.{Final, accepts, refuses, Said, saidOf, countOf
 use Rattle.session.specs.Session.{Call, Term, termWords, report, final}
 use Rattle.vectors.specs.Shown.{Shown, shown}
 use Rattle.session.specs.Compute.{readerComputes}
-use Rattle.flatten.specs.Operations.{exprWords, flattenFinal}
+use Rattle.flattening.specs.Operations.{exprWords, flattenFinal}
 SPREAD
 pub record Case : Type 0 where
   pub call : Call
@@ -291,7 +291,7 @@ def main():
     for of in (TOP / "crates").iterdir():
         os.symlink(of, folder / "crates" / of.name)
     os.symlink(TOP / "target", folder / "target")
-    (folder / "crates.txt").write_text((TOP / "crates.txt").read_text() + "computed: session vectors flatten reading\ntermed: smt judge grammar writing reading\n")
+    (folder / "crates.txt").write_text((TOP / "crates.txt").read_text() + "computed: session vectors flattening reading\ntermed: smt judging grammar writing reading\n")
     lines = answers.read_text().splitlines()
     rows = [made for made in (row(line, short) for line in lines) if made]
     made = [module for kind in "TF" for module in modules(kind, HEAD, [(size, text) for of, size, text in rows if of == kind])]

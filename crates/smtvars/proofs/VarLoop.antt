@@ -17,7 +17,7 @@ use Rattle.smtnames.specs.declared.answers.Walked.the-variants as walked
 use Rattle.smtnames.proofs.Joined.{joined-assoc, joined-none}
 use Rattle.smtnames.proofs.Tells.{Put, put, Gone, put-none, put-seq, put-as, gone-behind, gone-first, gone-as, part-put, part-end, part-gone}
 use Rattle.smtvars.proofs.VarTexts.{spacedVars, insideVars, varsBody}
-use Rattle.smtvars.proofs.WordsRead.{FirstBinder, binders-first, binders-none}
+use Rattle.sorttext.proofs.WordsRead.{FirstBinder, binders-first, binders-none}
 
 -- Of n variables, which end at m, i are to come from the place a on: the first of all, or one behind a space.
 pub record Coming (text ws : List ℕ) (limit n : ℕ) (bs : List Binder) (m : ℕ) (l₀ : List ℕ) (place : ℕ) (l : List ℕ) (a p i : ℕ) : Type 0 where

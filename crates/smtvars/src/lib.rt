@@ -1,4 +1,3 @@
-// Sorts and sorted variables in SMT-LIB. Each is written from words that were judged before, into a slice of bytes that the caller lends.
+// Sorted variables in SMT-LIB, written from words that were judged before, into a slice of bytes that the caller lends.
 
-pub mod sort;
 pub mod vars;

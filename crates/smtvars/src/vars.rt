@@ -6,10 +6,10 @@ ghost use Rattle.grammar.specs.Expr.{Binder};
 ghost use Rattle.judging.specs.Judge.{reads, binderAt, bindersAt};
 ghost use Rattle.smtnames.specs.Pieces.{varText, varsText};
 ghost use Rattle.smtnames.specs.Written.{TellsPart};
-use crate::sort::sort;
 use nodes::kind::word_at;
 use smtnames::answers::Walked;
 use smtnames::names::fresh;
+use sorttext::sort;
 use words::number::words_to_long;
 use writing::byte;
 

@@ -4,7 +4,7 @@ use native.Mathlib.Omega.{arith}
 use lib.ListN.{getD}
 use Rattle.smtnames.proofs.Tells.{put, put-as, gone-as, gone-told, put-seq, gone-first, gone-behind, part-put, part-end, part-gone, part-told}
 use Rattle.smtvars.proofs.VarTexts.{var-pieces}
-use Rattle.smtvars.proofs.WordsRead.{binder-read}
+use Rattle.sorttext.proofs.WordsRead.{binder-read}
 use borrow.Author.Needs.{needs}
 use Rattle.smtvars.proofs.vars.var.Statement.{statement}
 use Rattle.smtvars.proofs.vars.var.Tie as tie

@@ -4,8 +4,8 @@ use native.Mathlib.Omega.{arith}
 use lib.ListN.{replicate, replicate-append-replicate}
 use Rattle.writing.specs.Wrote.{WroteBytes}
 use Rattle.writing.proofs.Wrote.{wrote-none, wrote-seq, wrote-as}
-use Rattle.smtvars.proofs.sort.closed.Statement.{statement}
-use Rattle.smtvars.proofs.sort.closed.Tie as tie
+use Rattle.sorttext.proofs.closed.Statement.{statement}
+use Rattle.sorttext.proofs.closed.Tie as tie
 
 abbrev Inv-loop : tie.InvT-loop
 Inv-loop k out₀ place i₀ p₀ out i p = (i ≤ k) × WroteBytes out₀ place (replicate (k - i) 41) out p

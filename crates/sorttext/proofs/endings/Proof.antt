@@ -8,12 +8,12 @@ use native.Mathlib.Omega.{arith}
 use lib.ListN.{length}
 use Rattle.reading.specs.Limits.{maxLists}
 use Rattle.smtlevels.specs.Open.{total, ending, settled}
-use Rattle.smtvars.specs.SortWalk.{Walk}
+use Rattle.sorttext.specs.SortWalk.{Walk}
 use Rattle.smtlevels.specs.Levels.{Within, Known}
 use Rattle.smtlevels.proofs.Levels.{within-as, below-settled}
-use Rattle.smtvars.proofs.Endings.{size-some, size-few, Toward, toward-start, toward-end, toward-held, toward-inside, toward-into, toward-past, toward-some, toward-as}
-use Rattle.smtvars.proofs.sort.endings.Statement.{statement}
-use Rattle.smtvars.proofs.sort.endings.Tie as tie
+use Rattle.sorttext.proofs.EndTexts.{size-some, size-few, Toward, toward-start, toward-end, toward-held, toward-inside, toward-into, toward-past, toward-some, toward-as}
+use Rattle.sorttext.proofs.endings.Statement.{statement}
+use Rattle.sorttext.proofs.endings.Tie as tie
 
 abbrev Inv-loop : tie.InvT-loop
 Inv-loop words from at left bases₀ a₀ pending₀ k₀ known₀ bases a pending k known = (k ≤ a) × ((es : List ℕ) → Walk words from [] at es → Toward words at left es a pending k bases known) × Within bases known

@@ -1,4 +1,5 @@
-// A sort is written by a loop, since sorts nest without limit.
+// A sort in SMT-LIB, written from words that were judged before, into a slice of bytes that the caller lends. It is written by a loop, since
+// sorts nest without limit.
 ghost use mathlib.Core.Path.{_≡_};
 ghost use mathlib.Core.List.{List, [], _∷_};
 ghost use Prim.Native.Nat.{ℕ};
@@ -8,7 +9,7 @@ ghost use Rattle.judging.specs.Judge.{reads, sortAt};
 ghost use Rattle.writing.specs.Wrote.{WroteBytes};
 ghost use Rattle.smtnames.specs.Pieces.{sortText};
 ghost use Rattle.smtlevels.specs.Open.{total, ending, settled};
-ghost use Rattle.smtvars.specs.SortWalk.{Walk, endText};
+ghost use Rattle.sorttext.specs.SortWalk.{Walk, endText};
 ghost use Rattle.smtlevels.specs.Levels.{Within, Known};
 ghost use Rattle.smtnames.specs.Written.{TellsPart};
 use smtlevels::entered;

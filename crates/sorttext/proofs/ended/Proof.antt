@@ -1,9 +1,9 @@
 use mathlib.Core.Path.{refl}
 use Rattle.writing.proofs.Wrote.{wrote-seq, wrote-as}
-use Rattle.smtvars.proofs.Endings.{end-last, end-more}
+use Rattle.sorttext.proofs.EndTexts.{end-last, end-more}
 use borrow.Author.Needs.{needs}
-use Rattle.smtvars.proofs.sort.ended.Statement.{statement}
-use Rattle.smtvars.proofs.sort.ended.Tie as tie
+use Rattle.sorttext.proofs.ended.Statement.{statement}
+use Rattle.sorttext.proofs.ended.Tie as tie
 
 closed-requires : tie.Need-closed-requires
 closed-requires c κs = search needs

@@ -1,8 +1,8 @@
 use native.Mathlib.Omega.{arith}
 use borrow.Author.Needs.{needs}
 use Rattle.smtlevels.proofs.Levels.{standing-count, standing-known}
-use Rattle.smtvars.proofs.sort.endings_known.Statement.{statement}
-use Rattle.smtvars.proofs.sort.endings_known.Tie as tie
+use Rattle.sorttext.proofs.endings_known.Statement.{statement}
+use Rattle.sorttext.proofs.endings_known.Tie as tie
 
 standing-requires : tie.Need-standing-requires
 standing-requires c κs = c .before .before .pre .1

@@ -13,7 +13,7 @@ use Rattle.grammar.specs.Numbers.{hit}
 use Rattle.smtlevels.specs.Open.{total, ending, settled}
 use Rattle.smtlevels.proofs.Open.{hit-yes, hit-no, past-total, past-here, past-there}
 use Rattle.sortnodes.specs.Told.{sortNodeAt, sizeOf, insideOf}
-use Rattle.smtvars.specs.SortWalk.{Step, into, past, Walk, here, more, endText}
+use Rattle.sorttext.specs.SortWalk.{Step, into, past, Walk, here, more, endText}
 use Rattle.smtlevels.specs.Levels.{Known, below}
 use Rattle.sortnodes.specs.declared.SortNode.{SortNode}
 use Rattle.sortnodes.specs.declared.SortNode.the-variants as told

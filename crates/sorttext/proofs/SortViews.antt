@@ -15,7 +15,7 @@ use Rattle.sortnodes.specs.Told.{appliedAt, sortNodeAt, sizeOf, insideOf}
 use Rattle.smtsorts.specs.SortNode.{arrayText, openText}
 use Rattle.sortnodes.specs.declared.SortNode.{SortNode}
 use Rattle.sortnodes.specs.declared.SortNode.the-variants as told
-use Rattle.smtvars.proofs.SortTexts.{spacedText, array-inside, data-inside, data-leaf, width-leaf, int-leaf, bool-leaf, real-leaf, string-leaf}
+use Rattle.sorttext.proofs.SortTexts.{spacedText, array-inside, data-inside, data-leaf, width-leaf, int-leaf, bool-leaf, real-leaf, string-leaf}
 
 -- What is told of a sort.
 abbrev pub widthTold : Sort → SortNode

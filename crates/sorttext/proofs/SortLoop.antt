@@ -15,15 +15,15 @@ use Rattle.smtnames.specs.Pieces.{joined, sortText}
 use Rattle.sortnodes.specs.Told.{sortNodeAt, sizeOf, insideOf}
 use Rattle.smtsorts.specs.SortNode.{openText}
 use Rattle.smtlevels.specs.Open.{total, settled}
-use Rattle.smtvars.specs.SortWalk.{endText, Step, into, past, Walk, here, more}
+use Rattle.sorttext.specs.SortWalk.{endText, Step, into, past, Walk, here, more}
 use Rattle.smtlevels.specs.Levels.{Known}
 use Rattle.sortnodes.specs.declared.SortNode.{SortNode}
 use Rattle.smtnames.proofs.Joined.{joined-assoc, joined-none, joined-end}
 use Rattle.smtnames.proofs.Tells.{Put, put, Gone, put-none, put-seq, put-as, put-bad, gone-behind, gone-first, gone-as}
-use Rattle.smtvars.proofs.WordsRead.{sort-spelled}
-use Rattle.smtvars.proofs.SortTexts.{spacedText}
-use Rattle.smtvars.proofs.SortViews.{sortTold, View, refusing, leaf, inner, view, words-some, sort-told}
-use Rattle.smtvars.proofs.SortStack.{levels, stackWords, restText, stack-few, Behind, ends, goes, behind}
+use Rattle.sorttext.proofs.WordsRead.{sort-spelled}
+use Rattle.sorttext.proofs.SortTexts.{spacedText}
+use Rattle.sorttext.proofs.SortViews.{sortTold, View, refusing, leaf, inner, view, words-some, sort-told}
+use Rattle.sorttext.proofs.SortStack.{levels, stackWords, restText, stack-few, Behind, ends, goes, behind}
 use Rattle.smtlevels.proofs.Open.{past-total}
 use Rattle.smtlevels.proofs.Levels.{known-as}
 

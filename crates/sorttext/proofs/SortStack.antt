@@ -10,12 +10,12 @@ use Rattle.grammar.specs.Sort.{Sort, Sorts, snil, scons, sorts, sortWords, sort
 use Rattle.grammar.specs.Numbers.{hit}
 use Rattle.smtnames.specs.Pieces.{joined, sortText}
 use Rattle.smtlevels.specs.Open.{total, ending, settled}
-use Rattle.smtvars.specs.SortWalk.{endText}
+use Rattle.sorttext.specs.SortWalk.{endText}
 use Rattle.smtnames.proofs.Joined.{joined-assoc, joined-none, joined-got}
-use Rattle.smtvars.proofs.SortTexts.{spacedText}
-use Rattle.smtvars.proofs.SortViews.{words-some}
+use Rattle.sorttext.proofs.SortTexts.{spacedText}
+use Rattle.sorttext.proofs.SortViews.{words-some}
 use Rattle.smtlevels.proofs.Open.{hit-yes, hit-no, ending-none}
-use Rattle.smtvars.proofs.Endings.{end-more}
+use Rattle.sorttext.proofs.EndTexts.{end-more}
 
 -- How many sorts each list has, their words, and their bytes with a parenthesis behind each list.
 unfoldable pub levels : List Sorts → List ℕ

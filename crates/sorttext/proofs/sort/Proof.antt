@@ -9,11 +9,11 @@ use Rattle.grammar.specs.Sort.{Sort}
 use Rattle.judging.specs.Judge.{reads, sortAt}
 use Rattle.smtlevels.specs.Levels.{Within}
 use Rattle.smtnames.proofs.Tells.{gone-told, piece-put, piece-gone, part-told}
-use Rattle.smtvars.proofs.Endings.{size-some, size-few}
+use Rattle.sorttext.proofs.EndTexts.{size-some, size-few}
 use Rattle.smtlevels.proofs.Levels.{within-as}
-use Rattle.smtvars.proofs.SortLoop.{State, state-start, state-inside, state-few, state-end, state-put, state-gone, state-past, state-into, state-as}
-use Rattle.smtvars.proofs.sort.sort.Statement.{statement}
-use Rattle.smtvars.proofs.sort.sort.Tie as tie
+use Rattle.sorttext.proofs.SortLoop.{State, state-start, state-inside, state-few, state-end, state-put, state-gone, state-past, state-into, state-as}
+use Rattle.sorttext.proofs.sort.Statement.{statement}
+use Rattle.sorttext.proofs.sort.Tie as tie
 
 abbrev Inv-loop : tie.InvT-loop
 Inv-loop words at text out₀ place a₀ p₀ left₀ bases₀ known₀ out a p left bases known =
