@@ -24,7 +24,7 @@ use Rattle.grammar.proofs.Raise.{raise-append, words-raise, items-raise}
 use Rattle.writing.specs.Laid.{laid}
 use Rattle.grammar.specs.Item.{raisedWords}
 use Rattle.grammar.specs.Expr.{paramItems, bodyItems}
-use Rattle.parse.specs.Answers.{Attempted, AttemptedAt, draftSaid}
+use Rattle.parse.specs.Answers.{Laid, Attempted, AttemptedAt, draftSaid}
 use Rattle.writing.proofs.Laid.{over-start}
 use Rattle.parse.specs.declared.Counted.the-variants as counted
 use Rattle.parse.specs.declared.Drafted.the-variants as drafted
@@ -185,7 +185,7 @@ module _ (text tree draft : List ℕ) (c : ℕ) where
                 count = cc;
               }
 
-  module _ {p w k : ℕ} {draft′ : List ℕ} (m : Made text tree draft c p w k) (body : draft′ ≡ outputOf (raisedWords bodyItems c) (draftFinal text tree draft c) draft) where
+  module _ {p w k : ℕ} (draft′ : List ℕ) (m : Made text tree draft c p w k) (body : Laid (raisedWords bodyItems c) (draftFinal text tree draft c) draft draft′) where
     abbrev s : Solution
     s = m .solution
 
@@ -199,8 +199,7 @@ module _ (text tree draft : List ℕ) (c : ℕ) where
     parsed = rw (m .is) at (parsed-solution text tree)
 
     laid-body : draft′ ≡ over bodyWords draft
-    unfolding outputOf
-    laid-body = body ∙ rw (m .final) refl
+    laid-body = rw (m .final) at body
 
     body-size : length bodyWords ≡ w
     body-size = words-raise c (exprItems (s .body)) ∙ sym (m .size)
@@ -236,10 +235,9 @@ module _ (text tree draft : List ℕ) (c : ℕ) where
         ∙ sym (words-append (raise c (paramItems s)) (raise c (exprItems (uncurry (s .body)))))
         ∙ ap wordsOf (sym (raise-append c (paramItems s) (exprItems (uncurry (s .body)))))
 
-    module _ (out : List ℕ) {out₁ out₂ : List ℕ} {r : Places} (params : out₁ ≡ outputOf (raisedWords paramItems c) (draftFinal text tree draft c) out) (wrote : (e : Expr) (n : ℕ) → exprDeep noText maxNodes (take w draft′) 0 ≡ reads e n → WroteExpr out₁ p e n out₂ r) where
+    module _ (out : List ℕ) {out₁ out₂ : List ℕ} {r : Places} (params : Laid (raisedWords paramItems c) (draftFinal text tree draft c) out out₁) (wrote : (e : Expr) (n : ℕ) → exprDeep noText maxNodes (take w draft′) 0 ≡ reads e n → WroteExpr out₁ p e n out₂ r) where
       laid-params : out₁ ≡ laid out 0 paramWords
-      unfolding outputOf
-      laid-params = params ∙ rw (m .final) (sym (over-start paramWords out))
+      laid-params = (rw (m .final) at params) ∙ sym (over-start paramWords out)
 
       first : Wrote out 0 paramWords 0 out₁ p
       first =

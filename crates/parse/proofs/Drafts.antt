@@ -20,7 +20,7 @@ use Rattle.grammar.specs.Item.{raisedWords}
 use Rattle.grammar.specs.Expr.{paramItems, bodyItems}
 use Rattle.parse.specs.Answers.{Laid, draftSaid}
 use Rattle.solutions.specs.PartsWords.{PartsDone, partsWrote, partsRefused}
-use Rattle.parse.specs.DraftAnswers.{judgedBy, AttemptedDraft, clearedBy}
+use Rattle.parse.specs.DraftAnswers.{judgedBy, AttemptedDraft}
 use Rattle.parse.specs.declared.Drafted.{Drafted}
 use Rattle.parse.specs.declared.Drafted.the-variants.{Done, Refused}
 use Rattle.solutions.specs.declared.parts.Parts.{Parts}
@@ -59,19 +59,6 @@ module _ (c : ℕ) (d d′ o o′ : List ℕ) (m : c ≤ maxNumber) where
             body = rw f (dw ∙ over-start (raisedWords bodyItems c s) d);
             params = rw f (ow ∙ over-start (raisedWords paramItems c s) o);
           }
-
--- A slice is cleared after a refusal.
-cleared : (words : Solution → List ℕ) (c : ℕ) (f : Final Solution) (o o′ : List ℕ) → Laid words f o o′ → length o′ ≡ length o → clearedBy (draftSaid c f) o′ ≡ outputOf words f o
-unfolding outputOf
-cleared words c (accepts s n) o o′ l k = l
-cleared words c (refuses e) o o′ l k = ap (λ (i : ℕ). replicate i 0) k
-
-module _ {c : ℕ} {f : Final Solution} {d d′ o o′ : List ℕ} {r : Drafted} (s : AttemptedDraft c f d d′ o o′ r) where
-  pub body-cleared : length d′ ≡ length d → clearedBy r d′ ≡ outputOf (raisedWords bodyItems c) f d
-  body-cleared k = rw (s .answer) (cleared (raisedWords bodyItems c) c f d d′ (s .body) k)
-
-  pub params-cleared : length o′ ≡ length o → clearedBy r o′ ≡ outputOf (raisedWords paramItems c) f o
-  params-cleared k = rw (s .answer) (cleared (raisedWords paramItems c) c f o o′ (s .params) k)
 
 module _ (text tree d : List ℕ) (c : ℕ) where
   solution-from : (t : Tree) → theTree text tree ≡ got t → makeSolution text tree 0 ≡ parseSolution text t 0

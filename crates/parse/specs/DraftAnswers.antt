@@ -5,7 +5,7 @@ use mathlib.Core.List.{List}
 use lib.Dec.{ltb}
 use Rattle.reading.specs.Limits.{maxNumber}
 use Rattle.reading.specs.Pick.{pick}
-use Rattle.reading.specs.Answer.{Final, zeros}
+use Rattle.reading.specs.Answer.{Final}
 use Rattle.grammar.specs.Item.{raisedWords}
 use Rattle.grammar.specs.Expr.{Solution, paramItems, bodyItems}
 use Rattle.solutions.specs.declared.parts.Parts.{Parts}
@@ -24,8 +24,3 @@ pub record AttemptedDraft (c : ℕ) (f : Final Solution) (d d′ o o′ : List �
   pub answer : r ≡ draftSaid c f
   pub body : Laid (raisedWords bodyItems c) f d d′
   pub params : Laid (raisedWords paramItems c) f o o′
-
--- A slice is cleared after a refusal.
-abbrev pub clearedBy : Drafted → List ℕ → List ℕ
-clearedBy (drafted.Done u w n) l = l
-clearedBy (drafted.Refused e) l = zeros l

@@ -1,11 +1,11 @@
 // The solution that a text begins with, before its body is flattened.
 ghost use mathlib.Core.Path.{_≡_};
-ghost use Rattle.reading.specs.Answer.{zeros, outputOf};
+ghost use Rattle.reading.specs.Answer.{zeros};
 ghost use Rattle.grammar.specs.Item.{raisedWords};
 ghost use Rattle.grammar.specs.Expr.{paramItems, bodyItems};
 ghost use Rattle.grammar.specs.Operations.{draftFinal};
-ghost use Rattle.parse.specs.Answers.{draftSaid};
-ghost use Rattle.parse.specs.DraftAnswers.{judgedBy, AttemptedDraft, clearedBy};
+ghost use Rattle.parse.specs.Answers.{Laid, draftSaid};
+ghost use Rattle.parse.specs.DraftAnswers.{judgedBy, AttemptedDraft};
 use crate::Drafted;
 use crate::tree::tree_of;
 use solutions::parts::Parts;
@@ -45,25 +45,8 @@ fn attempt(text: &[u8], tree: &mut [u32], draft: &mut [u32], out: &mut [u32], co
     }
 }
 
-// The tree is cleared, and the others too after a refusal.
-fn shut(tree: &mut [u32], draft: &mut [u32], out: &mut [u32], answer: Drafted) -> Drafted
-    ensures answer { λ r. ⌜ r ≡ answer ⌝ }
-    ensures working { λ _. ⌜ now (tree .exit) ≡ zeros (now (tree .entry)) ⌝ }
-    ensures body { λ _. ⌜ now (draft .exit) ≡ clearedBy answer (now (draft .entry)) ⌝ }
-    ensures params { λ _. ⌜ now (out .exit) ≡ clearedBy answer (now (out .entry)) ⌝ }
-{
-    clear(tree);
-    match answer {
-        Drafted::Done(u, w, n) => Drafted::Done(u, w, n),
-        Drafted::Refused(e) => {
-            clear(draft);
-            clear(out);
-            Drafted::Refused(e)
-        }
-    }
-}
-
-// The parameters go to the output, where what does not fit is dropped, and the body to the draft slice. A refusal zeroes both.
+// The parameters go to the output, where what does not fit is dropped, and the body to the draft slice. The tree is zero afterwards; whoever
+// calls this clears the draft, and after a refusal the output.
 pub fn solution_draft(
     text: &[u8],
     tree: &mut [u32],
@@ -73,9 +56,10 @@ pub fn solution_draft(
 ) -> Drafted
     ensures answer { λ r. ⌜ r ≡ draftSaid count (draftFinal (now (text .entry)) (now (tree .entry)) (now (draft .entry)) count) ⌝ }
     ensures working { λ _. ⌜ now (tree .exit) ≡ zeros (now (tree .entry)) ⌝ }
-    ensures body { λ _. ⌜ now (draft .exit) ≡ outputOf (raisedWords bodyItems count) (draftFinal (now (text .entry)) (now (tree .entry)) (now (draft .entry)) count) (now (draft .entry)) ⌝ }
-    ensures params { λ _. ⌜ now (out .exit) ≡ outputOf (raisedWords paramItems count) (draftFinal (now (text .entry)) (now (tree .entry)) (now (draft .entry)) count) (now (out .entry)) ⌝ }
+    ensures body { λ _. ⌜ Laid (raisedWords bodyItems count) (draftFinal (now (text .entry)) (now (tree .entry)) (now (draft .entry)) count) (now (draft .entry)) (now (draft .exit)) ⌝ }
+    ensures params { λ _. ⌜ Laid (raisedWords paramItems count) (draftFinal (now (text .entry)) (now (tree .entry)) (now (draft .entry)) count) (now (out .entry)) (now (out .exit)) ⌝ }
 {
     let answer = attempt(text, tree, draft, out, count);
-    shut(tree, draft, out, answer)
+    clear(tree);
+    answer
 }

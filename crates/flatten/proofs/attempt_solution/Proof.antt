@@ -17,10 +17,10 @@ enum-known-p : tie.Need-enum-known-p
 enum-known-p c = search needs
 
 slice-reshare-prefix-flat : tie.Need-slice-reshare-prefix-flat
-slice-reshare-prefix-flat c = body-within _ _ _ _ (made _ _ _ _ (sym (c .before .p .given .1) ∙ c .before .before .before .before .before .before .before .before .before .solution-draft .ensures .0)) (c .before .before .before .before .before .before .before .before .before .solution-draft .ensures .1 .1 .0)
+slice-reshare-prefix-flat c = body-within _ _ _ _ _ (made _ _ _ _ (sym (c .before .p .given .1) ∙ c .before .before .before .before .before .before .before .before .before .solution-draft .ensures .0)) (c .before .before .before .before .before .before .before .before .before .solution-draft .ensures .1 .1 .0)
 
 slice-aggregate-flat : tie.Need-slice-aggregate-flat
-slice-aggregate-flat c = rw length-take (omega (arith, body-within _ _ _ _ (made _ _ _ _ (sym (c .before .before .p .given .1) ∙ c .before .before .before .before .before .before .before .before .before .before .solution-draft .ensures .0)) (c .before .before .before .before .before .before .before .before .before .before .solution-draft .ensures .1 .1 .0)))
+slice-aggregate-flat c = rw length-take (omega (arith, body-within _ _ _ _ _ (made _ _ _ _ (sym (c .before .before .p .given .1) ∙ c .before .before .before .before .before .before .before .before .before .before .solution-draft .ensures .0)) (c .before .before .before .before .before .before .before .before .before .before .solution-draft .ensures .1 .1 .0)))
 
 flat-requires : tie.Need-flat-requires
 flat-requires c κs = search needs
@@ -35,7 +35,7 @@ same-length-3 : tie.Need-same-length-3
 same-length-3 c = search needs
 
 returns : tie.Need-returns
-returns c = (solution-full _ _ _ _ (made _ _ _ _ (sym (c .before .before .before .before .before .before .before .before .p .given .1) ∙ c .before .before .before .before .before .before .before .before .before .before .before .before .before .before .before .before .solution-draft .ensures .0)) (c .before .before .before .before .before .before .before .before .before .before .before .before .before .before .before .before .solution-draft .ensures .1 .1 .0) _ (c .before .before .before .before .before .before .before .before .before .before .before .before .before .before .before .before .solution-draft .ensures .1 .1 .1) (c .before .before .before .before .flat .ensures) refl (c .if1 .taken), (c .before .before .before .before .before .before .before .before .before .before .before .before .before .before .before .before .solution-draft .ensures .1 .0, ap (λ (n : ℕ). replicate n 0) (c .before .before .before .before .before .before .before .before .before .before .before .before .before .before .before .before .solution-draft .kept .1 .1 .0)))
+returns c = (solution-full _ _ _ _ _ (made _ _ _ _ (sym (c .before .before .before .before .before .before .before .before .p .given .1) ∙ c .before .before .before .before .before .before .before .before .before .before .before .before .before .before .before .before .solution-draft .ensures .0)) (c .before .before .before .before .before .before .before .before .before .before .before .before .before .before .before .before .solution-draft .ensures .1 .1 .0) _ (c .before .before .before .before .before .before .before .before .before .before .before .before .before .before .before .before .solution-draft .ensures .1 .1 .1) (c .before .before .before .before .flat .ensures) refl (c .if1 .taken), (c .before .before .before .before .before .before .before .before .before .before .before .before .before .before .before .before .solution-draft .ensures .1 .0, ap (λ (n : ℕ). replicate n 0) (c .before .before .before .before .before .before .before .before .before .before .before .before .before .before .before .before .solution-draft .kept .1 .1 .0)))
 
 same-length-4 : tie.Need-same-length-4
 same-length-4 c = search needs
@@ -59,7 +59,7 @@ same-length-9 : tie.Need-same-length-9
 same-length-9 c = search needs
 
 returns-3 : tie.Need-returns-3
-returns-3 c = (solution-done _ _ _ _ (made _ _ _ _ (sym (c .before .before .before .before .before .before .before .before .p .given .1) ∙ c .before .before .before .before .before .before .before .before .before .before .before .before .before .before .before .before .solution-draft .ensures .0)) (c .before .before .before .before .before .before .before .before .before .before .before .before .before .before .before .before .solution-draft .ensures .1 .1 .0) _ (c .before .before .before .before .before .before .before .before .before .before .before .before .before .before .before .before .solution-draft .ensures .1 .1 .1) (c .before .before .before .before .flat .ensures) refl (c .if1 .left), (c .before .before .before .before .before .before .before .before .before .before .before .before .before .before .before .before .solution-draft .ensures .1 .0, ap (λ (n : ℕ). replicate n 0) (c .before .before .before .before .before .before .before .before .before .before .before .before .before .before .before .before .solution-draft .kept .1 .1 .0)))
+returns-3 c = (solution-done _ _ _ _ _ (made _ _ _ _ (sym (c .before .before .before .before .before .before .before .before .p .given .1) ∙ c .before .before .before .before .before .before .before .before .before .before .before .before .before .before .before .before .solution-draft .ensures .0)) (c .before .before .before .before .before .before .before .before .before .before .before .before .before .before .before .before .solution-draft .ensures .1 .1 .0) _ (c .before .before .before .before .before .before .before .before .before .before .before .before .before .before .before .before .solution-draft .ensures .1 .1 .1) (c .before .before .before .before .flat .ensures) refl (c .if1 .left), (c .before .before .before .before .before .before .before .before .before .before .before .before .before .before .before .before .solution-draft .ensures .1 .0, ap (λ (n : ℕ). replicate n 0) (c .before .before .before .before .before .before .before .before .before .before .before .before .before .before .before .before .solution-draft .kept .1 .1 .0)))
 
 pub attempt-solution-spec : {M : Type 1} → statement M
 attempt-solution-spec =
