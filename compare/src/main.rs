@@ -11,7 +11,7 @@
 //!     compare reading SEED MILLIONS so many million for read one and read all against sexp.rs, behind all short texts
 //!     compare source SEED MILLIONS  so many million for all operations against parser.rs and constraint.rs, behind all small texts
 //!     compare bench TEXT ..         the time of read one against sexp.rs
-//!     compare bench-solution        the time of solution against sexp.rs, parser.rs and constraint.rs
+//!     compare bench-solution [TEXT ..]  the time of solution against sexp.rs, parser.rs and constraint.rs, of made texts or of these
 //!
 //! The last four need the source when the program is built.
 
@@ -167,8 +167,8 @@ fn run(words: &[&str]) -> Result<(), String> {
             source_held(&size, &mut Random::new(number(seed)?))
         }
         #[cfg(flux_source)]
-        ["bench-solution"] => {
-            source::bench::run();
+        ["bench-solution", paths @ ..] => {
+            source::bench::run(paths);
             Ok(())
         }
         #[cfg(flux_source)]
@@ -178,7 +178,7 @@ fn run(words: &[&str]) -> Result<(), String> {
         }
         #[cfg(not(flux_source))]
         ["reading" | "source" | "bench" | "bench-solution", ..] => Err("built without the source; FLUX_SOURCE names its folder".to_string()),
-        _ => Err("compare gate ANSWERS TERMS | long SEED MILLIONS | smtlib SEED MILLIONS | write | script | reading SEED MILLIONS | source SEED MILLIONS | bench TEXT .. | bench-solution | bench-flatten | bench-smtlib".to_string()),
+        _ => Err("compare gate ANSWERS TERMS | long SEED MILLIONS | smtlib SEED MILLIONS | write | script | reading SEED MILLIONS | source SEED MILLIONS | bench TEXT .. | bench-solution [TEXT ..] | bench-flatten | bench-smtlib".to_string()),
     }
 }
 

@@ -8,8 +8,8 @@ use crate::paper;
 use crate::smtlib::{self, Extreme};
 use std::thread;
 
-/// Half of what a caller must bring.
-pub const BYTES: usize = 512 * 1024;
+/// What a caller must bring.
+pub const BYTES: usize = 128 * 1024;
 
 const OPERATIONS: [Operation; 6] =
     [Operation::ReadOne, Operation::ReadAll, Operation::Sort, Operation::Expression, Operation::Bind, Operation::Solution];

@@ -11,7 +11,7 @@
 //!
 //! What each operation answers, which words it writes and when it refuses is proved of the library that this crate
 //! links, for every text and for slices of any length. The decoding of words into terms, their encoding and their
-//! printing is plain Rust with tests. A call needs at most 512 KiB of stack, which is tested and not proved. The library
+//! printing is plain Rust with tests. A call needs at most 128 KiB of stack, which is tested and not proved. The library
 //! keeps nothing from call to call.
 //!
 //! ```

@@ -13,6 +13,7 @@ use crate::model::Model;
 use crate::random::Random;
 use crate::solutions::{self, SOLVED};
 use crate::timing::{micros, round_by_round, turns};
+use std::fs;
 use std::hint::black_box;
 use std::time::{Duration, Instant};
 use upstream::sexp::Parser;
@@ -25,6 +26,8 @@ const LONG: [usize; 3] = [5 * 32_768, 15 * 32_768, 15 * 32_768];
 /// Texts of a build: bytes, and how many.
 const BUILD: [(usize, usize); 4] = [(200, 240), (2048, 120), (8192, 36), (32_768, 4)];
 const BUILD_ROUNDS: usize = 20;
+/// How often a text of a file is read in a turn.
+const READINGS: usize = 400;
 
 /// A text, and slices for it.
 struct Case {
@@ -93,10 +96,21 @@ fn bytes_of(cases: &[Case]) -> usize {
     cases.iter().map(|c| c.text.len()).sum()
 }
 
-pub fn run() {
-    let mut r = Random::new(SEED);
+/// The solutions in these files, or, without one, made ones of several sizes.
+pub fn run(paths: &[&str]) {
     println!("| text | bytes | solution | sexp.rs, parser.rs, uncurry | ratio |");
     println!("|---|---|---|---|---|");
+    for path in paths {
+        let mut case = [Case::new(fs::read_to_string(path).expect("a text"))];
+        row(path.rsplit('/').next().unwrap_or(path), bytes_of(&case), times(&mut case, READINGS), 1);
+    }
+    if paths.is_empty() {
+        made();
+    }
+}
+
+fn made() {
+    let mut r = Random::new(SEED);
     for (bytes, n, rounds) in SIZES {
         let mut cases = cases(bytes, n, &mut r);
         row("a solution", bytes_of(&cases) / n, times(&mut cases, rounds), n);

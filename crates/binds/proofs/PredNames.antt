@@ -23,7 +23,7 @@ use Rattle.binds.specs.PredWords.{KvarHere, ReadPred, Stepped, stepRead,
 use Rattle.words.specs.declared.Answer.{Answer}
 use Rattle.words.specs.declared.Answer.the-variants.{Done, Refused}
 use Rattle.binds.specs.declared.preds.Step.the-variants as step
-use Rattle.grammar.proofs.Post.{Every, any-every, then-every}
+use Rattle.grammar.proofs.AnswerHolds.{Every, any-every, then-every}
 use Rattle.grammar.proofs.FormsWritten.{children-count}
 use Rattle.places.proofs.FirstTree.{More, some, none-left}
 use Rattle.places.proofs.SortPlace.{GotAt, BadAt, every-got}

@@ -4,7 +4,7 @@ use mathlib.Core.Path.{_≡_, ap, subst}
 use mathlib.Core.List.{List, []}
 use native.Mathlib.Omega.{arith}
 use lib.ListN.{length}
-use Rattle.reading.specs.Limits.{maxBytes, maxNumber}
+use Rattle.reading.specs.Limits.{maxBytes, maxLists, maxNumber}
 use Rattle.reading.specs.Tree.{Tree, Within}
 use Rattle.reading.proofs.Wider.{tree-wider}
 use Rattle.reading.proofs.TextTree.{TextTree}
@@ -15,13 +15,13 @@ use Rattle.grammar.specs.ParseSolution.{parseSolution}
 use Rattle.grammar.specs.Operations.{theTree, makeExpr, makeSolution}
 use Rattle.grammar.specs.Raise.{raiseExpr}
 use Rattle.grammar.specs.Shape.{Coded, depth, scopes}
-use Rattle.grammar.proofs.Post.{Post, lifted-post, both-post, map-post}
+use Rattle.grammar.proofs.AnswerHolds.{Post, lifted-post, both-post, map-post}
 use Rattle.grammar.proofs.Items.{length-words}
 use Rattle.grammar.proofs.Raise.{items-raise, depth-raise}
 use Rattle.grammar.proofs.Raised.{coded-raise}
 use Rattle.grammar.proofs.Walk.{child-of}
 use Rattle.grammar.proofs.SolutionOf.{SolutionOf, solution-of}
-use Rattle.grammar.proofs.Small.{Small, SmallAll, small}
+use Rattle.grammar.proofs.Shallow.{Small, SmallAll, small}
 use Rattle.grammar.proofs.Size.{Sized, SizedAll, sized}
 use Rattle.grammar.proofs.TheTree.{the-tree}
 use Rattle.judging.specs.Judge.{reads, judgeExpr}
@@ -32,23 +32,23 @@ use Rattle.judging.proofs.Back.{judged-back}
 abbrev pub JudgedBack : Expr → ℕ → Type 0
 JudgedBack e n = (c : ℕ) → c + n ≤ maxNumber → judgeExpr noText (wordsOf (raise c (exprItems e))) ≡ reads (raiseExpr c e) (length (wordsOf (raise c (exprItems e))))
 
--- What is known of an expression: it nests at most 66 deep and opens at most 63 scopes, it is judged back, and it has at most 15 words for
--- each byte of the text.
+-- What is known of an expression: it nests at most two deeper than lists may, and opens fewer scopes than lists may nest; it is judged back; and it
+-- has at most 15 words for each byte of the text.
 pub record ParsedExpr (text : List ℕ) (e : Expr) (n : ℕ) : Type 0 where
-  pub deep : depth e ≤ 66
-  pub opens : scopes e ≤ 63
+  pub deep : depth e ≤ maxLists + 2
+  pub opens : scopes e ≤ maxLists - 1
   pub back : JudgedBack e n
   pub size : length (wordsOf (exprItems e)) ≤ 15 * length text
 
 -- The same of a solution before flattening; its parameters are a scope, too. The text is no longer than a text may be.
 pub record ParsedSolution (text : List ℕ) (s : Solution) (n : ℕ) : Type 0 where
   pub short : length text ≤ maxBytes
-  pub deep : depth (s .body) ≤ 65
-  pub opens : suc (scopes (s .body)) ≤ 63
+  pub deep : depth (s .body) ≤ maxLists + 1
+  pub opens : suc (scopes (s .body)) ≤ maxLists - 1
   pub back : JudgedBack (s .body) n
   pub size : length (wordsOf (solutionItems s)) ≤ 15 * length text
 
-coded-back : (e : Expr) (n : ℕ) → depth e ≤ 66 → Coded e noText n → JudgedBack e n
+coded-back : (e : Expr) (n : ℕ) → depth e ≤ maxLists + 2 → Coded e noText n → JudgedBack e n
 coded-back e n d h c l =
     subst (λ its. judgeExpr noText (wordsOf its) ≡ reads (raiseExpr c e) (length (wordsOf its))) (items-raise c e)
     (judged-back noText (c + n) (omega arith) (raiseExpr c e) (coded-raise c noText n e h) (omega (arith, depth-raise c e)))
@@ -59,7 +59,7 @@ module _ (text : List ℕ) where
   expr-from t i =
       map-post (parseExpr text t 0) (λ e m. Small t [] 0 e m × Sized t [] 0 e m) _
       (λ e m h.
-      let d : depth e ≤ 66 = omega (arith, h .0 .deep, i .nests) in
+      let d : depth e ≤ maxLists + 2 = omega (arith, h .0 .deep, i .nests) in
       record {
         deep = d;
         opens = omega (arith, h .0 .opens, i .nests);

@@ -10,7 +10,7 @@ use Rattle.grammar.specs.Expr.{Expr, Exprs, node, app, enil, econs, exprs, kind
 use Rattle.grammar.specs.Numbers.{times}
 use Rattle.grammar.specs.Scoped.{Scoped, ScopedAll, ScopedSolution}
 use Rattle.grammar.proofs.Items.{bound-append, bound-front}
-use Rattle.grammar.proofs.Same.{Same, same-refl, same-of, same-trans, same-append, same-swap}
+use Rattle.grammar.proofs.SameNumbers.{Same, same-refl, same-of, same-trans, same-append, same-swap}
 use Rattle.flattening.specs.Uncurry.{join, applied, uncurry, uncurryAll, flattened}
 use Rattle.flattening.proofs.Uncurry.{exprs-uncurry, items-join}
 

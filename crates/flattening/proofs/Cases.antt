@@ -3,6 +3,7 @@ use Prim.Native.Nat.{ℕ}
 use mathlib.Core.Path.{_≡_, refl}
 use mathlib.Core.List.{List, [], _∷_, _++_}
 use lib.ListN.{replicate}
+use Rattle.reading.specs.Limits.{maxNodes}
 use Rattle.reading.specs.Answer.{Final, accepts, refuses}
 use Rattle.grammar.specs.Expr.{Expr}
 use Rattle.flattening.specs.Operations.{exprWords, flattenFinal}
@@ -22,10 +23,10 @@ unfolding flattenComputes
 inner-first = refl
 
 -- A node too deep is 6 even where its fields are missing, and 14 where its kind is unknown.
-too-deep : flat (replicate 128 44 ++ (33 ∷ [])) ≡ (6 ∷ [])
+too-deep : flat (replicate maxNodes 44 ++ (33 ∷ [])) ≡ (6 ∷ [])
 unfolding flattenComputes
 too-deep = refl
 
-unknown-deep : flat (replicate 128 44 ++ (52 ∷ [])) ≡ (14 ∷ [])
+unknown-deep : flat (replicate maxNodes 44 ++ (52 ∷ [])) ≡ (14 ∷ [])
 unfolding flattenComputes
 unknown-deep = refl

@@ -12,9 +12,9 @@ use Rattle.grammar.specs.Expr.{Solution, solutionItems}
 use Rattle.grammar.specs.ParseSolution.{parseSolution}
 use Rattle.grammar.specs.Operations.{theTree, makeSolution}
 use Rattle.grammar.specs.Shape.{BindersCoded, Coded}
-use Rattle.grammar.proofs.Post.{Post, lifted-post, map-post}
+use Rattle.grammar.proofs.AnswerHolds.{Post, lifted-post, map-post}
 use Rattle.grammar.proofs.SolutionOf.{SolutionOf, solution-of}
-use Rattle.grammar.proofs.Small.{Small, SmallAll, small}
+use Rattle.grammar.proofs.Shallow.{Small, SmallAll, small}
 use Rattle.grammar.proofs.TheTree.{the-tree}
 use Rattle.judging.specs.Judge.{reads, judgeSolution}
 use Rattle.judging.proofs.Back.{solution-back}

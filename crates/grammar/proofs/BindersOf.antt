@@ -16,9 +16,9 @@ use Rattle.grammar.specs.ParseExpr.{nameOf}
 use Rattle.grammar.specs.Shape.{BindersCoded}
 use Rattle.reading.proofs.Weight.{weight-some}
 use Rattle.grammar.proofs.Items.{words-front}
-use Rattle.grammar.proofs.Post.{Every, then-every, any-every, map-every}
+use Rattle.grammar.proofs.AnswerHolds.{Every, then-every, any-every, map-every}
 use Rattle.grammar.proofs.SortOf.{SortOf, in-list, sort-of}
-use Rattle.grammar.proofs.Kept.{BindersOf}
+use Rattle.grammar.proofs.WalkKeeps.{BindersOf}
 
 -- A tree that stands among others.
 pub record TreeIn (ts : Trees) (t : Tree) : Type 0 where

@@ -10,7 +10,7 @@ use borrow.Author.Tests.{eqb-true, eqb-false, eq-eqb, ne-eqb, ltb-true, ltb-fals
 use Rattle.reading.specs.Pick.{pick}
 use Rattle.grammar.specs.Item.{Item, plain, uses, binds, raise, used, bound}
 use Rattle.grammar.specs.Numbers.{hit, times, Exactly}
-use Rattle.grammar.proofs.Same.{times-append}
+use Rattle.grammar.proofs.SameNumbers.{times-append}
 
 -- The numbers from k on, so many.
 unfoldable pub upFrom : ℕ → ℕ → List ℕ

@@ -12,8 +12,8 @@ use Rattle.grammar.specs.Names.{Form, fixed, many, cast, exists, letIn, 
 use Rattle.grammar.specs.Scope.{varOf}
 use Rattle.grammar.specs.ParseExpr.{orElseForm}
 use Rattle.grammar.specs.Shape.{HasOperands}
-use Rattle.grammar.proofs.Post.{AllRows, IfThere}
-use Rattle.grammar.proofs.Kept.{PlainKind}
+use Rattle.grammar.proofs.AnswerHolds.{AllRows, IfThere}
+use Rattle.grammar.proofs.WalkKeeps.{PlainKind}
 
 -- A name that stands in a tree.
 abbrev pub NameFrom : Tree → Span → Type 0

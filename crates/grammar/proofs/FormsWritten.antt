@@ -17,7 +17,7 @@ use Rattle.grammar.specs.ParseExpr.{Child, childAt, nestedAt, operands, 
 use Rattle.grammar.specs.Written.{W, exprWords, exprsWords, kindWords, told, toldAll, ahead, after, operandsW, noLast, endW}
 use Rattle.grammar.proofs.Items.{words-append, words-front}
 use Rattle.grammar.proofs.Raise.{raise-append, raise-front}
-use Rattle.grammar.proofs.Post.{Post, chain-post}
+use Rattle.grammar.proofs.AnswerHolds.{Post, chain-post}
 
 -- The words of two lists of raised items.
 pub raised-append : (c : ℕ) (a b : List Item) → wordsOf (raise c (a ++ b)) ≡ wordsOf (raise c a) ++ wordsOf (raise c b)

@@ -18,7 +18,7 @@ use Rattle.grammar.specs.Scope
 use Rattle.grammar.specs.Scope.{Scope, numbered}
 use Rattle.grammar.specs.ParseExpr.{numeral}
 use Rattle.grammar.proofs.Items.{length-words, words-front}
-use Rattle.grammar.proofs.Kept.{Kept}
+use Rattle.grammar.proofs.WalkKeeps.{Kept}
 
 -- As a predicate an expression has one word more.
 pub record Sized (t : Tree) (sc : List Scope) (n : ℕ) (e : Expr) (m : ℕ) : Type 0 where

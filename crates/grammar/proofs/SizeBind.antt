@@ -14,7 +14,7 @@ use Rattle.grammar.specs.ParseSort.{inList, inSymbol, treeAt, parseSort}
 use Rattle.grammar.specs.ParseExpr.{child}
 use Rattle.grammar.specs.ParseBind.{parseBind}
 use Rattle.grammar.proofs.Items.{length-words, words-front}
-use Rattle.grammar.proofs.Post.{Post, chain-post, lifted-post, any-post, then-every, map-every}
+use Rattle.grammar.proofs.AnswerHolds.{Post, chain-post, lifted-post, any-post, then-every, map-every}
 use Rattle.grammar.proofs.SortOf.{SortOf, in-list, sort-of}
 use Rattle.grammar.proofs.BindersOf.{TreeIn, tree-at, sort-from}
 use Rattle.grammar.proofs.WalkPreds.{KeptPreds, preds-of}

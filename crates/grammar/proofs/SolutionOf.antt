@@ -15,9 +15,9 @@ use Rattle.grammar.specs.Scope.{Scope, numbered, distinct}
 use Rattle.grammar.specs.ParseExpr
 use Rattle.grammar.specs.ParseExpr.{nameOf}
 use Rattle.grammar.specs.ParseSolution.{allNames, allSorts, parseSolution}
-use Rattle.grammar.proofs.Post.{Post, Every, chain-post, lifted-post, any-post, then-every, any-every}
+use Rattle.grammar.proofs.AnswerHolds.{Post, Every, chain-post, lifted-post, any-post, then-every, any-every}
 use Rattle.grammar.proofs.SortOf.{in-list}
-use Rattle.grammar.proofs.Kept.{BindersOf, Kept}
+use Rattle.grammar.proofs.WalkKeeps.{BindersOf, Kept}
 use Rattle.grammar.proofs.BindersOf.{BinderSort, SortsFrom, sorts-none, sorts-more, binders-made, sort-in}
 use Rattle.grammar.proofs.Walk.{child-of}
 

@@ -23,7 +23,7 @@ use Rattle.grammar.specs.Shape.{SortCoded, SortsCoded, CtorWithin}
 use Rattle.reading.proofs.Bytes.{bytes-length}
 use Rattle.reading.proofs.Weight.{weight-some}
 use Rattle.reading.proofs.TreeHead.{tree-two}
-use Rattle.grammar.proofs.Post.{Every, map-every, then-every, any-every, AllRows, IfThere, lookup-holds}
+use Rattle.grammar.proofs.AnswerHolds.{Every, map-every, then-every, any-every, AllRows, IfThere, lookup-holds}
 
 -- The sort's fields are within their codes, and its words and one more are at most 15 for each byte that the tree takes, and 16 for each of its words.
 pub record SortOf (t : Tree) (s : Sort) : Type 0 where

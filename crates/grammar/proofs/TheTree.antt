@@ -9,7 +9,7 @@ use Rattle.reading.specs.Reading.{Read, readText, readWords}
 use Rattle.reading.proofs.TextTree.{TextTree, text-tree}
 use Rattle.grammar.specs.ParseSort.{treeAt}
 use Rattle.grammar.specs.Operations.{theTree}
-use Rattle.grammar.proofs.Post.{Every, any-every}
+use Rattle.grammar.proofs.AnswerHolds.{Every, any-every}
 
 first-tree : (text : List ℕ) (r : Read) → readText false text ≡ got r → Every (treeAt (r .read) 0) (TextTree text)
 unfolding treeAt

@@ -18,9 +18,9 @@ use Rattle.grammar.specs.Scope.{Scope, varOf, distinct}
 use Rattle.grammar.specs.ParseExpr
 use Rattle.grammar.specs.ParseExpr.{P, Child, childAt, rest, nestedAt, plainAt, operands, nodeForm, minusForm, through, throughName, throughValue, letForm, isCtorForm, callForm, quotedIn, atomChild, orElseForm, bitsOf}
 use Rattle.grammar.specs.Shape.{HasOperands}
-use Rattle.grammar.proofs.Post.{Post, Every, chain-post, lifted-post, any-post, map-post, map-every, lookup-holds}
+use Rattle.grammar.proofs.AnswerHolds.{Post, Every, chain-post, lifted-post, any-post, map-post, map-every, lookup-holds}
 use Rattle.grammar.proofs.SortOf.{SortOf, in-list, in-symbol, sort-of}
-use Rattle.grammar.proofs.Kept.{PlainKind, BindersOf, Kept}
+use Rattle.grammar.proofs.WalkKeeps.{PlainKind, BindersOf, Kept}
 use Rattle.grammar.proofs.Forms.{NameFrom, NameFromAny, neg-plain, bin-plain, bits-plain, let-plain, ctor-plain, FormFits, keywords-fit, form-fits}
 use Rattle.grammar.proofs.BindersOf.{TreeIn, tree-at, sort-from, binders-of}
 

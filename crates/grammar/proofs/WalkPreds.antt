@@ -14,8 +14,8 @@ use Rattle.grammar.specs.Expr.{VarName, Expr, Exprs, Pred, kvar, expr}
 use Rattle.grammar.specs.Scope.{Scope}
 use Rattle.grammar.specs.ParseExpr
 use Rattle.grammar.specs.ParseExpr.{P, Child, childAt, through, eachPred, symbols, kvarForm, exprPred, atomChild}
-use Rattle.grammar.proofs.Post.{Post, Every, chain-post, lifted-post, any-post, then-every, any-every, map-post}
-use Rattle.grammar.proofs.Kept.{Kept}
+use Rattle.grammar.proofs.AnswerHolds.{Post, Every, chain-post, lifted-post, any-post, then-every, any-every, map-post}
+use Rattle.grammar.proofs.WalkKeeps.{Kept}
 use Rattle.grammar.proofs.Walk.{ChildOf, ChildrenOf, child-of, children-of}
 
 -- What is to be kept of predicates: that are read from a tree, taking the numbers from n up to m; that are read from all of these trees.

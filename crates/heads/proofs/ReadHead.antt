@@ -15,7 +15,7 @@ use Rattle.judging.specs.declared.End.{End}
 use Rattle.judging.specs.declared.End.the-variants as end
 use Rattle.heads.specs.declared.Header.{Header}
 use Rattle.heads.specs.declared.Header.the-variants.{Operands, Arguments, No}
-use Rattle.judging.specs.Judge.{Judged, reads, fails, Reader, Plan, goOn, ret, fail, plan, among, word, wordBelow, choose, twoWords, fourWords, several, spanWithin, nameWithin, bindersAt, kinds, header}
+use Rattle.judging.specs.Judge.{Judged, reads, fails, FromWords, Plan, goOn, ret, fail, plan, among, word, wordBelow, choose, twoWords, fourWords, several, spanWithin, nameWithin, bindersAt, kinds, header}
 use Rattle.judging.specs.Ends.{endOf}
 use Rattle.heads.specs.Heads.{headOf, operandsAt}
 use Rattle.judging.proofs.ReadFields.{anyWords, ends-ret, word-in, word-out}
@@ -32,11 +32,11 @@ named (fails r) f n ws = refl
 
 -- So many words of any value, of which the first is read by itself.
 module _ (ws : List ℕ) (p n : ℕ) where
-  more : {B : Type 0} (x : Judged ℕ) (f : ℕ → Reader B) (g : B → Reader Plan) → ((a m : ℕ) → operandsAt (endOf (anyWords n ws m)) p ≡ headOf (goOn (f a ws m) g ws)) → operandsAt (endOf (goOn x (λ a us m. goOn (anyWords n us m) (λ rest. ret (a ∷ rest)) us) ws)) p ≡ headOf (goOn (goOn x f ws) g ws)
+  more : {B : Type 0} (x : Judged ℕ) (f : ℕ → FromWords B) (g : B → FromWords Plan) → ((a m : ℕ) → operandsAt (endOf (anyWords n ws m)) p ≡ headOf (goOn (f a ws m) g ws)) → operandsAt (endOf (goOn x (λ a us m. goOn (anyWords n us m) (λ rest. ret (a ∷ rest)) us) ws)) p ≡ headOf (goOn (goOn x f ws) g ws)
   more (reads a m) f g h = ap (λ e. operandsAt e p) (ends-ret (anyWords n ws m) (λ rest. a ∷ rest) ws) ∙ h a m
   more (fails r) f g h = refl
 
-  last : (x : Judged ℕ) (g : ℕ → Reader Plan) → ((a m : ℕ) → operandsAt (endOf (anyWords n ws m)) p ≡ headOf (g a ws m)) → operandsAt (endOf (goOn x (λ a us m. goOn (anyWords n us m) (λ rest. ret (a ∷ rest)) us) ws)) p ≡ headOf (goOn x g ws)
+  last : (x : Judged ℕ) (g : ℕ → FromWords Plan) → ((a m : ℕ) → operandsAt (endOf (anyWords n ws m)) p ≡ headOf (g a ws m)) → operandsAt (endOf (goOn x (λ a us m. goOn (anyWords n us m) (λ rest. ret (a ∷ rest)) us) ws)) p ≡ headOf (goOn x g ws)
   last (reads a m) g h = ap (λ e. operandsAt e p) (ends-ret (anyWords n ws m) (λ rest. a ∷ rest) ws) ∙ h a m
   last (fails r) g h = refl
 

@@ -13,7 +13,7 @@ use Rattle.grammar.specs.Expr.{Kind, Exprs, node, app, enil, econs}
 use Rattle.judging.specs.declared.End.{End}
 use Rattle.judging.specs.declared.End.the-variants.{At, No}
 use Rattle.heads.specs.declared.Header.the-variants as head
-use Rattle.judging.specs.Judge.{Judged, reads, fails, Reader, Plan, operandsOf, argumentsOf, several, sortAt, sortIf, kinds, header, planned, exprDeep, atEnd, exprAt, judgeExpr, judgeSolution, word, bindersAt}
+use Rattle.judging.specs.Judge.{Judged, reads, fails, FromWords, Plan, operandsOf, argumentsOf, several, sortAt, sortIf, kinds, header, planned, exprDeep, atEnd, exprAt, judgeExpr, judgeSolution, word, bindersAt}
 use Rattle.judging.specs.Ends.{endOf}
 use Rattle.heads.specs.Heads.{headOf}
 use Rattle.judging.proofs.ReadFields.{ends-ret, word-in, word-out}
@@ -44,7 +44,7 @@ head-no (reads (argumentsOf f m) b) e = let z : _≡_ {A = ℕ} 0 1 = cc in absu
 head-no (fails r) e = cc
 
 -- So many, one after the other: one more, or none.
-module _ {A B : Type 0} (p : Reader A) (none : B) (put : A → B → B) (ws : List ℕ) (at : ℕ) where
+module _ {A B : Type 0} (p : FromWords A) (none : B) (put : A → B → B) (ws : List ℕ) (at : ℕ) where
   pub several-no : (i : ℕ) {r : ℕ} → 0 < i → No r ≡ endOf (p ws at) → endOf (several p none put i ws at) ≡ No r
   unfolding several
   several-no zero h e = absurd (omega arith)
@@ -64,7 +64,7 @@ module _ {A B : Type 0} (p : Reader A) (none : B) (put : A → B → B) (ws : Li
   several-end (suc i) h = absurd (omega arith)
 
 -- So many expressions with room for so many inside one another.
-abbrev pub siblings : ℕ → ℕ → ℕ → Reader Exprs
+abbrev pub siblings : ℕ → ℕ → ℕ → FromWords Exprs
 siblings limit room n = several (exprDeep limit room) enil econs n
 
 module _ (ws : List ℕ) (at : ℕ) where

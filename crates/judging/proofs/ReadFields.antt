@@ -7,11 +7,11 @@ use lib.ListN.{length, getD}
 use borrow.Author.Tests.{lt-ltb, le-ltb}
 use Rattle.reading.specs.Pick.{pick}
 use Rattle.judging.specs.declared.End.the-variants.{At, No}
-use Rattle.judging.specs.Judge.{Judged, reads, fails, Reader, goOn, ret, word, wordBelow, several}
+use Rattle.judging.specs.Judge.{Judged, reads, fails, FromWords, goOn, ret, word, wordBelow, several}
 use Rattle.judging.specs.Ends.{endOf}
 
 -- So many words of any value.
-abbrev pub anyWords : ℕ → Reader (List ℕ)
+abbrev pub anyWords : ℕ → FromWords (List ℕ)
 anyWords n = several word [] (λ a rest. a ∷ rest) n
 
 -- What is made of what was read does not matter to the place behind it.

@@ -11,7 +11,7 @@ use Rattle.reading.specs.Limits.{maxNodes}
 use Rattle.reading.specs.Pick.{pick}
 use Rattle.reading.specs.Answer.{notWords}
 use Rattle.grammar.specs.Expr.{Solution}
-use Rattle.judging.specs.Judge.{reads, fails, Reader, _>>=_, bindersAt, exprDeep, exprAt, atEnd, judgeSolution}
+use Rattle.judging.specs.Judge.{reads, fails, FromWords, _>>=_, bindersAt, exprDeep, exprAt, atEnd, judgeSolution}
 use Rattle.judging.proofs.ReadFields.{word-in, word-out}
 use Rattle.judging.proofs.Taken.{never-reads, first-read, same-value}
 
@@ -33,7 +33,7 @@ module _ (limit : ℕ) where
       go false h q = never-reads q
 
   -- What is read behind the number of parameters.
-  pub behindCount : ℕ → Reader Solution
+  pub behindCount : ℕ → FromWords Solution
   behindCount n = bindersAt limit n >>= λ bs. exprAt limit >>= λ e. atEnd limit (record { params = bs; body = e })
 
   -- Where there is a word, and where there is none.

@@ -15,7 +15,7 @@ use Rattle.reading.specs.At.{At}
 use Rattle.reading.proofs.Placed.{at-tail, at-inside, at-below, at-word, at-drop, drop-at}
 use Rattle.grammar.specs.Sort.{two}
 use Rattle.judging.specs.Spelled.{Spelled}
-use Rattle.judging.specs.Judge.{Judged, reads, fails, Reader, goOn, _>>=_, ret, fail, word, wordBelow, among, orFail, choose, twoWords, fourWords, several}
+use Rattle.judging.specs.Judge.{Judged, reads, fails, FromWords, goOn, _>>=_, ret, fail, word, wordBelow, among, orFail, choose, twoWords, fourWords, several}
 
 -- Every word has 32 bits.
 abbrev pub Low : List ℕ → Type 0
@@ -27,11 +27,11 @@ Post (reads a n) Q = Q a n
 Post (fails r) Q = Unit {0}
 
 -- Words xs from a position on, and behind them what q reads: together they are the words u of it.
-pub record Behind {A : Type 0} (ws xs : List ℕ) (q : Reader A) (u : A → List ℕ) : Type 0 where
+pub record Behind {A : Type 0} (ws xs : List ℕ) (q : FromWords A) (u : A → List ℕ) : Type 0 where
   pub reach : (at m : ℕ) → Spelled ws at m xs → Post (q ws m) (λ a n. Spelled ws at n (u a))
 
 -- A reading that goes on.
-pub chain-post : {A B : Type 0} (x : Judged A) (f : A → Reader B) (ws : List ℕ) (Q : A → ℕ → Type 0) (R : B → ℕ → Type 0) → Post x Q → ((a : A) (n : ℕ) → Q a n → Post (f a ws n) R) → Post (goOn x f ws) R
+pub chain-post : {A B : Type 0} (x : Judged A) (f : A → FromWords B) (ws : List ℕ) (Q : A → ℕ → Type 0) (R : B → ℕ → Type 0) → Post x Q → ((a : A) (n : ℕ) → Q a n → Post (f a ws n) R) → Post (goOn x f ws) R
 chain-post (reads a n) f ws Q R q k = k a n q
 chain-post (fails r) f ws Q R q k = tt
 
@@ -108,7 +108,7 @@ module _ {ws : List ℕ} where
   refused r = record { reach = λ at m s. tt }
 
   -- What is known at every position.
-  pub anywhere : {A : Type 0} {u : A → List ℕ} (q : Reader A) → ((at : ℕ) → Post (q ws at) (λ a n. Spelled ws at n (u a))) → Behind ws [] q u
+  pub anywhere : {A : Type 0} {u : A → List ℕ} (q : FromWords A) → ((at : ℕ) → Post (q ws at) (λ a n. Spelled ws at n (u a))) → Behind ws [] q u
   anywhere {u = u} q h =
       record {
         reach = λ at m s.
@@ -117,7 +117,7 @@ module _ {ws : List ℕ} where
       }
 
   -- One reading, with all that stands before it, and another behind it.
-  pub behind : {A B : Type 0} {xs : List ℕ} {w : A → List ℕ} {u : B → List ℕ} (p : Reader A) {f : A → Reader B} → Behind ws xs p w → ((a : A) → Behind ws (w a) (f a) u) → Behind ws xs (p >>= f) u
+  pub behind : {A B : Type 0} {xs : List ℕ} {w : A → List ℕ} {u : B → List ℕ} (p : FromWords A) {f : A → FromWords B} → Behind ws xs p w → ((a : A) → Behind ws (w a) (f a) u) → Behind ws xs (p >>= f) u
   behind {w = w} {u = u} p {f} P k =
       record {
         reach = λ at m s.
@@ -125,7 +125,7 @@ module _ {ws : List ℕ} where
       }
 
   -- One reading and another behind it.
-  pub step : {A B : Type 0} {xs : List ℕ} {w : A → List ℕ} {u : B → List ℕ} (p : Reader A) {f : A → Reader B} → Behind ws [] p w → ((a : A) → Behind ws (xs ++ w a) (f a) u) → Behind ws xs (p >>= f) u
+  pub step : {A B : Type 0} {xs : List ℕ} {w : A → List ℕ} {u : B → List ℕ} (p : FromWords A) {f : A → FromWords B} → Behind ws [] p w → ((a : A) → Behind ws (xs ++ w a) (f a) u) → Behind ws xs (p >>= f) u
   step {w = w} {u = u} p {f} P k =
       record {
         reach = λ at m s.
@@ -134,7 +134,7 @@ module _ {ws : List ℕ} where
       }
 
   -- The same, with a fact of what is read first.
-  pub step-with : {A B : Type 0} {xs : List ℕ} {w : A → List ℕ} {u : B → List ℕ} (p : Reader A) (F : A → Type 0) {f : A → Reader B} → Behind ws [] p w → ((at : ℕ) → Post (p ws at) (λ a n. F a)) → ((a : A) → F a → Behind ws (xs ++ w a) (f a) u) → Behind ws xs (p >>= f) u
+  pub step-with : {A B : Type 0} {xs : List ℕ} {w : A → List ℕ} {u : B → List ℕ} (p : FromWords A) (F : A → Type 0) {f : A → FromWords B} → Behind ws [] p w → ((at : ℕ) → Post (p ws at) (λ a n. F a)) → ((a : A) → F a → Behind ws (xs ++ w a) (f a) u) → Behind ws xs (p >>= f) u
   step-with {w = w} {u = u} p F {f} P T k =
       record {
         reach = λ at m s.
@@ -184,12 +184,12 @@ module _ {ws : List ℕ} where
 
 -- Each reader of a list, behind the words xs and its own number, which counts on from k.
 infixr 5 _&_
-pub data Each {A : Type 0} (ws xs : List ℕ) (u : A → List ℕ) : List (Reader A) → ℕ → Type 0 where
+pub data Each {A : Type 0} (ws xs : List ℕ) (u : A → List ℕ) : List (FromWords A) → ℕ → Type 0 where
   last : {k : ℕ} → Each ws xs u [] k
-  _&_ : {k : ℕ} {q : Reader A} {qs : List (Reader A)} → Behind ws (xs ++ (k ∷ [])) q u → Each ws xs u qs (suc k) → Each ws xs u (q ∷ qs) k
+  _&_ : {k : ℕ} {q : FromWords A} {qs : List (FromWords A)} → Behind ws (xs ++ (k ∷ [])) q u → Each ws xs u qs (suc k) → Each ws xs u (q ∷ qs) k
 
 -- The one at a place.
-each-among : {A : Type 0} {ws xs : List ℕ} {u : A → List ℕ} {qs : List (Reader A)} {k : ℕ} → Each ws xs u qs k → (i : ℕ) → Behind ws (xs ++ ((k + i) ∷ [])) (orFail (among qs i)) u
+each-among : {A : Type 0} {ws xs : List ℕ} {u : A → List ℕ} {qs : List (FromWords A)} {k : ℕ} → Each ws xs u qs k → (i : ℕ) → Behind ws (xs ++ ((k + i) ∷ [])) (orFail (among qs i)) u
 each-among last i = refused notWords
 each-among (_&_ {k = k} b bs) zero =
     let e : k + 0 ≡ k = omega arith in
@@ -199,7 +199,7 @@ each-among (_&_ {k = k} b bs) (suc i) =
     rw e (each-among bs i)
 
 -- A reader by its number.
-pub chosen : {A : Type 0} {ws xs : List ℕ} {u : A → List ℕ} {first : ℕ} {qs : List (Reader A)} → Each ws xs u qs first → (k : ℕ) → Behind ws (xs ++ (k ∷ [])) (choose first qs k) u
+pub chosen : {A : Type 0} {ws xs : List ℕ} {u : A → List ℕ} {first : ℕ} {qs : List (FromWords A)} → Each ws xs u qs first → (k : ℕ) → Behind ws (xs ++ (k ∷ [])) (choose first qs k) u
 unfolding choose pick
 chosen {ws = ws} {xs = xs} {u = u} {first = first} {qs = qs} h k = go (ltb k first) refl
   where
@@ -211,14 +211,14 @@ chosen {ws = ws} {xs = xs} {u = u} {first = first} {qs = qs} h k = go (ltb k fir
         rw q at (each-among h (k - first))
 
 -- So many: their words, one after the other.
-pub in-turn : {A B : Type 0} {ws : List ℕ} {w : A → List ℕ} (p : Reader A) (none : B) (put : A → B → B) (all : B → List ℕ) → Behind ws [] p w → all none ≡ [] → ((a : A) (b : B) → all (put a b) ≡ w a ++ all b) → (n : ℕ) → Behind ws [] (several p none put n) all
+pub in-turn : {A B : Type 0} {ws : List ℕ} {w : A → List ℕ} (p : FromWords A) (none : B) (put : A → B → B) (all : B → List ℕ) → Behind ws [] p w → all none ≡ [] → ((a : A) (b : B) → all (put a b) ≡ w a ++ all b) → (n : ℕ) → Behind ws [] (several p none put n) all
 unfolding several
 in-turn p none put all P e f zero = done none e
 in-turn p none put all P e f (suc n) =
     step p P λ a. step (several p none put n) (in-turn p none put all P e f n) λ b. done (put a b) (f a b)
 
 -- So many: how many they are.
-pub counted : {A B : Type 0} (ws : List ℕ) (p : Reader A) (none : B) (put : A → B → B) (count : B → ℕ) → count none ≡ 0 → ((a : A) (b : B) → count (put a b) ≡ suc (count b)) → (n at : ℕ) → Post (several p none put n ws at) (λ b m. count b ≡ n)
+pub counted : {A B : Type 0} (ws : List ℕ) (p : FromWords A) (none : B) (put : A → B → B) (count : B → ℕ) → count none ≡ 0 → ((a : A) (b : B) → count (put a b) ≡ suc (count b)) → (n at : ℕ) → Post (several p none put n ws at) (λ b m. count b ≡ n)
 unfolding several
 counted ws p none put count e f zero at = e
 counted ws p none put count e f (suc n) at =

@@ -12,7 +12,7 @@ use Rattle.grammar.specs.Sort.{Ctor, cSet, cMap, cData, Sort, sInt, sBool, sRea
 use Rattle.grammar.specs.Item.{wordsOf}
 use Rattle.grammar.specs.Expr.{binderItems}
 use Rattle.grammar.proofs.Items.{words-front}
-use Rattle.judging.specs.Judge.{Reader, _>>=_, ret, fail, word, choose, twoWords, several, spanWithin, nameWithin, ctors, sortKinds, sortDeep, sortAt, binderAt, bindersAt}
+use Rattle.judging.specs.Judge.{FromWords, _>>=_, ret, fail, word, choose, twoWords, several, spanWithin, nameWithin, ctors, sortKinds, sortDeep, sortAt, binderAt, bindersAt}
 use Rattle.judging.proofs.Spell.{Low, Behind, Each, last, _&_, done, refused, behind, step, step-with, a-word, a-two, chosen, in-turn, counted}
 
 module _ (limit : ℕ) {ws : List ℕ} where
@@ -37,14 +37,14 @@ module _ (limit : ℕ) {ws : List ℕ} where
 
   module _ (low : Low ws) where
     -- So many sorts behind an application's constructor, if each is spelled.
-    an-app : (d : Reader Sort) → Behind ws [] d sortWords → (c : Ctor) (n : ℕ) → Behind ws ((10 ∷ ctorWords c) ++ (n ∷ [])) (several d snil scons n >>= λ ss. ret (sApp c ss)) sortWords
+    an-app : (d : FromWords Sort) → Behind ws [] d sortWords → (c : Ctor) (n : ℕ) → Behind ws ((10 ∷ ctorWords c) ++ (n ∷ [])) (several d snil scons n >>= λ ss. ret (sApp c ss)) sortWords
     unfolding sortWords sorts
     an-app d D c n =
         step-with (several d snil scons n) (λ ss. sorts ss ≡ n) (in-turn d snil scons sortsWords D refl (λ s ss. refl) n) (counted ws d snil scons sorts refl (λ s ss. refl) n) λ ss e.
         done (sApp c ss) (rw (e, append-assoc (ctorWords c) (n ∷ []) (sortsWords ss)) refl)
 
     -- Each kind of sort, if the sorts inside are spelled.
-    each-sort : (d : Reader Sort) → Behind ws [] d sortWords → Each ws [] sortWords (sortKinds limit d) 1
+    each-sort : (d : FromWords Sort) → Behind ws [] d sortWords → Each ws [] sortWords (sortKinds limit d) 1
     unfolding sortKinds sortWords
     each-sort d D =
         done sInt refl

@@ -12,7 +12,7 @@ use Rattle.reading.specs.Pick.{pick}
 use Rattle.reading.specs.Answer.{notWords}
 use Rattle.grammar.specs.Sort.{Sort}
 use Rattle.grammar.specs.Expr.{Kind, Expr, Exprs, node, app, enil, econs}
-use Rattle.judging.specs.Judge.{Judged, reads, fails, Reader, goOn, operandsOf, argumentsOf, several, sortIf, word, header, planned, exprDeep}
+use Rattle.judging.specs.Judge.{Judged, reads, fails, FromWords, goOn, operandsOf, argumentsOf, several, sortIf, word, header, planned, exprDeep}
 use Rattle.judging.proofs.FieldsBack.{moved}
 
 -- Nothing is read where a refusal is met.
@@ -20,7 +20,7 @@ pub never-reads : {A P : Type 0} {r n : ℕ} {a : A} → fails r ≡ reads a n �
 never-reads e = let z : _≡_ {A = ℕ} 0 1 = cc in absurd (omega arith)
 
 -- One after the other: the first was read, and so was the second behind it.
-pub first-read : {A B P : Type 0} (x : Judged A) (f : A → Reader B) (ws : List ℕ) {b : B} {n : ℕ} → goOn x f ws ≡ reads b n → ((a : A) (m : ℕ) → x ≡ reads a m → f a ws m ≡ reads b n → P) → P
+pub first-read : {A B P : Type 0} (x : Judged A) (f : A → FromWords B) (ws : List ℕ) {b : B} {n : ℕ} → goOn x f ws ≡ reads b n → ((a : A) (m : ℕ) → x ≡ reads a m → f a ws m ≡ reads b n → P) → P
 first-read (reads a m) f ws e k = k a m refl e
 first-read (fails r) f ws e k = never-reads e
 
@@ -79,7 +79,7 @@ module _ (limit : ℕ) (ws : List ℕ) (at : ℕ) {P : Type 0} {e : Expr} {n : �
       first-read (exprDeep limit room ws d) _ ws t λ i m u v.
       g es b o d i (rw p x) s (rw p (u ∙ moved (same-end v))) (sym (same-value v))
 
-module _ (p : Reader Expr) (ws : List ℕ) (at : ℕ) {P : Type 0} {es : Exprs} {n : ℕ} where
+module _ (p : FromWords Expr) (ws : List ℕ) (at : ℕ) {P : Type 0} {es : Exprs} {n : ℕ} where
   -- None of several, or the first of them and the others.
   pub read-none : (i : ℕ) → i ≡ 0 → several p enil econs i ws at ≡ reads es n → (es ≡ enil → at ≡ n → P) → P
   unfolding several

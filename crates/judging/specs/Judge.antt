@@ -19,30 +19,30 @@ pub data Judged (A : Type 0) : Type 0 where
   fails : ℕ → Judged A
 
 -- Reads words at a position.
-abbrev pub Reader : Type 0 → Type 0
-Reader A = List ℕ → ℕ → Judged A
+abbrev pub FromWords : Type 0 → Type 0
+FromWords A = List ℕ → ℕ → Judged A
 
-abbrev pub goOn : {A B : Type 0} → Judged A → (A → Reader B) → List ℕ → Judged B
+abbrev pub goOn : {A B : Type 0} → Judged A → (A → FromWords B) → List ℕ → Judged B
 goOn (reads a at) f ws = f a ws at
 goOn (fails r) f ws = fails r
 
 -- One after the other, for `do`; the first refusal ends it.
 infixr 10 _>>=_
-abbrev pub _>>=_ : {A B : Type 0} → Reader A → (A → Reader B) → Reader B
+abbrev pub _>>=_ : {A B : Type 0} → FromWords A → (A → FromWords B) → FromWords B
 _>>=_ p f = λ ws at. goOn (p ws at) f ws
 
-abbrev pub ret : {A : Type 0} → A → Reader A
+abbrev pub ret : {A : Type 0} → A → FromWords A
 ret a = λ ws at. reads a at
 
-abbrev pub fail : {A : Type 0} → ℕ → Reader A
+abbrev pub fail : {A : Type 0} → ℕ → FromWords A
 fail r = λ ws at. fails r
 
 -- A word of any value.
-unfoldable pub word : Reader ℕ
+unfoldable pub word : FromWords ℕ
 word ws at = pick (ltb at (length ws)) (reads (getD ws at 0) (at + 1)) (fails notWords)
 
 -- A word below a bound.
-unfoldable pub wordBelow : ℕ → Reader ℕ
+unfoldable pub wordBelow : ℕ → FromWords ℕ
 wordBelow m = do
   k ← word
   pick (ltb k m) (ret k) (fail notWords)
@@ -53,22 +53,22 @@ among [] k = nothing
 among (a ∷ rest) zero = just a
 among (a ∷ rest) (suc k) = among rest k
 
-abbrev pub orFail : {A : Type 0} → Maybe (Reader A) → Reader A
+abbrev pub orFail : {A : Type 0} → Maybe (FromWords A) → FromWords A
 orFail nothing = fail notWords
 orFail (just p) = p
 
 -- By a word that counts from `first` on.
-unfoldable pub choose : {A : Type 0} → ℕ → List (Reader A) → ℕ → Reader A
+unfoldable pub choose : {A : Type 0} → ℕ → List (FromWords A) → ℕ → FromWords A
 choose first rs k = pick (ltb k first) (fail notWords) (orFail (among rs (k - first)))
 
 -- A number of 64 bits and one of 128.
-unfoldable pub twoWords : Reader ℕ
+unfoldable pub twoWords : FromWords ℕ
 twoWords = do
   a ← word
   b ← word
   ret (a + b * 2 ^ 32)
 
-unfoldable pub fourWords : Reader Wide
+unfoldable pub fourWords : FromWords Wide
 fourWords = do
   a ← word
   b ← word
@@ -77,7 +77,7 @@ fourWords = do
   ret (record { a = a; b = b; c = c; d = d })
 
 -- So many, one after the other.
-unfoldable pub several : {A B : Type 0} → Reader A → B → (A → B → B) → ℕ → Reader B
+unfoldable pub several : {A B : Type 0} → FromWords A → B → (A → B → B) → ℕ → FromWords B
 several p none put zero = ret none
 several p none put (suc n) = do
   a ← p
@@ -89,24 +89,24 @@ pub data Plan : Type 0 where
   operandsOf : Kind → ℕ → Plan
   argumentsOf : Bool → ℕ → Plan
 
-abbrev pub plan : Kind → ℕ → Reader Plan
+abbrev pub plan : Kind → ℕ → FromWords Plan
 plan k n = ret (operandsOf k n)
 
 -- A span ends at most at the limit, which is the length of a text that is lent with the words.
 module _ (limit : ℕ) where
-  unfoldable pub spanWithin : Reader Span
+  unfoldable pub spanWithin : FromWords Span
   spanWithin = do
     a ← word
     b ← word
     pick (leb (a + b) limit) (ret (record { start = a; len = b })) (fail notWords)
 
-  unfoldable pub nameWithin : Reader VarName
+  unfoldable pub nameWithin : FromWords VarName
   nameWithin = do
     s ← spanWithin
     ret (varOf s)
 
   -- Set, Map, Data.
-  unfoldable pub ctors : List (Reader Ctor)
+  unfoldable pub ctors : List (FromWords Ctor)
   ctors =
       ret cSet
       ∷ ret cMap
@@ -116,7 +116,7 @@ module _ (limit : ℕ) where
       ∷ []
 
   -- The sorts from kind 1 on; d reads a sort inside.
-  unfoldable pub sortKinds : Reader Sort → List (Reader Sort)
+  unfoldable pub sortKinds : FromWords Sort → List (FromWords Sort)
   sortKinds d =
       ret sInt
       ∷ ret sBool
@@ -148,26 +148,26 @@ module _ (limit : ℕ) where
       ∷ []
 
   -- Sorts nest at most as deep as there are words.
-  unfoldable pub sortDeep : ℕ → Reader Sort
+  unfoldable pub sortDeep : ℕ → FromWords Sort
   sortDeep zero = fail notWords
   sortDeep (suc deep) = do
     k ← word
     choose 1 (sortKinds (sortDeep deep)) k
 
-  unfoldable pub sortAt : Reader Sort
+  unfoldable pub sortAt : FromWords Sort
   sortAt ws at = sortDeep (length ws) ws at
 
-  unfoldable pub binderAt : Reader Binder
+  unfoldable pub binderAt : FromWords Binder
   binderAt = do
     k ← twoWords
     s ← sortAt
     ret (record { var = k; sort = s })
 
-  unfoldable pub bindersAt : ℕ → Reader (List Binder)
+  unfoldable pub bindersAt : ℕ → FromWords (List Binder)
   bindersAt n = several binderAt [] (λ b bs. b ∷ bs) n
 
   -- The kinds from 32 on, with their fields.
-  unfoldable pub kinds : List (Reader Plan)
+  unfoldable pub kinds : List (FromWords Plan)
   kinds =
       (do
         v ← fourWords
@@ -224,20 +224,20 @@ module _ (limit : ℕ) where
         plan (kExists bs) 1)
       ∷ []
 
-  unfoldable pub header : Reader Plan
+  unfoldable pub header : FromWords Plan
   header = do
     k ← word
     choose 32 kinds k
 
   -- An output sort where the flag says that there is one.
-  unfoldable pub sortIf : Bool → Reader (Maybe Sort)
+  unfoldable pub sortIf : Bool → FromWords (Maybe Sort)
   sortIf false = ret nothing
   sortIf true = do
     s ← sortAt
     ret (just s)
 
   -- What follows a header; d reads an expression inside.
-  unfoldable pub planned : Reader Expr → Plan → Reader Expr
+  unfoldable pub planned : FromWords Expr → Plan → FromWords Expr
   planned d (operandsOf k n) = do
     es ← several d enil econs n
     ret (node k es)
@@ -248,7 +248,7 @@ module _ (limit : ℕ) where
     ret (app o es h)
 
   -- An expression with room for so many inside one another; one of a known kind that begins where there is none is 6.
-  unfoldable pub exprDeep : ℕ → Reader Expr
+  unfoldable pub exprDeep : ℕ → FromWords Expr
   exprDeep zero = do
     k ← word
     fail (pick (ltb k 32) notWords (pick (ltb k (32 + length kinds)) (number tooDeep) notWords))
@@ -257,10 +257,10 @@ module _ (limit : ℕ) where
     planned (exprDeep room) p
 
   -- Nothing is left behind what was read.
-  unfoldable pub atEnd : {A : Type 0} → A → Reader A
+  unfoldable pub atEnd : {A : Type 0} → A → FromWords A
   atEnd a ws at = pick (eqb at (length ws)) (reads a at) (fails notWords)
 
-  unfoldable pub exprAt : Reader Expr
+  unfoldable pub exprAt : FromWords Expr
   exprAt = exprDeep maxNodes
 
   -- Words that are one expression.

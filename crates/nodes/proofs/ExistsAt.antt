@@ -9,7 +9,7 @@ use Rattle.reading.specs.Answer.{notWords}
 use Rattle.reading.proofs.Picks.{pick-holds}
 use Rattle.grammar.specs.Expr.{opAdd, opSub, opMul, opDiv, opMod, relEq, relNe, relGt, relGe, relLt, relLe, Binder, Kind, kNum, kBool, kStr, kBitVec, kFresh, kNamed, kNeg, kBin, kIf, kAnd, kOr, kNot, kImp, kIff, kAtom, kLet, kTheory, kIsCtor, kExists}
 use Rattle.grammar.specs.Shape.{opensScope}
-use Rattle.judging.specs.Judge.{reads, Reader, _>>=_, ret, fail, word, wordBelow, among, orFail, choose, twoWords, fourWords, Plan, operandsOf, argumentsOf, plan, spanWithin, nameWithin, bindersAt, kinds, header}
+use Rattle.judging.specs.Judge.{reads, FromWords, _>>=_, ret, fail, word, wordBelow, among, orFail, choose, twoWords, fourWords, Plan, operandsOf, argumentsOf, plan, spanWithin, nameWithin, bindersAt, kinds, header}
 use Rattle.nodes.specs.Node.{nodeOf}
 use Rattle.nodes.specs.declared.kind.Node.the-variants as told
 use Rattle.judging.proofs.SpellKind.{binders-count}
@@ -18,11 +18,11 @@ use Rattle.judging.proofs.Taken.{never-reads, first-read, word-read}
 
 module _ (limit : ℕ) (ws : List ℕ) where
   -- Where an exists is read, its binders are read one word behind.
-  abbrev Finds : Reader Plan → Type 0
+  abbrev Finds : FromWords Plan → Type 0
   Finds r = (at n b : ℕ) (bs : List Binder) → r ws at ≡ reads (operandsOf (kExists bs) n) b → (j : ℕ) × (bindersAt limit (length bs) ws (at + 1) ≡ reads bs j)
 
   -- No exists is read.
-  abbrev Never : Reader Plan → ℕ → Type 0
+  abbrev Never : FromWords Plan → ℕ → Type 0
   Never r at = (n b : ℕ) (bs : List Binder) → r ws at ≡ reads (operandsOf (kExists bs) n) b → ⊥
 
   never-plan : (k : Kind) (m : ℕ) → opensScope k ≡ 0 → (at : ℕ) → Never (plan k m) at
@@ -35,7 +35,7 @@ module _ (limit : ℕ) (ws : List ℕ) where
   plainly : (k : Kind) (m : ℕ) → opensScope k ≡ 0 → Finds (plan k m)
   plainly k m h at n b bs e = absurd (never-plan k m h at n b bs e)
 
-  by-fields : {A : Type 0} (p : Reader A) (f : A → Kind) (m : ℕ) → ((a : A) → opensScope (f a) ≡ 0) → Finds (p >>= λ a. plan (f a) m)
+  by-fields : {A : Type 0} (p : FromWords A) (f : A → Kind) (m : ℕ) → ((a : A) → opensScope (f a) ≡ 0) → Finds (p >>= λ a. plan (f a) m)
   by-fields p f m h at n b bs e = first-read (p ws at) _ ws e λ a i x y. absurd (never-plan (f a) m (h a) i n b bs y)
 
   -- And, Or: any number of operands.
@@ -70,11 +70,11 @@ module _ (limit : ℕ) (ws : List ℕ) where
       first-read (word ws at) _ ws e λ k i x y.
       absurd (pick-holds (ltb k 0) (fail notWords) (orFail (among (plansOf m ks) (k - 0))) (λ r. Never r i) (λ n b bs e. never-reads e) (never-among m ks h (k - 0) i) n b bs y)
 
-  abbrev FindsAll : List (Reader Plan) → Type 0
+  abbrev FindsAll : List (FromWords Plan) → Type 0
   FindsAll [] = Unit {0}
   FindsAll (r ∷ rs) = Finds r × FindsAll rs
 
-  finds-among : (rs : List (Reader Plan)) → FindsAll rs → (j : ℕ) → Finds (orFail (among rs j))
+  finds-among : (rs : List (FromWords Plan)) → FindsAll rs → (j : ℕ) → Finds (orFail (among rs j))
   finds-among [] h j at n b bs e = never-reads e
   finds-among (r ∷ rs) h zero at n b bs e = h .0 at n b bs e
   finds-among (r ∷ rs) h (suc j) at n b bs e = finds-among rs (h .1) j at n b bs e

@@ -13,7 +13,7 @@ use Rattle.reading.specs.Number.{Wide}
 use Rattle.reading.specs.Answer.{notWords}
 use Rattle.grammar.specs.Expr.{VarName, opAdd, opSub, opMul, opDiv, opMod, relEq, relNe, relGt, relGe, relLt, relLe, Kind, kNum, kBool, kStr, kBitVec, kFresh, kNamed, kBin, kAtom, kLet, kTheory, kIsCtor, kExists}
 use Rattle.grammar.specs.Scope.{varOf}
-use Rattle.judging.specs.Judge.{reads, Reader, _>>=_, ret, fail, word, wordBelow, among, orFail, choose, twoWords, fourWords, Plan, operandsOf, argumentsOf, plan, spanWithin, nameWithin, bindersAt, kinds, header}
+use Rattle.judging.specs.Judge.{reads, FromWords, _>>=_, ret, fail, word, wordBelow, among, orFail, choose, twoWords, fourWords, Plan, operandsOf, argumentsOf, plan, spanWithin, nameWithin, bindersAt, kinds, header}
 use Rattle.nodes.specs.Node.{nodeOf, nodesAt, orOther, nodeAt}
 use Rattle.nodes.specs.declared.kind.Node.{Node}
 use Rattle.nodes.specs.declared.kind.Node.the-variants as told
@@ -103,16 +103,16 @@ module _ (ws : List ℕ) (at : ℕ) where
       kept (ltb a bound) a ws m y ∙ word-read ws at x .0
 
 -- A reader of fields reads what is told of them.
-abbrev Tells : List ℕ → ℕ → Reader Plan → Node → Type 0
+abbrev Tells : List ℕ → ℕ → FromWords Plan → Node → Type 0
 Tells ws at r x = (k : Kind) (n b : ℕ) → r ws at ≡ reads (operandsOf k n) b → x ≡ nodeOf k
 
-abbrev TellAll : List ℕ → ℕ → List (Reader Plan) → List Node → Type 0
+abbrev TellAll : List ℕ → ℕ → List (FromWords Plan) → List Node → Type 0
 TellAll ws at [] [] = Unit {0}
 TellAll ws at [] (x ∷ xs) = ⊥
 TellAll ws at (r ∷ rs) [] = ⊥
 TellAll ws at (r ∷ rs) (x ∷ xs) = Tells ws at r x × TellAll ws at rs xs
 
-among-tells : (ws : List ℕ) (at : ℕ) (rs : List (Reader Plan)) (xs : List Node) → TellAll ws at rs xs → (j : ℕ) → Tells ws at (orFail (among rs j)) (orOther (among xs j))
+among-tells : (ws : List ℕ) (at : ℕ) (rs : List (FromWords Plan)) (xs : List Node) → TellAll ws at rs xs → (j : ℕ) → Tells ws at (orFail (among rs j)) (orOther (among xs j))
 among-tells ws at [] [] t j k n b e = never-reads e
 among-tells ws at [] (x ∷ xs) t j k n b e = absurd t
 among-tells ws at (r ∷ rs) [] t j k n b e = absurd t
@@ -131,7 +131,7 @@ plainly : (ws : List ℕ) (at : ℕ) (l : Kind) (m : ℕ) → Tells ws at (plan 
 plainly ws at l m k n b e = ap nodeOf (plan-kind e)
 
 -- Kinds by one reading of their fields.
-by-fields : {A : Type 0} (ws : List ℕ) (at : ℕ) (p : Reader A) (f : A → Kind) (m : ℕ) (x : Node) → ((a : A) (n : ℕ) → p ws at ≡ reads a n → x ≡ nodeOf (f a)) → Tells ws at (p >>= λ a. plan (f a) m) x
+by-fields : {A : Type 0} (ws : List ℕ) (at : ℕ) (p : FromWords A) (f : A → Kind) (m : ℕ) (x : Node) → ((a : A) (n : ℕ) → p ws at ≡ reads a n → x ≡ nodeOf (f a)) → Tells ws at (p >>= λ a. plan (f a) m) x
 by-fields ws at p f m x h k n b e = first-read (p ws at) _ ws e λ a i y z. h a i y ∙ ap nodeOf (plan-kind z)
 
 -- And, Or: any number of operands.
@@ -144,7 +144,7 @@ NumberedFrom i f [] = Unit {0}
 NumberedFrom i f (l ∷ ls) = (f i ≡ nodeOf l) × NumberedFrom (suc i) f ls
 
 -- Kinds that have no fields.
-abbrev pub plansOf : ℕ → List Kind → List (Reader Plan)
+abbrev pub plansOf : ℕ → List Kind → List (FromWords Plan)
 plansOf m [] = []
 plansOf m (l ∷ ls) = plan l m ∷ plansOf m ls
 

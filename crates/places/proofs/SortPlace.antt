@@ -17,7 +17,7 @@ use Rattle.writing.proofs.Laid.{laid-over}
 use Rattle.places.specs.Outcome.{Put, OutcomeAt, wroteAt, refusedAt}
 use Rattle.words.specs.declared.Answer.{Answer}
 use Rattle.words.specs.declared.Answer.the-variants.{Done, Refused}
-use Rattle.grammar.proofs.Post.{Every}
+use Rattle.grammar.proofs.AnswerHolds.{Every}
 use Rattle.grammar.proofs.SortOf.{SortOf, sort-of}
 use Rattle.sorts.proofs.Lend.{lent-rest}
 

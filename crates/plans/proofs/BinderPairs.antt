@@ -29,7 +29,7 @@ use Rattle.words.specs.declared.Answer.the-variants.{Done, Refused}
 use Rattle.grammar.proofs.Items.{words-front}
 use Rattle.grammar.proofs.Raise.{raise-front}
 use Rattle.places.proofs.FirstTree.{More, some, none-left}
-use Rattle.grammar.proofs.Post.{Every}
+use Rattle.grammar.proofs.AnswerHolds.{Every}
 use Rattle.places.proofs.SortPlace.{GotAt, got-at, bad-at, sort-short}
 use Rattle.places.proofs.Puts.{put-append}
 use Rattle.grammar.proofs.TreeHead.{no-list}

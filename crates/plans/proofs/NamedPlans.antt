@@ -27,7 +27,7 @@ use Rattle.forms.specs.FormNames.{IsOne, IsTwo, IsMany, FormIs}
 use Rattle.forms.specs.declared.keywords.Form.{Form as Code}
 use Rattle.plans.specs.declared.plan.Plan.{Plan}
 use Rattle.plans.specs.declared.plan.Plan.the-variants.{Stop, Go}
-use Rattle.grammar.proofs.Post.{AllRows, IfThere, lookup-holds}
+use Rattle.grammar.proofs.AnswerHolds.{AllRows, IfThere, lookup-holds}
 use Rattle.grammar.proofs.FormsWritten.{children-count, ahead-nil, ctor-told}
 use Rattle.plans.proofs.ListPlans.{head-count, head-start, head-len, head-span, behindRun, made-behind, onlyRun, onlyOf, made-only}
 

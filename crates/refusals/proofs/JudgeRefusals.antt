@@ -9,7 +9,7 @@ use Rattle.reading.specs.Pick.{pick}
 use Rattle.reading.specs.Answer.{notWords, number, tooDeep}
 use Rattle.grammar.specs.Sort.{Sort}
 use Rattle.grammar.specs.Expr.{Expr, enil, econs}
-use Rattle.judging.specs.Judge.{Judged, reads, fails, Reader, goOn, _>>=_, ret, fail, word, wordBelow, among, orFail, choose, twoWords, fourWords, several, Plan, operandsOf, argumentsOf, spanWithin, nameWithin, ctors, sortKinds, sortDeep, sortAt, binderAt, bindersAt, kinds, header, sortIf, planned, exprDeep, atEnd, exprAt, judgeExpr, judgeSolution}
+use Rattle.judging.specs.Judge.{Judged, reads, fails, FromWords, goOn, _>>=_, ret, fail, word, wordBelow, among, orFail, choose, twoWords, fourWords, several, Plan, operandsOf, argumentsOf, spanWithin, nameWithin, ctors, sortKinds, sortDeep, sortAt, binderAt, bindersAt, kinds, header, sortIf, planned, exprDeep, atEnd, exprAt, judgeExpr, judgeSolution}
 
 -- What holds of a refusal.
 abbrev pub Fails : {A : Type 0} → (ℕ → Type 0) → Judged A → Type 0
@@ -18,7 +18,7 @@ Fails Q (fails r) = Q r
 
 module _ (Q : ℕ → Type 0) (six : Q (number tooDeep)) (fourteen : Q notWords) where
   -- A reader has no other refusals.
-  record Only {A : Type 0} (p : Reader A) : Type 0 where
+  record Only {A : Type 0} (p : FromWords A) : Type 0 where
     only : (ws : List ℕ) (at : ℕ) → Fails Q (p ws at)
 
   reads-on : {A : Type 0} (a : A) → Only (ret a)
@@ -27,12 +27,12 @@ module _ (Q : ℕ → Type 0) (six : Q (number tooDeep)) (fourteen : Q notWords)
   refuses : {A : Type 0} → Only {A = A} (fail notWords)
   refuses = record { only = λ ws at. fourteen }
 
-  either : {A : Type 0} (t : Bool) {p q : Reader A} → Only p → Only q → Only (pick t p q)
+  either : {A : Type 0} (t : Bool) {p q : FromWords A} → Only p → Only q → Only (pick t p q)
   unfolding pick
   either true P R = P
   either false P R = R
 
-  then : {A B : Type 0} (p : Reader A) {f : A → Reader B} → Only p → ((a : A) → Only (f a)) → Only (p >>= f)
+  then : {A B : Type 0} (p : FromWords A) {f : A → FromWords B} → Only p → ((a : A) → Only (f a)) → Only (p >>= f)
   then {A} p {f} P F = record { only = λ ws at. go ws (p ws at) (P .only ws at) }
     where
       go : (ws : List ℕ) (x : Judged A) → Fails Q x → Fails Q (goOn x f ws)
@@ -49,16 +49,16 @@ module _ (Q : ℕ → Type 0) (six : Q (number tooDeep)) (fourteen : Q notWords)
 
   -- Each reader of a list is such.
   infixr 5 _&_
-  data Each {A : Type 0} : List (Reader A) → Type 0 where
+  data Each {A : Type 0} : List (FromWords A) → Type 0 where
     last : Each []
-    _&_ : {q : Reader A} {qs : List (Reader A)} → Only q → Each qs → Each (q ∷ qs)
+    _&_ : {q : FromWords A} {qs : List (FromWords A)} → Only q → Each qs → Each (q ∷ qs)
 
-  each-among : {A : Type 0} {qs : List (Reader A)} → Each qs → (i : ℕ) → Only (orFail (among qs i))
+  each-among : {A : Type 0} {qs : List (FromWords A)} → Each qs → (i : ℕ) → Only (orFail (among qs i))
   each-among last i = refuses
   each-among (q & qs) zero = q
   each-among (q & qs) (suc i) = each-among qs i
 
-  chosen : {A : Type 0} (first : ℕ) {qs : List (Reader A)} → Each qs → (k : ℕ) → Only (choose first qs k)
+  chosen : {A : Type 0} (first : ℕ) {qs : List (FromWords A)} → Each qs → (k : ℕ) → Only (choose first qs k)
   unfolding choose
   chosen first qs k = either (ltb k first) refuses (each-among qs (k - first))
 
@@ -74,7 +74,7 @@ module _ (Q : ℕ → Type 0) (six : Q (number tooDeep)) (fourteen : Q notWords)
   unfolding fourWords
   a-four = then word a-word λ a. then word a-word λ b. then word a-word λ c. then word a-word λ d. reads-on _
 
-  some : {A B : Type 0} (p : Reader A) (none : B) (put : A → B → B) → Only p → (n : ℕ) → Only (several p none put n)
+  some : {A B : Type 0} (p : FromWords A) (none : B) (put : A → B → B) → Only p → (n : ℕ) → Only (several p none put n)
   unfolding several
   some p none put P zero = reads-on none
   some p none put P (suc n) = then p P λ a. then (several p none put n) (some p none put P n) λ b. reads-on _
@@ -93,7 +93,7 @@ module _ (Q : ℕ → Type 0) (six : Q (number tooDeep)) (fourteen : Q notWords)
     unfolding ctors
     each-ctor = reads-on _ & reads-on _ & then (spanWithin limit) a-span (λ s. reads-on _) & last
 
-    each-sort : (d : Reader Sort) → Only d → Each (sortKinds limit d)
+    each-sort : (d : FromWords Sort) → Only d → Each (sortKinds limit d)
     unfolding sortKinds
     each-sort d D =
         reads-on _
@@ -160,7 +160,7 @@ module _ (Q : ℕ → Type 0) (six : Q (number tooDeep)) (fourteen : Q notWords)
     an-out false = reads-on _
     an-out true = then (sortAt limit) a-sort λ s. reads-on _
 
-    what-follows : (d : Reader Expr) → Only d → (p : Plan) → Only (planned limit d p)
+    what-follows : (d : FromWords Expr) → Only d → (p : Plan) → Only (planned limit d p)
     unfolding planned
     what-follows d D (operandsOf k n) = then (several d enil econs n) (some d enil econs D n) λ es. reads-on _
     what-follows d D (argumentsOf f n) =

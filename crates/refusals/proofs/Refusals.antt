@@ -24,7 +24,7 @@ use Rattle.grammar.specs.ParseBind.{parseBind}
 use Rattle.grammar.specs.ParseSolution.{parseSolution}
 use Rattle.grammar.specs.Operations.{theTree, makeSort, makeExpr, makeBind, makeSolution}
 use Rattle.grammar.proofs.Items.{words-plains}
-use Rattle.grammar.proofs.Post.{Post, Every, chain-post, lifted-post, map-post, map-every}
+use Rattle.grammar.proofs.AnswerHolds.{Post, Every, chain-post, lifted-post, map-post, map-every}
 use Rattle.grammar.proofs.Lengths.{size-solution}
 use Rattle.grammar.proofs.SortRefusals.{OfSort, tree-at, sort-bad}
 use Rattle.grammar.proofs.ExprRefusals.{OfExpr, No, no-chain, no-lifted, expr-no, bind-no, solution-no}

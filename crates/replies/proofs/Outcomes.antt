@@ -18,7 +18,7 @@ use Rattle.grammar.specs.ParseSort.{parseSort}
 use Rattle.grammar.specs.Operations.{theTree, makeSort, makeExpr, makeBind, makeSolution, sortFinal, exprFinal, bindFinal}
 use Rattle.grammar.proofs.Items.{words-plains}
 use Rattle.grammar.proofs.Raise.{raise-plains}
-use Rattle.grammar.proofs.Post.{Post, any-post}
+use Rattle.grammar.proofs.AnswerHolds.{Post, any-post}
 use Rattle.grammar.specs.Item.{raisedWords}
 use Rattle.flattening.specs.Operations.{flatItems, solutionFits, solutionFinal}
 use Rattle.session.specs.Session.{Call, Term, aRead, aSort, anExpr, aBind, aSolution, termItems, draftItems, termWords, report, make, made, roomFor, final, outcome}

@@ -10,7 +10,7 @@ use Rattle.reading.specs.Limits.{maxNumber}
 use Rattle.reading.specs.Answer.{Res, ok, refuses, fitsIn}
 use Rattle.grammar.specs.Item.{wordsOf}
 use Rattle.grammar.proofs.Raise.{words-raise}
-use Rattle.grammar.proofs.Post.{Post}
+use Rattle.grammar.proofs.AnswerHolds.{Post}
 use Rattle.session.specs.Session.{Call, Term, termItems, draftItems, termWords, made, roomFor, final, Outcome, outcome}
 use Rattle.session.proofs.Made.{Fine, make-fine}
 use Rattle.session.proofs.Calls.{when-refused, when-accepted, decides-long}

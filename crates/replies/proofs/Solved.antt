@@ -15,7 +15,7 @@ use Rattle.reading.proofs.Over.{over-length, over-fits}
 use Rattle.grammar.specs.Item.{wordsOf}
 use Rattle.grammar.specs.Expr.{Solution, solutionItems}
 use Rattle.grammar.specs.Operations.{makeSolution}
-use Rattle.grammar.proofs.Post.{Post}
+use Rattle.grammar.proofs.AnswerHolds.{Post}
 use Rattle.grammar.proofs.Raise.{raise-zero}
 use Rattle.flattening.specs.Uncurry.{flattened}
 use Rattle.flattening.proofs.SolutionBack.{SolutionBack, FlatBack, flat-back}

@@ -18,7 +18,7 @@ use Rattle.grammar.specs.ParseSolution.{parseSolution}
 use Rattle.grammar.specs.Operations.{theTree, makeSort, makeExpr, makeBind, makeSolution}
 use Rattle.grammar.proofs.Items.{bound-plains}
 use Rattle.grammar.proofs.Exact.{exactly-none}
-use Rattle.grammar.proofs.Post.{Post, Every, chain-post, lifted-post, any-post, both-post, map-post, map-every}
+use Rattle.grammar.proofs.AnswerHolds.{Post, Every, chain-post, lifted-post, any-post, both-post, map-post, map-every}
 use Rattle.grammar.proofs.BindersOf.{TreeIn, tree-at}
 use Rattle.grammar.proofs.TheTree.{the-tree}
 use Rattle.grammar.proofs.SortOf.{in-list}

@@ -16,13 +16,13 @@ use Rattle.grammar.specs.ParseExpr.{child, parseExpr}
 use Rattle.grammar.specs.ParseBind.{parseBind}
 use Rattle.grammar.specs.ParseSolution.{parseSolution}
 use Rattle.grammar.proofs.Items.{bound-append, bound-front}
-use Rattle.grammar.proofs.Same.{exactly-same}
+use Rattle.grammar.proofs.SameNumbers.{exactly-same}
 use Rattle.grammar.proofs.Exact.{upFrom, exactly-up, exactly-none, exactly-append, plus, bound-raise, plus-up}
-use Rattle.grammar.proofs.Post.{Post, chain-post, any-post, map-post}
+use Rattle.grammar.proofs.AnswerHolds.{Post, chain-post, any-post, map-post}
 use Rattle.grammar.proofs.Walk.{child-of}
 use Rattle.grammar.proofs.WalkPreds.{KeptPreds, preds-of}
 use Rattle.grammar.proofs.SolutionOf.{SolutionOf, solution-of}
-use Rattle.grammar.proofs.Good.{runs, Good, GoodAll, good, bound-numbered}
+use Rattle.grammar.proofs.FreshNumbers.{runs, Good, GoodAll, good, bound-numbered}
 use Rattle.flattening.specs.Uncurry.{flattened}
 use Rattle.flattening.proofs.Bound.{flattened-same, flattened-scoped}
 use Rattle.session.specs.Session.{Term, anExpr, aBind, aSolution, termItems}

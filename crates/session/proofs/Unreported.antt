@@ -12,7 +12,7 @@ use Rattle.reading.specs.Answer.{number, noRoom, numbersSpent, Res, ok, no, Fin
 use Rattle.reading.specs.Reading.{readWords}
 use Rattle.grammar.specs.Sort.{sortWords}
 use Rattle.grammar.proofs.Raise.{raise-plains}
-use Rattle.grammar.proofs.Post.{Post, map-post}
+use Rattle.grammar.proofs.AnswerHolds.{Post, map-post}
 use Rattle.session.specs.Session.{Op, readOne, readAll, sort, expression, bind, solution, Call, Term, aRead, aSort, anExpr, aBind, aSolution, termItems, termWords, report, made, roomFor, final, outcome}
 use Rattle.session.specs.Compared.{opOf, readsOrSorts}
 use Rattle.session.proofs.Made.{Fine, make-fine}

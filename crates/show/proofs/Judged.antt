@@ -14,7 +14,7 @@ use Rattle.reading.specs.Answer.{notWords}
 use Rattle.grammar.specs.Item.{wordsOf}
 use Rattle.grammar.specs.Expr.{Binder, Expr, Solution, binderItems}
 use Rattle.grammar.proofs.Lengths.{size-solution}
-use Rattle.judging.specs.Judge.{Judged, reads, fails, Reader, _>>=_, bindersAt, exprDeep, exprAt, atEnd, judgeSolution}
+use Rattle.judging.specs.Judge.{Judged, reads, fails, FromWords, _>>=_, bindersAt, exprDeep, exprAt, atEnd, judgeSolution}
 use Rattle.judging.specs.Spelled.{Spelled}
 use Rattle.judging.specs.Ends.{endOf}
 use Rattle.judging.specs.declared.End.the-variants as end

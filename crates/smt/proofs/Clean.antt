@@ -13,7 +13,7 @@ use Rattle.reading.specs.Number.{valueOf, isDigit}
 use Rattle.reading.specs.Answer.{Ans, got, check, unwritable}
 use Rattle.grammar.specs.Sort.{cSet, cMap, cData, Sort, Sorts, sInt, sBool, sReal, sStr, sBitVec, sSize, sVar, sFunc, sAbs, sApp, snil, scons, sorts}
 use Rattle.grammar.specs.Expr.{opNumber, relNumber, Binder, Kind, kNum, kBool, kStr, kBitVec, kFresh, kNamed, kNeg, kBin, kIf, kAnd, kOr, kNot, kImp, kIff, kAtom, kLet, kTheory, kIsCtor, kExists, Expr, Exprs, node, app, enil, econs, Solution}
-use Rattle.grammar.proofs.Post.{Every, then-every, any-every}
+use Rattle.grammar.proofs.AnswerHolds.{Every, then-every, any-every}
 use Rattle.writing.specs.Digits.{decimal}
 use Rattle.writing.proofs.DecimalBack.{decimal-back}
 use Rattle.smt.specs.Sexp.{Sx, reserved, Sxs, xnil, xcons, between, every, digit, symbolByte, white, printable, quotable, reservedWords, isReserved}

@@ -13,7 +13,7 @@ use Rattle.reading.specs.Number.{Wide, valueOf}
 use Rattle.reading.specs.Answer.{Ans, got, bad, andThen, check, unwritable, unprintable}
 use Rattle.grammar.specs.Sort.{Ctor, cSet, cMap, cData, Sort, Sorts, sSize, sApp, sorts}
 use Rattle.grammar.specs.Expr.{Kind, kNum, kBool, kStr, kBitVec, kFresh, kNamed, kNeg, kBin, kIf, kAnd, kOr, kNot, kImp, kIff, kAtom, kLet, kTheory, kIsCtor, kExists, Expr, Exprs, node, app, enil, econs, leaf, Solution}
-use Rattle.grammar.proofs.Post.{Every}
+use Rattle.grammar.proofs.AnswerHolds.{Every}
 use Rattle.smt.specs.Term.{tcons}
 use Rattle.smt.specs.Writer.{fitsWidth, functionOf, widthOf, Form, application, writable, allWritable, bytesOf, symbolOf, sortOf, sortsOf, varsOf, fieldsOf, headKind, headOf, termOf, termsOf, solutionTerm, written}
 use Rattle.smt.specs.Unwritable.{SortPart, aSet, aMapNotOfTwo, aFunc, anAbs, aSortVariable, aSizeOutside, aBitVecWithoutSize, aBitVecOfZero, inSorts, SortsPart, inFirstSort, inLaterSorts, VarsPart, inFirstVar, inLaterVars, IsHead, aFreshVariable, aNamedVariable, aBitVectorFunction, Part, aFunctionBelow9, aFunctionFrom32, aFunctionAlone, aValueTooLarge, aWidthOfZero, inVars, inOperands, inArguments, inHeadAlone, anotherHead, Parts, inFirst, inLater, SolutionPart, inParams, inBody}

@@ -9,7 +9,7 @@ use Rattle.reading.specs.Pick.{pick}
 use Rattle.reading.specs.Limits.{maxNodes}
 use Rattle.grammar.specs.Expr.{opAdd, opSub, opMul, opDiv, opMod, relEq, relNe, relGt, relGe, relLt, relLe, Kind, kNum, kBool, kStr, kBitVec, kFresh, kNamed, kNeg, kBin, kIf, kAnd, kOr, kNot, kImp, kIff, kAtom, kLet, kTheory, kIsCtor, kExists, Expr, Exprs, node, app, enil, econs, exprs, Solution}
 use Rattle.grammar.specs.Shape.{HasOperands}
-use Rattle.judging.specs.Judge.{reads, fails, Reader, _>>=_, fail, word, wordBelow, among, orFail, choose, twoWords, fourWords, several, Plan, operandsOf, argumentsOf, plan, spanWithin, nameWithin, bindersAt, kinds, header, sortIf, planned, exprDeep, atEnd, exprAt, judgeSolution}
+use Rattle.judging.specs.Judge.{reads, fails, FromWords, _>>=_, fail, word, wordBelow, among, orFail, choose, twoWords, fourWords, several, Plan, operandsOf, argumentsOf, plan, spanWithin, nameWithin, bindersAt, kinds, header, sortIf, planned, exprDeep, atEnd, exprAt, judgeSolution}
 use Rattle.judging.proofs.Spell.{Post, chain-post, post-any, post-reads}
 use Rattle.reading.specs.Answer.{notWords}
 
@@ -29,27 +29,27 @@ Fits (operandsOf k n) at = HasOperands k n
 Fits (argumentsOf f n) at = Unit {0}
 
 -- A reader of headers that does.
-abbrev pub Fitting : Reader Plan → Type 0
+abbrev pub Fitting : FromWords Plan → Type 0
 Fitting p = (ws : List ℕ) (at : ℕ) → Post (p ws at) Fits
 
 infixr 20 _&_
-data AllFitting : List (Reader Plan) → Type 0 where
+data AllFitting : List (FromWords Plan) → Type 0 where
   last : AllFitting []
-  _&_ : {p : Reader Plan} {ps : List (Reader Plan)} → Fitting p → AllFitting ps → AllFitting (p ∷ ps)
+  _&_ : {p : FromWords Plan} {ps : List (FromWords Plan)} → Fitting p → AllFitting ps → AllFitting (p ∷ ps)
 
 -- Behind any reader.
-behind : {A : Type 0} (p : Reader A) (q : A → Reader Plan) → ((a : A) → Fitting (q a)) → Fitting (p >>= q)
+behind : {A : Type 0} (p : FromWords A) (q : A → FromWords Plan) → ((a : A) → Fitting (q a)) → Fitting (p >>= q)
 behind p q f ws at = chain-post (p ws at) q ws (λ a n. Unit {0}) Fits (post-any (p ws at) (λ a n. Unit {0}) (λ a n. tt)) λ a n u. f a ws n
 
 says : (k : Kind) (n : ℕ) → HasOperands k n → Fitting (plan k n)
 says k n h ws at = h
 
 -- One of several readers.
-chosen : (first : ℕ) (ps : List (Reader Plan)) → AllFitting ps → (k : ℕ) → Fitting (choose first ps k)
+chosen : (first : ℕ) (ps : List (FromWords Plan)) → AllFitting ps → (k : ℕ) → Fitting (choose first ps k)
 unfolding choose pick
 chosen first ps h k ws at = go (ltb k first)
   where
-    one : {ps : List (Reader Plan)} → AllFitting ps → (k : ℕ) → Post (orFail (among ps k) ws at) Fits
+    one : {ps : List (FromWords Plan)} → AllFitting ps → (k : ℕ) → Post (orFail (among ps k) ws at) Fits
     one last k = tt
     one (f & fs) zero = f ws at
     one (f & fs) (suc k) = one fs k
@@ -95,17 +95,17 @@ module _ (limit : ℕ) where
   abbrev ManyFormed : ℕ → Exprs → ℕ → Type 0
   ManyFormed n es at = (exprs es ≡ n) × FormedAll es
 
-  abbrev pub Forming : Reader Expr → Type 0
+  abbrev pub Forming : FromWords Expr → Type 0
   Forming d = (ws : List ℕ) (at : ℕ) → Post (d ws at) FormedAt
 
-  several-formed : (d : Reader Expr) → Forming d → (n : ℕ) (ws : List ℕ) (at : ℕ) → Post (several d enil econs n ws at) (ManyFormed n)
+  several-formed : (d : FromWords Expr) → Forming d → (n : ℕ) (ws : List ℕ) (at : ℕ) → Post (several d enil econs n ws at) (ManyFormed n)
   unfolding several exprs
   several-formed d f zero ws at = (refl, tt)
   several-formed d f (suc n) ws at =
       chain-post (d ws at) _ ws FormedAt (ManyFormed (suc n)) (f ws at) λ e m h.
       chain-post (several d enil econs n ws m) _ ws (ManyFormed n) (ManyFormed (suc n)) (several-formed d f n ws m) λ es j k. (ap suc (k .0), (h, k .1))
 
-  planned-formed : (d : Reader Expr) → Forming d → (p : Plan) (at : ℕ) → Fits p at → Forming (planned limit d p)
+  planned-formed : (d : FromWords Expr) → Forming d → (p : Plan) (at : ℕ) → Fits p at → Forming (planned limit d p)
   unfolding planned
   planned-formed d f (operandsOf k n) a h ws at =
       chain-post (several d enil econs n ws at) _ ws (ManyFormed n) FormedAt (several-formed d f n ws at) λ es m g. (rw (g .0) h, g .1)

@@ -9,7 +9,7 @@ use borrow.Author.Tests.{ltb-true, ltb-false, lt-ltb, eq-eqb}
 use Rattle.reading.specs.Pick.{pick}
 use Rattle.reading.specs.Bytes.{ascii, sameBytes, Named, named, lookup, just}
 use Rattle.grammar.specs.Expr.{BinOp, opAdd, opSub, opMul, opDiv, opMod, Relation, relEq, relNe, relGt, relGe, relLt, relLe, opNumber, relNumber}
-use Rattle.grammar.proofs.Post.{Every}
+use Rattle.grammar.proofs.AnswerHolds.{Every}
 use Rattle.smt.specs.SexpBack.{then}
 use Rattle.smt.specs.Term.{bySymbol, Ident, plainIdent}
 use Rattle.grammar.specs.Names.{theory}

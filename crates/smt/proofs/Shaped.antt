@@ -13,7 +13,7 @@ use Rattle.reading.specs.Number.{valueOf}
 use Rattle.reading.specs.Answer.{Ans, got, bad, andThen, check, unwritable}
 use Rattle.grammar.specs.Sort.{cSet, cMap, cData, Sort, Sorts, sInt, sBool, sReal, sStr, sBitVec, sSize, sVar, sFunc, sAbs, sApp, snil, scons, sorts}
 use Rattle.grammar.specs.Expr.{relEq, Binder, Kind, kNum, kBool, kStr, kBitVec, kFresh, kNamed, kNeg, kBin, kIf, kAnd, kOr, kNot, kImp, kIff, kAtom, kLet, kTheory, kIsCtor, kExists, Expr, Exprs, node, app, enil, econs, Solution}
-use Rattle.grammar.proofs.Post.{Every, then-every}
+use Rattle.grammar.proofs.AnswerHolds.{Every, then-every}
 use Rattle.smt.specs.SexpBack.{then}
 use Rattle.smt.specs.Term.{Ident, plainIdent, SmtSort, SmtSorts, Var, Term, tnum, tstr, tid, tapp, Terms, tnil, tcons, terms, Closed, closedBytes}
 use Rattle.smt.specs.TermBack.{readClosed}

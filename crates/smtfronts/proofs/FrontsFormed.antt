@@ -11,7 +11,7 @@ use Rattle.reading.specs.Answer.{Ans, got, bad, unwritable}
 use Rattle.reading.proofs.Picks.{pick-holds}
 use Rattle.grammar.specs.Expr.{Kind, kNum, kBool, kStr, kBitVec, kFresh, kNamed, kNeg, kBin, kIf, kAnd, kOr, kNot, kImp, kIff, kAtom, kLet, kTheory, kIsCtor, kExists}
 use Rattle.grammar.specs.Shape.{HasOperands}
-use Rattle.grammar.proofs.Post.{Every, any-every}
+use Rattle.grammar.proofs.AnswerHolds.{Every, any-every}
 use Rattle.smt.specs.Term.{Ident, Var, Term, Terms, tid, tapp, tlet, bnil, tnil, tcons, terms}
 use Rattle.smt.specs.Writer.{bitsIdent, fitsWidth, Form, alone, operator, folded, letting, some, folding, quantified, formed, bytesOf, symbolOf, varsOf, fieldsOf}
 

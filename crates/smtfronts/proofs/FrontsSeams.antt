@@ -11,7 +11,7 @@ use Rattle.reading.specs.Number.{valueOf}
 use Rattle.reading.specs.Answer.{Ans, got, bad, andThen, unwritable}
 use Rattle.reading.proofs.Picks.{pick-holds}
 use Rattle.grammar.specs.Expr.{Kind, kNum, kBool, kStr, kBitVec, kFresh, kNamed, kNeg, kBin, kIf, kAnd, kOr, kNot, kImp, kIff, kAtom, kLet, kTheory, kIsCtor, kExists}
-use Rattle.grammar.proofs.Post.{Every, any-every}
+use Rattle.grammar.proofs.AnswerHolds.{Every, any-every}
 use Rattle.nodes.specs.Node.{nodeOf}
 use Rattle.smt.specs.Sexp.{print}
 use Rattle.smt.specs.Term.{plainIdent, SmtSort, Var, tid}

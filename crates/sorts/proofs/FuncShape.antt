@@ -20,7 +20,7 @@ use Rattle.sorts.specs.Rows.{rowWords, absWords}
 use Rattle.sorts.specs.Outcome.{Outcome, wrote, refused}
 use Rattle.words.specs.declared.Answer.{Answer}
 use Rattle.words.specs.declared.Answer.the-variants.{Done}
-use Rattle.grammar.proofs.Post.{Every}
+use Rattle.grammar.proofs.AnswerHolds.{Every}
 use Rattle.sorts.proofs.RowWords.{snoc, funcs-words, abs-words}
 use Rattle.sorts.proofs.ListForms.{view-tree, each-many}
 use Rattle.reading.proofs.TreeHead.{Three, tree-two, is-integer, is-list, size-integer, other-words}

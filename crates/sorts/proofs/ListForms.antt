@@ -27,7 +27,7 @@ use Rattle.sorts.specs.declared.names.Row.{Row}
 use Rattle.sorts.specs.declared.names.Row.the-variants as row
 use Rattle.words.specs.declared.Answer.{Answer}
 use Rattle.words.specs.declared.Answer.the-variants.{Done, Refused}
-use Rattle.grammar.proofs.Post.{Every, AllRows, IfThere, lookup-holds}
+use Rattle.grammar.proofs.AnswerHolds.{Every, AllRows, IfThere, lookup-holds}
 use Rattle.sorts.proofs.Outcomes.{never, out-map, out-refused}
 use Rattle.sorts.proofs.RowWords.{row-plain}
 use Rattle.reading.proofs.TreeHead.{First, is-symbol, size-symbol}

@@ -8,7 +8,7 @@ use Rattle.reading.specs.Answer.{Ans, got, bad, andThen, over}
 use Rattle.words.specs.declared.Answer.{Answer}
 use Rattle.words.specs.declared.Answer.the-variants.{Done, Refused}
 use Rattle.sorts.specs.Outcome.{Outcome, wrote, refused}
-use Rattle.grammar.proofs.Post.{Every}
+use Rattle.grammar.proofs.AnswerHolds.{Every}
 use Rattle.sorts.proofs.Lend.{lent}
 
 -- An answer is one of the two.

@@ -16,7 +16,7 @@ use Rattle.sorts.specs.Rows.{mark, rowWords}
 use Rattle.sorts.specs.Outcome.{Outcome, wrote, refused}
 use Rattle.words.specs.declared.Answer.{Answer}
 use Rattle.words.specs.declared.Answer.the-variants.{Done, Refused}
-use Rattle.grammar.proofs.Post.{Every, map-every}
+use Rattle.grammar.proofs.AnswerHolds.{Every, map-every}
 use Rattle.grammar.proofs.SortOf.{SortOf, SortsOf, sort-of, sorts-of}
 use Rattle.sorts.proofs.RowWords.{mark-short, row-cons, row-short}
 use Rattle.sorts.proofs.Lend.{lent}

@@ -9,7 +9,7 @@ use Rattle.reading.specs.Pick.{pick}
 use Rattle.reading.specs.Bytes.{nothing}
 use Rattle.grammar.specs.Sort.{Ctor, cData}
 use Rattle.grammar.specs.Expr.{Binder}
-use Rattle.judging.specs.Judge.{Judged, reads, fails, Reader, goOn, _>>=_, ret, word, among, choose, twoWords, several, spanWithin, ctors, sortAt, binderAt, bindersAt}
+use Rattle.judging.specs.Judge.{Judged, reads, fails, FromWords, goOn, _>>=_, ret, word, among, choose, twoWords, several, spanWithin, ctors, sortAt, binderAt, bindersAt}
 use Rattle.sortwords.specs.SortFields.{oneField, ctorAt, appFields, sortFields, sortHead, insideOf}
 use Rattle.judging.specs.Ends.{endOf}
 use Rattle.judging.specs.declared.End.{End}
@@ -27,7 +27,7 @@ inside-map : {A : Type 0} (x : Judged A) (n : ℕ) (ws : List ℕ) {b : ℕ} →
 inside-map (reads a m) n ws {b} e = let z : b ≡ m = cc in ap (λ (i : ℕ). inside.Next i n) z
 inside-map (fails r) n ws e = let z : _≡_ {A = ℕ} 0 1 = cc in absurd (omega arith)
 
-inside-no : {A : Type 0} (x : Judged A) (f : A → Reader ℕ) (ws : List ℕ) {r : ℕ} → No r ≡ endOf x → inside.No r ≡ insideOf (goOn x f ws)
+inside-no : {A : Type 0} (x : Judged A) (f : A → FromWords ℕ) (ws : List ℕ) {r : ℕ} → No r ≡ endOf x → inside.No r ≡ insideOf (goOn x f ws)
 inside-no (reads a m) f ws e = let z : _≡_ {A = ℕ} 0 1 = cc in absurd (omega arith)
 inside-no (fails s) f ws {r} e = let z : r ≡ s = cc in ap inside.No z
 

@@ -9,7 +9,7 @@ use lib.ListN.{length, getD}
 use Rattle.reading.specs.Pick.{pick}
 use Rattle.reading.specs.Answer.{notWords}
 use Rattle.grammar.specs.Sort.{Sort, sInt, sBool, sReal, sStr, sBitVec, sSize, sVar, sFunc, sAbs, sApp, snil, scons}
-use Rattle.judging.specs.Judge.{Judged, reads, fails, Reader, goOn, _>>=_, ret, fail, word, among, orFail, choose, twoWords, several, spanWithin, ctors, sortKinds, sortDeep, sortAt}
+use Rattle.judging.specs.Judge.{Judged, reads, fails, FromWords, goOn, _>>=_, ret, fail, word, among, orFail, choose, twoWords, several, spanWithin, ctors, sortKinds, sortDeep, sortAt}
 use Rattle.sortwords.specs.SortFields.{oneField, ctorAt, appFields, sortFields, sortHead, insideOf}
 use Rattle.judging.specs.Ends.{endOf}
 use Rattle.judging.specs.declared.End.{End}
@@ -65,7 +65,7 @@ module _ (limit : ℕ) (ws : List ℕ) where
   walk-out at (suc g) (suc p) h l = rw (head-out at h) refl
 
   -- Readers that stay where they are or go on.
-  abbrev Onward : {A : Type 0} → Reader A → Type 0
+  abbrev Onward : {A : Type 0} → FromWords A → Type 0
   Onward {A} p = (at n : ℕ) (a : A) → p ws at ≡ reads a n → at ≤ n
 
   onward-ret : {A : Type 0} (x : A) → Onward (ret x)
@@ -74,7 +74,7 @@ module _ (limit : ℕ) (ws : List ℕ) where
   onward-fail : {A : Type 0} (r : ℕ) → Onward {A = A} (fail r)
   onward-fail r at n a e = let z : _≡_ {A = ℕ} 0 1 = cc in absurd (omega arith)
 
-  onward-pick : {A : Type 0} (t : Bool) (p q : Reader A) → Onward p → Onward q → Onward (pick t p q)
+  onward-pick : {A : Type 0} (t : Bool) (p q : FromWords A) → Onward p → Onward q → Onward (pick t p q)
   unfolding pick
   onward-pick true p q P Q = P
   onward-pick false p q P Q = Q
@@ -87,7 +87,7 @@ module _ (limit : ℕ) (ws : List ℕ) where
       go true f = let z : at + 1 ≡ n = cc in omega arith
       go false f = let z : _≡_ {A = ℕ} 0 1 = cc in absurd (omega arith)
 
-  onward-bind : {A B : Type 0} (p : Reader A) (f : A → Reader B) → Onward p → ((a : A) → Onward (f a)) → Onward (p >>= f)
+  onward-bind : {A B : Type 0} (p : FromWords A) (f : A → FromWords B) → Onward p → ((a : A) → Onward (f a)) → Onward (p >>= f)
   onward-bind {A} {B} p f P F at n b e = go (p ws at) refl e
     where
       go : (x : Judged A) → p ws at ≡ x → goOn x f ws ≡ reads b n → at ≤ n
@@ -103,7 +103,7 @@ module _ (limit : ℕ) (ws : List ℕ) where
   onward-span =
       onward-bind word _ onward-word (λ a. onward-bind word _ onward-word (λ b. onward-pick (leb (a + b) limit) _ _ (onward-ret _) (onward-fail notWords)))
 
-  onward-among : {A : Type 0} (r : Reader A) (rs : List (Reader A)) → Onward r → ((j : ℕ) → Onward (orFail (among rs j))) → (j : ℕ) → Onward (orFail (among (r ∷ rs) j))
+  onward-among : {A : Type 0} (r : FromWords A) (rs : List (FromWords A)) → Onward r → ((j : ℕ) → Onward (orFail (among rs j))) → (j : ℕ) → Onward (orFail (among (r ∷ rs) j))
   onward-among r rs R S zero = R
   onward-among r rs R S (suc j) = S j
 
@@ -118,11 +118,11 @@ module _ (limit : ℕ) (ws : List ℕ) where
   Follows {A} at q k = (a : A) (b g : ℕ) → at ≤ b → length ws ≤ b + g → k a b ≡ walk limit ws g q b
 
   -- A reader is a walk over so many sorts, from a place on.
-  abbrev Walks : {A : Type 0} → ℕ → Reader A → ℕ → Type 0
+  abbrev Walks : {A : Type 0} → ℕ → FromWords A → ℕ → Type 0
   Walks {A} lo p n = (at q g : ℕ) (k : A → ℕ → End) → lo ≤ at → length ws ≤ at + g → Follows at q k → after (p ws at) k ≡ walk limit ws g (n + q) at
 
   -- What follows the second of two readers follows the first, through the second.
-  after-bind : {A B : Type 0} (x : Judged A) (f : A → Reader B) (k : B → ℕ → End) → after (goOn x f ws) k ≡ after x (λ a b. after (f a ws b) k)
+  after-bind : {A B : Type 0} (x : Judged A) (f : A → FromWords B) (k : B → ℕ → End) → after (goOn x f ws) k ≡ after x (λ a b. after (f a ws b) k)
   unfolding after
   after-bind (reads a n) f k = refl
   after-bind (fails r) f k = refl
@@ -132,52 +132,52 @@ module _ (limit : ℕ) (ws : List ℕ) where
   unfolding after
   walks-ret lo x at q g k l e h = h x at g (omega arith) e ∙ ap (λ (j : ℕ). walk limit ws g j at) (omega arith)
 
-  walks-then : {A B : Type 0} (lo m n : ℕ) (p : Reader A) (f : A → Reader B) → Walks lo p m → ((a : A) → Walks lo (f a) n) → Walks lo (p >>= f) (m + n)
+  walks-then : {A B : Type 0} (lo m n : ℕ) (p : FromWords A) (f : A → FromWords B) → Walks lo p m → ((a : A) → Walks lo (f a) n) → Walks lo (p >>= f) (m + n)
   walks-then lo m n p f P F at q g k l e h =
       let i : m + (n + q) ≡ m + n + q = omega arith in
       after-bind (p ws at) f k
       ∙ P at (n + q) g (λ a b. after (f a ws b) k) l e (λ a b g′ u v. F a b q g′ k (omega arith) v (λ c d g″ w x. h c d g″ (omega arith) x))
       ∙ ap (λ (j : ℕ). walk limit ws g j at) i
 
-  walks-map : {A B : Type 0} (lo n : ℕ) (p : Reader A) (f : A → B) → Walks lo p n → Walks lo (p >>= λ a. ret (f a)) n
+  walks-map : {A B : Type 0} (lo n : ℕ) (p : FromWords A) (f : A → B) → Walks lo p n → Walks lo (p >>= λ a. ret (f a)) n
   unfolding after
   walks-map lo n p f P at q g k l e h =
       after-bind (p ws at) (λ a. ret (f a)) k ∙ P at q g (λ a b. k (f a) b) l e (λ a b g′ u v. h (f a) b g′ u v)
 
-  walks-count : {A : Type 0} (lo m n : ℕ) (p : Reader A) → m ≡ n → Walks lo p m → Walks lo p n
+  walks-count : {A : Type 0} (lo m n : ℕ) (p : FromWords A) → m ≡ n → Walks lo p m → Walks lo p n
   walks-count lo m n p c P at q g k l e h = P at q g k l e h ∙ ap (λ (j : ℕ). walk limit ws g (j + q) at) c
 
-  walks-several : {A B : Type 0} (lo : ℕ) (d : Reader A) (none : B) (put : A → B → B) → Walks lo d 1 → (n : ℕ) → Walks lo (several d none put n) n
+  walks-several : {A B : Type 0} (lo : ℕ) (d : FromWords A) (none : B) (put : A → B → B) → Walks lo d 1 → (n : ℕ) → Walks lo (several d none put n) n
   unfolding several
   walks-several lo d none put D zero = walks-ret lo none
   walks-several lo d none put D (suc n) =
       walks-count lo (1 + n) (suc n) (several d none put (suc n)) (omega arith) (walks-then lo 1 n d (λ a. several d none put n >>= λ b. ret (put a b)) D (λ a. walks-map lo n (several d none put n) (put a) (walks-several lo d none put D n)))
 
   -- A reader of a sort's fields and of the sorts inside it does what the reader of the fields alone does, and then walks on.
-  abbrev Enters : ℕ → Reader Sort → Reader ℕ → Type 0
+  abbrev Enters : ℕ → FromWords Sort → FromWords ℕ → Type 0
   Enters lo r h = (at q g : ℕ) (k : Sort → ℕ → End) → lo ≤ at → length ws ≤ at + g → Follows at q k → after (r ws at) k ≡ after (h ws at) (λ n b. walk limit ws g (n + q) b)
 
   -- The same for each way of putting readers together.
-  enters-walks : (lo n : ℕ) (r : Reader Sort) → Walks lo r n → Enters lo r (ret n)
+  enters-walks : (lo n : ℕ) (r : FromWords Sort) → Walks lo r n → Enters lo r (ret n)
   unfolding after
   enters-walks lo n r R at q g k l e h = R at q g k l e h
 
   enters-ret : (lo : ℕ) (s : Sort) → Enters lo (ret s) (ret 0)
   enters-ret lo s = enters-walks lo 0 (ret s) (walks-ret lo s)
 
-  enters-map : {A : Type 0} (lo n : ℕ) (p : Reader A) (f : A → Sort) → Walks lo p n → Enters lo (p >>= λ a. ret (f a)) (ret n)
+  enters-map : {A : Type 0} (lo n : ℕ) (p : FromWords A) (f : A → Sort) → Walks lo p n → Enters lo (p >>= λ a. ret (f a)) (ret n)
   enters-map lo n p f P = enters-walks lo n (p >>= λ a. ret (f a)) (walks-map lo n p f P)
 
   enters-fail : (lo r : ℕ) → Enters lo (fail r) (fail r)
   unfolding after
   enters-fail lo r at q g k l e h = refl
 
-  enters-pick : (lo : ℕ) (t : Bool) (r : Reader Sort) (h : Reader ℕ) → Enters lo r h → Enters lo (pick t (fail notWords) r) (pick t (fail notWords) h)
+  enters-pick : (lo : ℕ) (t : Bool) (r : FromWords Sort) (h : FromWords ℕ) → Enters lo r h → Enters lo (pick t (fail notWords) r) (pick t (fail notWords) h)
   unfolding pick
   enters-pick lo true r h E = enters-fail lo notWords
   enters-pick lo false r h E = E
 
-  enters-bind : {A : Type 0} (lo : ℕ) (p : Reader A) (f : A → Reader Sort) (h : A → Reader ℕ) → Onward p → ((a : A) → Enters lo (f a) (h a)) → Enters lo (p >>= f) (p >>= h)
+  enters-bind : {A : Type 0} (lo : ℕ) (p : FromWords A) (f : A → FromWords Sort) (h : A → FromWords ℕ) → Onward p → ((a : A) → Enters lo (f a) (h a)) → Enters lo (p >>= f) (p >>= h)
   unfolding after
   enters-bind {A} lo p f h P F at q g k l e z = go (p ws at) refl
     where
@@ -185,24 +185,24 @@ module _ (limit : ℕ) (ws : List ℕ) where
       go (reads a n) i = let j : at ≤ n = P at n a i in F a n q g k (omega arith) (omega arith) (λ c d g′ w x. z c d g′ (omega arith) x)
       go (fails r) i = refl
 
-  enters-among : (lo : ℕ) (r : Reader Sort) (rs : List (Reader Sort)) (h : Reader ℕ) (hs : List (Reader ℕ)) → Enters lo r h → ((j : ℕ) → Enters lo (orFail (among rs j)) (orFail (among hs j))) → (j : ℕ) → Enters lo (orFail (among (r ∷ rs) j)) (orFail (among (h ∷ hs) j))
+  enters-among : (lo : ℕ) (r : FromWords Sort) (rs : List (FromWords Sort)) (h : FromWords ℕ) (hs : List (FromWords ℕ)) → Enters lo r h → ((j : ℕ) → Enters lo (orFail (among rs j)) (orFail (among hs j))) → (j : ℕ) → Enters lo (orFail (among (r ∷ rs) j)) (orFail (among (h ∷ hs) j))
   enters-among lo r rs h hs E F zero = E
   enters-among lo r rs h hs E F (suc j) = F j
 
   -- Brackets do not matter.
-  bind-assoc : {A B C : Type 0} (x : Judged A) (f : A → Reader B) (g : B → Reader C) → goOn x (λ a. f a >>= g) ws ≡ goOn (goOn x f ws) g ws
+  bind-assoc : {A B C : Type 0} (x : Judged A) (f : A → FromWords B) (g : B → FromWords C) → goOn x (λ a. f a >>= g) ws ≡ goOn (goOn x f ws) g ws
   bind-assoc (reads a n) f g = refl
   bind-assoc (fails r) f g = refl
 
   -- An application's constructor and the number of its sorts, then the sorts.
-  enters-app : (lo : ℕ) (d : Reader Sort) → Walks lo d 1 → Enters lo (word >>= λ k. choose 0 (ctors limit) k >>= λ c. word >>= λ n. several d snil scons n >>= λ ss. ret (sApp c ss)) (appFields limit)
+  enters-app : (lo : ℕ) (d : FromWords Sort) → Walks lo d 1 → Enters lo (word >>= λ k. choose 0 (ctors limit) k >>= λ c. word >>= λ n. several d snil scons n >>= λ ss. ret (sApp c ss)) (appFields limit)
   unfolding appFields ctorAt
   enters-app lo d D at q g k l e z =
       ap (λ (x : Judged Sort). after x k) (bind-assoc (word ws at) (choose 0 (ctors limit)) (λ c. word >>= λ n. several d snil scons n >>= λ ss. ret (sApp c ss)))
       ∙ enters-bind lo (word >>= choose 0 (ctors limit)) _ _ onward-ctor (λ c. enters-bind lo word _ _ onward-word (λ n. enters-map lo n (several d snil scons n) (sApp c) (walks-several lo d snil scons D n))) at q g k l e z
 
   -- All the kinds of sorts.
-  enters-kinds : (lo : ℕ) (d : Reader Sort) → Walks lo d 1 → (j : ℕ) → Enters lo (orFail (among (sortKinds limit d) j)) (orFail (among (sortFields limit) j))
+  enters-kinds : (lo : ℕ) (d : FromWords Sort) → Walks lo d 1 → (j : ℕ) → Enters lo (orFail (among (sortKinds limit d) j)) (orFail (among (sortFields limit) j))
   unfolding sortKinds sortFields oneField
   enters-kinds lo d D =
       enters-among lo _ _ _ _ (enters-ret lo sInt)
@@ -258,7 +258,7 @@ module _ (limit : ℕ) (ws : List ℕ) where
       ∙ sort-walks (length ws) at (omega arith) at 0 (length ws) (λ a b. At b) (omega arith) (omega arith) (λ a b g u v. sym (walk-done g 0 b (omega arith)))
 
   -- A reader that refuses with 14 alone.
-  abbrev Only14 : {A : Type 0} → Reader A → Type 0
+  abbrev Only14 : {A : Type 0} → FromWords A → Type 0
   Only14 p = (at r : ℕ) → p ws at ≡ fails r → r ≡ notWords
 
   -- All the readers of a sort's fields are such.
@@ -268,7 +268,7 @@ module _ (limit : ℕ) (ws : List ℕ) where
   only-fail : {A : Type 0} → Only14 {A = A} (fail notWords)
   only-fail at r e = cc
 
-  only-pick : {A : Type 0} (t : Bool) (p q : Reader A) → Only14 p → Only14 q → Only14 (pick t p q)
+  only-pick : {A : Type 0} (t : Bool) (p q : FromWords A) → Only14 p → Only14 q → Only14 (pick t p q)
   unfolding pick
   only-pick true p q P Q = P
   only-pick false p q P Q = Q
@@ -281,14 +281,14 @@ module _ (limit : ℕ) (ws : List ℕ) where
       go true f = let z : _≡_ {A = ℕ} 0 1 = cc in absurd (omega arith)
       go false f = cc
 
-  only-bind : {A B : Type 0} (p : Reader A) (f : A → Reader B) → Only14 p → ((a : A) → Only14 (f a)) → Only14 (p >>= f)
+  only-bind : {A B : Type 0} (p : FromWords A) (f : A → FromWords B) → Only14 p → ((a : A) → Only14 (f a)) → Only14 (p >>= f)
   only-bind {A} {B} p f P F at r e = go (p ws at) refl e
     where
       go : (x : Judged A) → p ws at ≡ x → goOn x f ws ≡ fails r → r ≡ notWords
       go (reads a m) g h = F a m r h
       go (fails s) g h = let z : s ≡ r = cc in sym z ∙ P at s g
 
-  only-among : {A : Type 0} (r : Reader A) (rs : List (Reader A)) → Only14 r → ((j : ℕ) → Only14 (orFail (among rs j))) → (j : ℕ) → Only14 (orFail (among (r ∷ rs) j))
+  only-among : {A : Type 0} (r : FromWords A) (rs : List (FromWords A)) → Only14 r → ((j : ℕ) → Only14 (orFail (among rs j))) → (j : ℕ) → Only14 (orFail (among (r ∷ rs) j))
   only-among r rs R S zero = R
   only-among r rs R S (suc j) = S j
 

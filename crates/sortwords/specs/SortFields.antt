@@ -2,32 +2,32 @@
 use Prim.Native.Nat.{ℕ}
 use mathlib.Core.List.{List, [], _∷_}
 use Rattle.grammar.specs.Sort.{Ctor}
-use Rattle.judging.specs.Judge.{Judged, reads, fails, Reader, _>>=_, ret, word, twoWords, choose, ctors}
+use Rattle.judging.specs.Judge.{Judged, reads, fails, FromWords, _>>=_, ret, word, twoWords, choose, ctors}
 use Rattle.sortwords.specs.declared.Inside.{Inside}
 use Rattle.sortwords.specs.declared.Inside.the-variants as inside
 
 -- A word of any value, then so many sorts.
-unfoldable pub oneField : ℕ → Reader ℕ
+unfoldable pub oneField : ℕ → FromWords ℕ
 oneField n = do
   i ← word
   ret n
 
 module _ (limit : ℕ) where
   -- A constructor: Set, Map, or Data and its name.
-  unfoldable pub ctorAt : Reader Ctor
+  unfoldable pub ctorAt : FromWords Ctor
   ctorAt = do
     k ← word
     choose 0 (ctors limit) k
 
   -- A constructor and the number of its sorts.
-  unfoldable pub appFields : Reader ℕ
+  unfoldable pub appFields : FromWords ℕ
   appFields = do
     c ← ctorAt
     n ← word
     ret n
 
   -- The fields from kind 1 on.
-  unfoldable pub sortFields : List (Reader ℕ)
+  unfoldable pub sortFields : List (FromWords ℕ)
   sortFields =
       ret 0
       ∷ ret 0
@@ -43,7 +43,7 @@ module _ (limit : ℕ) where
       ∷ appFields
       ∷ []
 
-  unfoldable pub sortHead : Reader ℕ
+  unfoldable pub sortHead : FromWords ℕ
   sortHead = do
     k ← word
     choose 1 sortFields k

@@ -20,8 +20,8 @@ use Rattle.grammar.specs.Scope
 use Rattle.grammar.specs.Scope.{Scope, numbered, orElse}
 use Rattle.grammar.specs.ParseExpr.{numeral}
 use Rattle.grammar.specs.Shape.{BindersCoded, KindCoded, Coded, CodedAll, depth, depths, scopes, scopesAll}
-use Rattle.grammar.proofs.Post.{AllRows, IfThere, lookup-holds}
-use Rattle.grammar.proofs.Kept.{BindersOf, Kept}
+use Rattle.grammar.proofs.AnswerHolds.{AllRows, IfThere, lookup-holds}
+use Rattle.grammar.proofs.WalkKeeps.{BindersOf, Kept}
 
 -- The numbers of the open scopes are below n.
 abbrev pub ScopesBelow : List Scope → ℕ → Type 0

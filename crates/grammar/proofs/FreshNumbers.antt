@@ -21,8 +21,8 @@ use Rattle.grammar.specs.Numbers.{In, Exactly}
 use Rattle.grammar.specs.Scoped.{Scoped, ScopedAll}
 use Rattle.grammar.proofs.Items.{bound-append, bound-front, used-front}
 use Rattle.grammar.proofs.Exact.{upFrom, exactly-up, exactly-none, exactly-append, plus, bound-raise, used-raise, plus-up}
-use Rattle.grammar.proofs.Post.{IfThere}
-use Rattle.grammar.proofs.Kept.{BindersOf, Kept}
+use Rattle.grammar.proofs.AnswerHolds.{IfThere}
+use Rattle.grammar.proofs.WalkKeeps.{BindersOf, Kept}
 
 -- The numbers of the open scopes, raised by c.
 unfoldable pub runs : ℕ → List Scope → List ℕ
