@@ -39,7 +39,7 @@ def main():
     total = sum(map(int, re.findall(r"^\| \[\w+/\w+\]\(\S+\) \| (\d+) \|", text, re.M)))
     trust.write_text(re.sub(r"(\| all of them \| )\d+", rf"\g<1>{total}", text))
     architecture = TOP / "docs/ARCHITECTURE.md"
-    architecture.write_text(re.sub(r"^\| `(\w+)` \|(.*?\|.*?)\| \d+ \| \d+ \| \d+ \| \d+ \| (\d+) \|$", crate, architecture.read_text(), flags=re.M))
+    architecture.write_text(re.sub(r"^\| `(\w+)` \|(.*?\|.*?)\| \d+ \| \d+ \| \d+ \| \d+ \| (\d+|-) \|$", crate, architecture.read_text(), flags=re.M))
 
 
 main()
