@@ -1,7 +1,7 @@
 #!/usr/bin/env python3
 """Counts lines anew in the tables of docs/TRUST.md (definitions) and docs/ARCHITECTURE.md (crates): docs/counts.py [LOG]
 
-LOG is what .ci/run printed; the seconds of each crate's check are then taken from it.
+LOG is what .ci/run printed; the seconds of each crate's check are then taken from it. A crate that no log has named yet has a dash.
 """
 
 import re
