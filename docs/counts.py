@@ -1,7 +1,7 @@
 #!/usr/bin/env python3
 """Counts lines anew in the tables of docs/TRUST.md (definitions) and docs/ARCHITECTURE.md (crates): docs/counts.py [LOG]
 
-LOG is what .ci/run printed; the seconds of each crate's check are then taken from it.
+LOG is what .ci/run printed; the seconds of each crate's check are then taken from it. A crate that no log has named yet has a dash.
 """
 
 import re
@@ -39,7 +39,7 @@ def main():
     total = sum(map(int, re.findall(r"^\| \[\w+/\w+\]\(\S+\) \| (\d+) \|", text, re.M)))
     trust.write_text(re.sub(r"(\| all of them \| )\d+", rf"\g<1>{total}", text))
     architecture = TOP / "docs/ARCHITECTURE.md"
-    architecture.write_text(re.sub(r"^\| `(\w+)` \|(.*?\|.*?)\| \d+ \| \d+ \| \d+ \| \d+ \| (\d+) \|$", crate, architecture.read_text(), flags=re.M))
+    architecture.write_text(re.sub(r"^\| `(\w+)` \|(.*?\|.*?)\| \d+ \| \d+ \| \d+ \| \d+ \| (\d+|-) \|$", crate, architecture.read_text(), flags=re.M))
 
 
 main()

@@ -1,4 +1,4 @@
-// What the lent slices hold before a call, and what they should hold after it.
+// When an answer is the recorded one (specs/Recorded.antt): what the lent slices hold before a call, and what they and the reply hold after it.
 ghost use mathlib.Core.Path.{_≡_};
 ghost use lib.Dec.{ltb};
 ghost use lib.ListN.{length, getD};

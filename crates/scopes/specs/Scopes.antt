@@ -1,4 +1,4 @@
--- The code's open scopes: entries of an array, each the place of its names in the tree and its first fresh number.
+-- The code's open scopes: entries of a slice, each the place of its first pair in the tree, how many pairs there are, and its first fresh number.
 use Prim.Native.Nat.{ℕ, zero, suc, _+_, _*_, _%_, _^_, _<_, _≤_}
 use mathlib.Core.Path.{_≡_}
 use mathlib.Core.List.{List, [], _∷_, _++_}
