@@ -12,7 +12,7 @@ use Rattle.reading.specs.Pick.{pick}
 use Rattle.reading.proofs.Picks.{pick-eq, pick-ne, pick-lt, pick-ge}
 use Rattle.grammar.specs.Numbers.{hit}
 use Rattle.smtlevels.specs.Open.{total, ending, settled}
-use Rattle.smtlevels.specs.Levels.{Within, Known, standing, below}
+use Rattle.smtlevels.specs.Levels.{Within, Known, standing, below, half}
 use Rattle.smtlevels.proofs.Open.{hit-yes, hit-no, ending-none, past-total}
 
 -- What holds whether a test for equal numbers tells the one or the other.
@@ -41,13 +41,13 @@ known-kept bases i x (suc k) (c ∷ cs) h o = (getD-set-other bases i k x 0 (λ 
 -- The inner half moves to the front of the array, so many of it.
 pub record Moved (l₀ l : List ℕ) (i : ℕ) : Type 0 where
   pub long : length l ≡ length l₀
-  pub front : (j : ℕ) → j < i → getD l j 0 ≡ getD l₀ (j + 32) 0
+  pub front : (j : ℕ) → j < i → getD l j 0 ≡ getD l₀ (j + half) 0
   pub still : (j : ℕ) → i ≤ j → getD l j 0 ≡ getD l₀ j 0
 
 pub moved-none : (l : List ℕ) → Moved l l 0
 moved-none l = record { long = refl; front = λ j h. absurd (omega (arith, h)); still = λ j h. refl }
 
-pub moved-one : (l₀ l : List ℕ) (i : ℕ) → i < length l → Moved l₀ l i → Moved l₀ (set l i (getD l (i + 32) 0)) (i + 1)
+pub moved-one : (l₀ l : List ℕ) (i : ℕ) → i < length l → Moved l₀ l i → Moved l₀ (set l i (getD l (i + half) 0)) (i + 1)
 moved-one l₀ l i h m =
     record {
       long = length-set l i _ ∙ m .long;
@@ -55,17 +55,17 @@ moved-one l₀ l i h m =
       still = λ j g. getD-set-other l i j _ 0 (λ e. omega (arith, g, e)) ∙ m .still j (omega (arith, g));
     }
   where
-    go : (j : ℕ) → j < i + 1 → (t : Bool) → eqb j i ≡ t → getD (set l i (getD l (i + 32) 0)) j 0 ≡ getD l₀ (j + 32) 0
-    go j g true e = rw (eqb-true j i e) (getD-set-same l i _ 0 h ∙ m .still (i + 32) (omega arith))
+    go : (j : ℕ) → j < i + 1 → (t : Bool) → eqb j i ≡ t → getD (set l i (getD l (i + half) 0)) j 0 ≡ getD l₀ (j + half) 0
+    go j g true e = rw (eqb-true j i e) (getD-set-same l i _ 0 h ∙ m .still (i + half) (omega arith))
     go j g false e = getD-set-other l i j _ 0 (eqb-false j i e) ∙ m .front j (omega (arith, g, eqb-false j i e))
 
 -- The lists that stand there are known as before.
-pub moved-known : (l₀ l : List ℕ) (k n : ℕ) (cs : List ℕ) → Moved l₀ l 32 → n ≡ k + 32 → k ≤ 32 → Known l₀ n cs → Known l k cs
+pub moved-known : (l₀ l : List ℕ) (k n : ℕ) (cs : List ℕ) → Moved l₀ l half → n ≡ k + half → k ≤ half → Known l₀ n cs → Known l k cs
 moved-known l₀ l zero n cs m e h o = tt
 moved-known l₀ l (suc k) zero cs m e h o = absurd (omega (arith, e))
 moved-known l₀ l (suc k) (suc n) [] m e h o = absurd o
 moved-known l₀ l (suc k) (suc n) (c ∷ cs) m e h o =
-    let f : k + 32 ≡ n = omega (arith, e) in
+    let f : k + half ≡ n = omega (arith, e) in
     (m .front k (omega (arith, h)) ∙ ap (λ j. getD l₀ j 0) f ∙ o .0, moved-known l₀ l k n cs m (sym f) (omega (arith, h)) (o .1))
 
 -- One list more.

@@ -1,5 +1,5 @@
 -- The innermost of the open lists are known by how many sorts are to come when they end, which stands in an array, the innermost list's last.
-use Prim.Native.Nat.{ℕ, zero, suc, _≤_}
+use Prim.Native.Nat.{ℕ, zero, suc, _/_, _≤_}
 use mathlib.Core.Path.{_≡_}
 use mathlib.Core.List.{List, [], _∷_}
 use lib.Dec.{eqb, ltb}
@@ -7,6 +7,10 @@ use lib.ListN.{length, getD}
 use Rattle.reading.specs.Limits.{maxLists}
 use Rattle.reading.specs.Pick.{pick}
 use Rattle.smtlevels.specs.Open.{total}
+
+-- How many are kept where there is no room for one more.
+abbrev pub half : ℕ
+half = maxLists / 2
 
 -- An array with room for so many.
 abbrev pub Within : List ℕ → ℕ → Type 0

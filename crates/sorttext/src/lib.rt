@@ -22,6 +22,7 @@ use smtsorts::sort_node::opened;
 use sortnodes::count;
 use sortnodes::size;
 use sortnodes::sort_at;
+use words::limits::MAX_LISTS;
 use writing::byte;
 
 // How many lists end behind a sort without sorts inside it, and how many of the others are known.
@@ -32,7 +33,7 @@ struct Ends {
 
 // The same of the sort at a place, with so many sorts to come, by walking there again from the first place. Those lists end that were opened
 // when just so many sorts were to come, and none fewer since; of the others, which were opened when fewer were to come, the innermost are known.
-fn endings(words: &[u32], from: usize, at: usize, left: u64, bases: &mut [u64; 64]) -> Ends
+fn endings(words: &[u32], from: usize, at: usize, left: u64, bases: &mut [u64; MAX_LISTS]) -> Ends
     requires { ⌜ Within (now bases) 0 ⌝ }
     ensures room { λ r. ⌜ Within (now (bases .exit)) (r .known) ⌝ }
     ensures lists { λ r. ⌜ ((cs : List ℕ) → Walk (now (words .entry)) from [] at cs → r .lists ≡ ending left cs) ⌝ }
@@ -83,7 +84,7 @@ fn endings_known(
     at: usize,
     left: u64,
     known: usize,
-    bases: &mut [u64; 64],
+    bases: &mut [u64; MAX_LISTS],
 ) -> Ends
     requires { ⌜ Within (now bases) known ⌝ }
     ensures room { λ r. ⌜ Within (now (bases .exit)) (r .known) ⌝ }
@@ -132,7 +133,7 @@ pub fn sort(words: &[u32], at: usize, text: &[u8], out: &mut [u8], place: usize)
     let mut a = at;
     let mut p = place;
     let mut left: u64 = 1;
-    let mut bases = [0u64; 64];
+    let mut bases = [0u64; MAX_LISTS];
     let mut known: usize = 0;
     while 0 < left {
         // Never, where the words are a sort.

@@ -1,15 +1,16 @@
 use Prim.Native.Nat.{_+_, _-_, _≤_}
 use mathlib.Core.Path.{_≡_, _∙_}
 use native.Mathlib.Omega.{arith}
+use Rattle.smtlevels.specs.Levels.{half}
 use Rattle.smtlevels.proofs.Levels.{Moved, moved-none, moved-one, moved-known}
 use Rattle.smtlevels.proofs.halved.Statement.{statement}
 use Rattle.smtlevels.proofs.halved.Tie as tie
 
 abbrev Inv-loop : tie.InvT-loop
-Inv-loop bases₀ known i₀ bases i = (i ≤ 32) × Moved bases₀ bases i
+Inv-loop bases₀ known i₀ bases i = (i ≤ half) × Moved bases₀ bases i
 
 abbrev μ-loop : tie.MeasureT-loop
-μ-loop bases₀ known i₀ bases i = 32 - i
+μ-loop bases₀ known i₀ bases i = half - i
 
 returns : tie.Need-returns Inv-loop μ-loop
 returns c = ((c .before .pre .0, c .if1 .taken), λ cs o. o)
@@ -43,9 +44,9 @@ loop-again c = (omega arith, moved-one _ (c .before .before .loop .bases) (c .be
 
 returns-2 : tie.Need-returns-2 Inv-loop μ-loop
 returns-2 c =
-    let e : c .before .loop .i ≡ 32 = omega (arith, c .before .loop .inv .0, c .loop-test .left) in
-    let n : c .before .before .before .args .known ≡ 32 + 32 = omega (arith, c .before .before .before .pre .1, c .before .before .if1 .left) in
-    ((c .before .loop .inv .1 .long ∙ c .before .before .before .pre .0, omega arith), λ cs o. moved-known _ _ 32 _ cs (rw e at (c .before .loop .inv .1)) n (omega arith) o)
+    let e : c .before .loop .i ≡ half = omega (arith, c .before .loop .inv .0, c .loop-test .left) in
+    let n : c .before .before .before .args .known ≡ half + half = omega (arith, c .before .before .before .pre .1, c .before .before .if1 .left) in
+    ((c .before .loop .inv .1 .long ∙ c .before .before .before .pre .0, omega arith), λ cs o. moved-known _ _ half _ cs (rw e at (c .before .loop .inv .1)) n (omega arith) o)
 
 pub halved-spec : {M : Type 1} → statement M
 halved-spec =
