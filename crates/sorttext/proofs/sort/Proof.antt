@@ -7,6 +7,7 @@ use native.Mathlib.Omega.{arith}
 use lib.ListN.{length, length-replicate}
 use Rattle.grammar.specs.Sort.{Sort}
 use Rattle.judging.specs.Judge.{reads, sortAt}
+use Rattle.reading.specs.Limits.{maxLists}
 use Rattle.smtlevels.specs.Levels.{Within}
 use Rattle.smtnames.proofs.Tells.{gone-told, piece-put, piece-gone, part-told}
 use Rattle.sorttext.proofs.EndTexts.{size-some, size-few}
@@ -25,7 +26,7 @@ abbrev μ-loop : tie.MeasureT-loop
 loop-holds : tie.Need-loop-holds Inv-loop μ-loop
 loop-holds c =
     let low : Low (c .before .before .before .args .words .now) = λ i h. omega (arith, c .before .before .shared-slice-known .given i) in
-    (refl, (length-replicate {A = ℕ} 64 0, omega arith), λ limit s n e. state-start _ limit _ _ _ _ _ low e)
+    (refl, (length-replicate {A = ℕ} maxLists 0, omega arith), λ limit s n e. state-start _ limit _ _ _ _ _ low e)
 
 same-length : tie.Need-same-length Inv-loop μ-loop
 same-length c = c .before .before .loop .inv .0
