@@ -1,19 +1,16 @@
 -- The steps of the parser of expressions, as facts on lists.
-use Prim.Native.Nat.{ℕ, zero, suc, _+_, _*_, _-_, _<_, _≤_, max}
+use Prim.Native.Nat.{ℕ, suc, _+_, _*_, _-_, _<_, _≤_, max}
 use mathlib.Core.Path.{_≡_, refl, sym, ap, subst, _∙_}
 use mathlib.Core.Bool.{Bool, true, false}
-use mathlib.Core.List.{List, [], _∷_, _++_, append-assoc}
+use mathlib.Core.List.{List, _++_, append-assoc}
 use native.Mathlib.Omega.{arith}
-use native.Mathlib.Numerals.{add-one}
 use native.Mathlib.Nat.{le-max-left, le-max-right}
-use lib.Dec.{eqb}
-use lib.ListN.{length, set, drop, length-set, length-append}
-use lib.Seq.{getD-set-same, getD-set-other, drop-drop, drop-at}
-use borrow.Author.Tests.{eqb-false}
+use lib.ListN.{length, drop, length-append}
+use lib.Seq.{drop-drop, drop-at}
 use Rattle.reading.specs.Limits.{maxLists}
 use Rattle.reading.specs.Pick.{pick}
 use Rattle.reading.specs.Bytes.{Span}
-use Rattle.reading.specs.Tree.{Tree, Trees, tnil, tcons, trees, treeWords, treesWords, nesting, nestings}
+use Rattle.reading.specs.Tree.{Tree, Trees, trees, treeWords, treesWords, nesting, nestings}
 use Rattle.grammar.specs.Scope.{Scope, repeated}
 use Rattle.grammar.specs.ParseExpr.{child}
 use Rattle.grammar.specs.Written.{W, told, operandsW, endW, Last, noLast, seenLast, plainLast}

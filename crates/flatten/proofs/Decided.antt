@@ -11,7 +11,7 @@ use lib.Seq.{take-append-seam}
 use borrow.Author.Tests.{lt-ltb, le-ltb, le-leb, lt-leb}
 use Rattle.reading.specs.Limits.{maxNumber, maxNodes}
 use Rattle.reading.specs.Pick.{pick}
-use Rattle.reading.specs.Answer.{number, Res, ok, no, accepts, refuses, finish, over, outputOf}
+use Rattle.reading.specs.Answer.{number, Res, ok, no, accepts, refuses, finish, over}
 use Rattle.reading.proofs.Finish.{finish-short, finish-long}
 use Rattle.reading.proofs.Over.{over-fits, over-length}
 use Rattle.grammar.specs.Item.{raise, wordsOf}

@@ -5,12 +5,12 @@ use mathlib.Core.Bool.{Bool, true, false}
 use mathlib.Core.List.{List}
 use native.Mathlib.Omega.{arith}
 use lib.Dec.{ltb}
-use lib.ListN.{length, replicate}
+use lib.ListN.{length}
 use borrow.Author.Tests.{ltb-true, ltb-false, le-leb, lt-leb}
 use Rattle.reading.specs.Limits.{maxNumber}
 use Rattle.reading.specs.Pick.{pick}
 use Rattle.reading.specs.Tree.{Tree}
-use Rattle.reading.specs.Answer.{got, Res, ok, no, Final, accepts, refuses, finish, fitsIn, outputOf}
+use Rattle.reading.specs.Answer.{got, Res, ok, no, accepts, refuses, finish, fitsIn}
 use Rattle.reading.proofs.Finish.{finish-spent, finish-short, finish-long}
 use Rattle.grammar.specs.Item.{wordsOf}
 use Rattle.grammar.specs.Expr.{Solution, exprItems}
@@ -18,10 +18,8 @@ use Rattle.grammar.specs.ParseSolution.{parseSolution}
 use Rattle.grammar.specs.Operations.{theTree, makeSolution, draftFinal}
 use Rattle.grammar.specs.Item.{raisedWords}
 use Rattle.grammar.specs.Expr.{paramItems, bodyItems}
-use Rattle.parse.specs.Answers.{Laid, draftSaid}
 use Rattle.solutions.specs.PartsWords.{PartsDone, partsWrote, partsRefused}
 use Rattle.parse.specs.DraftAnswers.{judgedBy, AttemptedDraft}
-use Rattle.parse.specs.declared.Drafted.{Drafted}
 use Rattle.parse.specs.declared.Drafted.the-variants.{Done, Refused}
 use Rattle.solutions.specs.declared.parts.Parts.{Parts}
 use Rattle.grammar.proofs.Raise.{words-raise}

@@ -11,7 +11,7 @@ use borrow.Author.Tests.{ltb-true, ltb-false, le-leb, lt-leb}
 use Rattle.reading.specs.Limits.{maxNumber}
 use Rattle.reading.specs.Pick.{pick}
 use Rattle.reading.specs.Tree.{Tree, treeWords}
-use Rattle.reading.specs.Answer.{got, Res, ok, no, Final, accepts, refuses, finish, fitsIn, over, outputOf}
+use Rattle.reading.specs.Answer.{got, Res, ok, no, Final, accepts, refuses, finish, fitsIn, outputOf}
 use Rattle.reading.proofs.Finish.{finish-spent, finish-short, finish-long}
 use Rattle.grammar.specs.Item.{Item, raise, wordsOf}
 use Rattle.grammar.specs.Expr.{exprItems, bindItems}
@@ -19,7 +19,6 @@ use Rattle.grammar.specs.ParseExpr
 use Rattle.grammar.specs.ParseBind.{parseBind}
 use Rattle.grammar.specs.Written.{toldOf}
 use Rattle.grammar.specs.Operations.{theTree, makeExpr, exprFinal, makeBind, bindFinal}
-use Rattle.writing.specs.Laid.{laid}
 use Rattle.scopes.specs.Scopes.{slots}
 use Rattle.plans.specs.Plans.{Parsed, wrote, refused, Here}
 use Rattle.plans.specs.Whole.{Whole}

@@ -1,5 +1,5 @@
 -- The tree that read one leaves in a slice.
-use Prim.Native.Nat.{ℕ, _^_, _≤_, _<_}
+use Prim.Native.Nat.{ℕ, _≤_}
 use mathlib.Core.Path.{_≡_, refl, sym, ap, subst, _∙_}
 use mathlib.Core.Bool.{Bool, true, false}
 use mathlib.Core.List.{List, append-nil}
@@ -7,7 +7,7 @@ use native.Mathlib.Omega.{arith}
 use lib.ListN.{length, take, drop}
 use lib.Seq.{take-at}
 use borrow.Author.Tests.{leb-true}
-use Rattle.reading.specs.Tree.{Tree, Trees, treeWords, treesWords}
+use Rattle.reading.specs.Tree.{Trees, treeWords, treesWords}
 use Rattle.reading.specs.Answer.{Refusal, number, noRoom, Ans, got, bad, lifted, Final, accepts, refuses, finish, fitsIn, saidOf, over, outputOf}
 use Rattle.reading.specs.Reading.{Read, readText, readWords, readReport, readFinal, readSaid, readOut}
 use Rattle.text.specs.Answers.{asAnswer}

@@ -1,18 +1,17 @@
 -- A sort at a place of the tree, whose words are laid from a place of the output on; and what such an outcome says.
-use Prim.Native.Nat.{ℕ, zero, suc, _+_, _-_, _*_, _≤_, min}
+use Prim.Native.Nat.{ℕ, _+_, _-_, _*_, _≤_, min}
 use mathlib.Core.Path.{_≡_, refl, sym, ap, subst, _∙_}
-use mathlib.Core.List.{List, [], _∷_, _++_}
+use mathlib.Core.List.{List, _++_}
 use native.Mathlib.Omega.{arith}
 use native.Mathlib.Nat.{zero-add}
-use lib.ListN.{length, take, drop, set}
+use lib.ListN.{length, take, drop}
 use lib.Seq.{take-at}
 use Rattle.reading.specs.Tree.{Tree, treeWords}
-use Rattle.reading.specs.Answer.{Refusal, number, Ans, got, bad, over}
+use Rattle.reading.specs.Answer.{Refusal, number, Ans, got, bad}
 use Rattle.grammar.specs.Sort.{Sort, sortWords}
 use Rattle.grammar.specs.ParseSort.{parseSort}
 use Rattle.sorts.specs.Outcome.{Outcome, wrote, refused}
 use Rattle.places.specs.Spot.{Spot}
-use Rattle.writing.specs.Laid.{laid}
 use Rattle.writing.proofs.Laid.{laid-over}
 use Rattle.places.specs.Outcome.{Put, OutcomeAt, wroteAt, refusedAt}
 use Rattle.words.specs.declared.Answer.{Answer}

@@ -7,159 +7,112 @@ use Rattle.binds.proofs.PredPlans.{pred-atom, pred-none, pred-other, si
 use borrow.Author.Needs.{needs}
 use Rattle.binds.proofs.preds.pred.Statement.{statement}
 use Rattle.binds.proofs.preds.pred.Tie as tie
-use Rattle.binds.proofs.preds.pred.Reads as reads
-use Rattle.binds.proofs.preds.pred.Lts as lts
-use Rattle.places.proofs.expr_words.put1.Reads as put1-reads
-use Rattle.places.proofs.place.node_at.Reads as node-at-reads
-use Rattle.places.proofs.place.through.Reads as through-reads
-use Rattle.places.proofs.place.words_at.Reads as words-at-reads
-use Rattle.exprs.proofs.expr.expr.Reads as expr-reads
-use Rattle.lexing.proofs.byte.begins_with.Reads as begins-with-reads
-use Rattle.lexing.proofs.byte.same.Reads as same-reads
-use Rattle.binds.proofs.preds.kvar.Reads as kvar-reads
-use Rattle.words.proofs.span.bytes_at.Reads as bytes-at-reads
 
--- src/preds.rt:108:32
 node-at-requires : tie.Need-node-at-requires
 node-at-requires c κs = c .before .before .before .before .pre .0 .spot
 
--- src/preds.rt:108:20
 enum-known-n : tie.Need-enum-known-n
 enum-known-n c = search needs
 
--- src/preds.rt:109:9
 enum-told : tie.Need-enum-told
 enum-told c = search needs
 
--- src/preds.rt:109:9
 returns : tie.Need-returns
 returns c h = pred-atom h _ (node-other (c .before .before .before .before .before .before .before .args .tree .now) (c .before .before .before .before .before .before .before .args .at) (c .before .before .node-at .ensures) (c .enum-told .given .1))
 
--- src/preds.rt:112:9
 returns-2 : tie.Need-returns-2
 returns-2 c h = pred-none h (node-list (c .before .before .before .before .before .before .before .before .before .args .tree .now) (c .before .before .before .before .before .before .before .before .before .args .at) (c .before .before .before .before .node-at .ensures) (c .before .before .n .given .1)) _ (c .if1 .taken)
 
--- src/preds.rt:114:8
 mul-if2 : tie.Need-mul-if2
 mul-if2 c = omega (arith, two-there (head-spot (c .before .before .before .before .before .before .before .before .before .pre .0 .spot) (node-list (c .before .before .before .before .before .before .before .before .before .args .tree .now) (c .before .before .before .before .before .before .before .before .before .args .at) (c .before .before .before .before .node-at .ensures) (c .before .before .n .given .1)) (c .if1 .left)))
 
--- src/preds.rt:114:8
 shared-slice-read-if2 : tie.Need-shared-slice-read-if2
 shared-slice-read-if2 c = omega (arith, two-there (head-spot (c .before .before .before .before .before .before .before .before .before .before .pre .0 .spot) (node-list (c .before .before .before .before .before .before .before .before .before .before .args .tree .now) (c .before .before .before .before .before .before .before .before .before .before .args .at) (c .before .before .before .before .before .node-at .ensures) (c .before .before .before .n .given .1)) (c .before .if1 .left)))
 
--- src/preds.rt:115:40
 add-bytes-at : tie.Need-add-bytes-at
 add-bytes-at c = omega (arith, six-there (c .before .before .before .before .before .before .before .before .before .before .before .pre .0) (node-list (c .before .before .before .before .before .before .before .before .before .before .before .args .tree .now) (c .before .before .before .before .before .before .before .before .before .before .before .args .at) (c .before .before .before .before .before .before .node-at .ensures) (c .before .before .before .before .n .given .1)) (c .before .before .if1 .left) (c .if2 .taken), (node-list (c .before .before .before .before .before .before .before .before .before .before .before .args .tree .now) (c .before .before .before .before .before .before .before .before .before .before .before .args .at) (c .before .before .before .before .before .before .node-at .ensures) (c .before .before .before .before .n .given .1)) .first)
 
--- src/preds.rt:115:35
 mul-bytes-at : tie.Need-mul-bytes-at
 mul-bytes-at c = omega (arith, six-there (c .before .before .before .before .before .before .before .before .before .before .before .pre .0) (node-list (c .before .before .before .before .before .before .before .before .before .before .before .args .tree .now) (c .before .before .before .before .before .before .before .before .before .before .before .args .at) (c .before .before .before .before .before .before .node-at .ensures) (c .before .before .before .before .n .given .1)) (c .before .before .if1 .left) (c .if2 .taken), (node-list (c .before .before .before .before .before .before .before .before .before .before .before .args .tree .now) (c .before .before .before .before .before .before .before .before .before .before .before .args .at) (c .before .before .before .before .before .before .node-at .ensures) (c .before .before .before .before .n .given .1)) .first)
 
--- src/preds.rt:115:35
 shared-slice-read-bytes-at : tie.Need-shared-slice-read-bytes-at
 shared-slice-read-bytes-at c = omega (arith, six-there (c .before .before .before .before .before .before .before .before .before .before .before .before .pre .0) (node-list (c .before .before .before .before .before .before .before .before .before .before .before .before .args .tree .now) (c .before .before .before .before .before .before .before .before .before .before .before .before .args .at) (c .before .before .before .before .before .before .before .node-at .ensures) (c .before .before .before .before .before .n .given .1)) (c .before .before .before .if1 .left) (c .before .if2 .taken), (node-list (c .before .before .before .before .before .before .before .before .before .before .before .before .args .tree .now) (c .before .before .before .before .before .before .before .before .before .before .before .before .args .at) (c .before .before .before .before .before .before .before .node-at .ensures) (c .before .before .before .before .before .n .given .1)) .first)
 
--- src/preds.rt:115:57
 add-bytes-at-2 : tie.Need-add-bytes-at-2
 add-bytes-at-2 c = omega (arith, six-there (c .before .before .before .before .before .before .before .before .before .before .before .before .pre .0) (node-list (c .before .before .before .before .before .before .before .before .before .before .before .before .args .tree .now) (c .before .before .before .before .before .before .before .before .before .before .before .before .args .at) (c .before .before .before .before .before .before .before .node-at .ensures) (c .before .before .before .before .before .n .given .1)) (c .before .before .before .if1 .left) (c .before .if2 .taken), (node-list (c .before .before .before .before .before .before .before .before .before .before .before .before .args .tree .now) (c .before .before .before .before .before .before .before .before .before .before .before .before .args .at) (c .before .before .before .before .before .before .before .node-at .ensures) (c .before .before .before .before .before .n .given .1)) .first)
 
--- src/preds.rt:115:52
 mul-bytes-at-2 : tie.Need-mul-bytes-at-2
 mul-bytes-at-2 c = omega (arith, six-there (c .before .before .before .before .before .before .before .before .before .before .before .before .pre .0) (node-list (c .before .before .before .before .before .before .before .before .before .before .before .before .args .tree .now) (c .before .before .before .before .before .before .before .before .before .before .before .before .args .at) (c .before .before .before .before .before .before .before .node-at .ensures) (c .before .before .before .before .before .n .given .1)) (c .before .before .before .if1 .left) (c .before .if2 .taken), (node-list (c .before .before .before .before .before .before .before .before .before .before .before .before .args .tree .now) (c .before .before .before .before .before .before .before .before .before .before .before .before .args .at) (c .before .before .before .before .before .before .before .node-at .ensures) (c .before .before .before .before .before .n .given .1)) .first)
 
--- src/preds.rt:115:52
 shared-slice-read-bytes-at-2 : tie.Need-shared-slice-read-bytes-at-2
 shared-slice-read-bytes-at-2 c = omega (arith, six-there (c .before .before .before .before .before .before .before .before .before .before .before .before .before .pre .0) (node-list (c .before .before .before .before .before .before .before .before .before .before .before .before .before .args .tree .now) (c .before .before .before .before .before .before .before .before .before .before .before .before .before .args .at) (c .before .before .before .before .before .before .before .before .node-at .ensures) (c .before .before .before .before .before .before .n .given .1)) (c .before .before .before .before .if1 .left) (c .before .before .if2 .taken), (node-list (c .before .before .before .before .before .before .before .before .before .before .before .before .before .args .tree .now) (c .before .before .before .before .before .before .before .before .before .before .before .before .before .args .at) (c .before .before .before .before .before .before .before .before .node-at .ensures) (c .before .before .before .before .before .before .n .given .1)) .first)
 
--- src/preds.rt:115:13
 bytes-at-requires : tie.Need-bytes-at-requires
 bytes-at-requires c κs = search needs
 
--- src/preds.rt:116:23
 slice-aggregate-same : tie.Need-slice-aggregate-same
 slice-aggregate-same c = search needs
 
--- src/preds.rt:116:12
 same-requires : tie.Need-same-requires
 same-requires c κs = search needs
 
--- src/preds.rt:117:29
 add-t35 : tie.Need-add-t35
 add-t35 c = omega (arith, six-there (c .before .before .before .before .before .before .before .before .before .before .before .before .before .before .before .before .before .pre .0) (node-list (c .before .before .before .before .before .before .before .before .before .before .before .before .before .before .before .before .before .args .tree .now) (c .before .before .before .before .before .before .before .before .before .before .before .before .before .before .before .before .before .args .at) (c .before .before .before .before .before .before .before .before .before .before .before .before .node-at .ensures) (c .before .before .before .before .before .before .before .before .before .before .n .given .1)) (c .before .before .before .before .before .before .before .before .if1 .left) (c .before .before .before .before .before .before .if2 .taken))
 
--- src/preds.rt:117:13
 returns-3 : tie.Need-returns-3
 returns-3 c h = pred-and h (node-list (c .before .before .before .before .before .before .before .before .before .before .before .before .before .before .before .before .before .args .tree .now) (c .before .before .before .before .before .before .before .before .before .before .before .before .before .before .before .before .before .args .at) (c .before .before .before .before .before .before .before .before .before .before .before .before .node-at .ensures) (c .before .before .before .before .before .before .before .before .before .before .n .given .1)) (c .before .before .before .before .before .before .before .before .if1 .left) (c .before .before .before .before .before .before .if2 .taken) _ (c .before .before .before .bytes-at .ensures) (c .before .same .ensures) (c .if3 .taken)
 
--- src/preds.rt:119:24
 slice-aggregate-begins-with : tie.Need-slice-aggregate-begins-with
 slice-aggregate-begins-with c = search needs
 
--- src/preds.rt:119:12
 begins-with-requires : tie.Need-begins-with-requires
 begins-with-requires c κs = search needs
 
--- src/preds.rt:120:13
 kvar-requires : tie.Need-kvar-requires
 kvar-requires c κs = kvar-here (c .before .before .before .before .before .before .before .before .before .before .before .before .before .before .before .before .before .before .before .before .before .pre .0) (node-list (c .before .before .before .before .before .before .before .before .before .before .before .before .before .before .before .before .before .before .before .before .before .args .tree .now) (c .before .before .before .before .before .before .before .before .before .before .before .before .before .before .before .before .before .before .before .before .before .args .at) (c .before .before .before .before .before .before .before .before .before .before .before .before .before .before .before .before .node-at .ensures) (c .before .before .before .before .before .before .before .before .before .before .before .before .before .before .n .given .1)) (c .before .before .before .before .before .before .before .before .before .before .before .before .if1 .left) (c .before .before .before .before .before .before .before .before .before .before .if2 .taken) (c .before .before .before .before .before .before .before .bytes-at .ensures) (c .before .before .before .before .before .same .ensures) (c .before .before .before .before .if3 .left) (c .before .before .begins-with .ensures) (c .before .if4 .taken)
 
--- src/preds.rt:120:13
 same-length : tie.Need-same-length
 same-length c = search needs
 
--- src/preds.rt:120:13
 returns-4 : tie.Need-returns-4
 returns-4 c h = pred-kvar h (node-list (c .before .before .before .before .before .before .before .before .before .before .before .before .before .before .before .before .before .before .before .before .before .before .before .before .args .tree .now) (c .before .before .before .before .before .before .before .before .before .before .before .before .before .before .before .before .before .before .before .before .before .before .before .before .args .at) (c .before .before .before .before .before .before .before .before .before .before .before .before .before .before .before .before .before .before .before .node-at .ensures) (c .before .before .before .before .before .before .before .before .before .before .before .before .before .before .before .before .before .n .given .1)) (c .before .before .before .before .before .before .before .before .before .before .before .before .before .before .before .if1 .left) (c .before .before .before .before .before .before .before .before .before .before .before .before .before .if2 .taken) (c .before .before .before .before .before .before .before .before .before .before .bytes-at .ensures) (c .before .before .before .before .before .before .before .before .same .ensures) (c .before .before .before .before .before .before .before .if3 .left) (c .before .before .before .before .before .begins-with .ensures) _ (c .before .before .kvar .ensures (kvar-here h (node-list (c .before .before .before .before .before .before .before .before .before .before .before .before .before .before .before .before .before .before .before .before .before .before .before .before .args .tree .now) (c .before .before .before .before .before .before .before .before .before .before .before .before .before .before .before .before .before .before .before .before .before .before .before .before .args .at) (c .before .before .before .before .before .before .before .before .before .before .before .before .before .before .before .before .before .before .before .node-at .ensures) (c .before .before .before .before .before .before .before .before .before .before .before .before .before .before .before .before .before .n .given .1)) (c .before .before .before .before .before .before .before .before .before .before .before .before .before .before .before .if1 .left) (c .before .before .before .before .before .before .before .before .before .before .before .before .before .if2 .taken) (c .before .before .before .before .before .before .before .before .before .before .bytes-at .ensures) (c .before .before .before .before .before .before .before .before .same .ensures) (c .before .before .before .before .before .before .before .if3 .left) (c .before .before .before .before .before .begins-with .ensures) (c .before .before .before .before .if4 .taken)) _)
 
--- src/preds.rt:123:9
 put1-requires : tie.Need-put1-requires
 put1-requires c κs = omega (arith, c .before .before .before .before .before .before .before .before .before .before .before .before .pre .0 .room)
 
--- src/preds.rt:124:9
 through-requires : tie.Need-through-requires
 through-requires c κs = c .before .before .before .before .before .before .before .before .before .before .before .before .before .before .before .pre .0 .spot
 
--- src/preds.rt:125:11
 expr-requires : tie.Need-expr-requires
 expr-requires c κs = expr-here (c .before .before .before .before .before .before .before .before .before .before .before .before .before .before .before .before .before .before .pre .0) (c .before .before .through .ensures (c .before .before .before .before .before .before .before .before .before .before .before .before .before .before .before .before .before .before .pre .0 .spot)) (c .before .before .before .before .before .put1 .ensures .is) (c .before .before .before .before .before .before .before .before .before .before .before .before .before .before .before .before .before .before .args .scopes .now) (c .before .before .before .before .before .before .before .before .before .before .before .before .before .before .before .before .before .before .pre .1)
 
--- src/preds.rt:126:27
 enum-known-e : tie.Need-enum-known-e
 enum-known-e c = search needs
 
--- src/preds.rt:127:24
 enum-known-u : tie.Need-enum-known-u
 enum-known-u c = search needs
 
--- src/preds.rt:127:47
 words-at-requires : tie.Need-words-at-requires
 words-at-requires c κs = c .before .before .before .before .before .before .before .before .before .before .before .before .before .before .before .before .before .before .before .before .before .before .before .before .before .before .pre .0 .spot
 
--- src/preds.rt:127:42
 add-t50 : tie.Need-add-t50
 add-t50 c = omega (arith, c .before .before .before .before .before .before .before .before .before .before .before .before .before .before .before .before .before .before .before .before .before .before .before .before .before .before .before .good, c .words-at .ensures (c .before .before .before .before .before .before .before .before .before .before .before .before .before .before .before .before .before .before .before .before .before .before .before .before .before .before .before .pre .0 .spot), spot-within (c .before .before .before .before .before .before .before .before .before .before .before .before .before .before .before .before .before .before .before .before .before .before .before .before .before .before .before .pre .0 .spot))
 
--- src/preds.rt:95:1
 same-length-2 : tie.Need-same-length-2
 same-length-2 c = search needs
 
--- src/preds.rt:95:1
 same-length-3 : tie.Need-same-length-3
 same-length-3 c = search needs
 
--- src/preds.rt:95:1
 returns-5 : tie.Need-returns-5
 returns-5 c h = expr-bad h (c .before .before .before .before .before .before .before .before .before .before .through .ensures (h .spot)) (⊎-elim (λ w. pred-named h (node-list (c .before .before .before .before .before .before .before .before .before .before .before .before .before .before .before .before .before .before .before .before .before .before .before .before .before .before .args .tree .now) (c .before .before .before .before .before .before .before .before .before .before .before .before .before .before .before .before .before .before .before .before .before .before .before .before .before .before .args .at) (c .before .before .before .before .before .before .before .before .before .before .before .before .before .before .before .before .before .before .before .before .before .node-at .ensures) (c .before .before .before .before .before .before .before .before .before .before .before .before .before .before .before .before .before .before .before .n .given .1)) (c .before .before .before .before .before .before .before .before .before .before .before .before .before .before .before .before .before .if1 .left) (w .0 .taken) (w .3 .ensures) (w .5 .ensures) (w .6 .left) (w .8 .ensures) (w .9 .left)) (λ w. pred-other h (node-list (c .before .before .before .before .before .before .before .before .before .before .before .before .before .before .before .before .before .before .before .before .before .before .before .before .before .before .args .tree .now) (c .before .before .before .before .before .before .before .before .before .before .before .before .before .before .before .before .before .before .before .before .before .before .before .before .before .before .args .at) (c .before .before .before .before .before .before .before .before .before .before .before .before .before .before .before .before .before .before .before .before .before .node-at .ensures) (c .before .before .before .before .before .before .before .before .before .before .before .before .before .before .before .before .before .before .before .n .given .1)) (c .before .before .before .before .before .before .before .before .before .before .before .before .before .before .before .before .before .if1 .left) (w .left)) (c .before .before .before .before .before .before .before .before .before .before .before .before .before .before .before .if2 .came)) _ (c .before .before .before .before .before .before .before .expr .ensures .1 (expr-here h (c .before .before .before .before .before .before .before .before .before .before .through .ensures (h .spot)) (c .before .before .before .before .before .before .before .before .before .before .before .before .before .put1 .ensures .is) (c .before .before .before .before .before .before .before .before .before .before .before .before .before .before .before .before .before .before .before .before .before .before .before .before .before .before .args .scopes .now) (c .before .before .before .before .before .before .before .before .before .before .before .before .before .before .before .before .before .before .before .before .before .before .before .before .before .before .pre .1))) (c .before .e .given .1)
 
--- src/preds.rt:95:1
 same-length-4 : tie.Need-same-length-4
 same-length-4 c = search needs
 
--- src/preds.rt:95:1
 same-length-5 : tie.Need-same-length-5
 same-length-5 c = search needs
 
--- src/preds.rt:95:1
 returns-6 : tie.Need-returns-6
 returns-6 c h = expr-read h (c .before .before .before .before .before .before .before .before .before .before .before .through .ensures (h .spot)) (⊎-elim (λ w. pred-named h (node-list (c .before .before .before .before .before .before .before .before .before .before .before .before .before .before .before .before .before .before .before .before .before .before .before .before .before .before .before .args .tree .now) (c .before .before .before .before .before .before .before .before .before .before .before .before .before .before .before .before .before .before .before .before .before .before .before .before .before .before .before .args .at) (c .before .before .before .before .before .before .before .before .before .before .before .before .before .before .before .before .before .before .before .before .before .before .node-at .ensures) (c .before .before .before .before .before .before .before .before .before .before .before .before .before .before .before .before .before .before .before .before .n .given .1)) (c .before .before .before .before .before .before .before .before .before .before .before .before .before .before .before .before .before .before .if1 .left) (w .0 .taken) (w .3 .ensures) (w .5 .ensures) (w .6 .left) (w .8 .ensures) (w .9 .left)) (λ w. pred-other h (node-list (c .before .before .before .before .before .before .before .before .before .before .before .before .before .before .before .before .before .before .before .before .before .before .before .before .before .before .before .args .tree .now) (c .before .before .before .before .before .before .before .before .before .before .before .before .before .before .before .before .before .before .before .before .before .before .before .before .before .before .before .args .at) (c .before .before .before .before .before .before .before .before .before .before .before .before .before .before .before .before .before .before .before .before .before .before .node-at .ensures) (c .before .before .before .before .before .before .before .before .before .before .before .before .before .before .before .before .before .before .before .before .n .given .1)) (c .before .before .before .before .before .before .before .before .before .before .before .before .before .before .before .before .before .before .if1 .left) (w .left)) (c .before .before .before .before .before .before .before .before .before .before .before .before .before .before .before .before .if2 .came)) _ (c .before .before .before .before .before .before .before .before .before .before .before .before .before .before .put1 .ensures) (c .before .before .before .before .before .before .before .before .expr .ensures .1 (expr-here h (c .before .before .before .before .before .before .before .before .before .before .before .through .ensures (h .spot)) (c .before .before .before .before .before .before .before .before .before .before .before .before .before .before .put1 .ensures .is) (c .before .before .before .before .before .before .before .before .before .before .before .before .before .before .before .before .before .before .before .before .before .before .before .before .before .before .before .args .scopes .now) (c .before .before .before .before .before .before .before .before .before .before .before .before .before .before .before .before .before .before .before .before .before .before .before .before .before .before .before .pre .1))) (c .before .before .u .given .1) (c .words-at .ensures (h .spot))
 

@@ -5,57 +5,40 @@ use Rattle.parse.proofs.Ended.{ended, whole-in, bind-final, bind-none}
 use borrow.Author.Needs.{needs}
 use Rattle.parse.proofs.bind.attempt.Statement.{statement}
 use Rattle.parse.proofs.bind.attempt.Tie as tie
-use Rattle.parse.proofs.bind.attempt.Reads as reads
-use Rattle.parse.proofs.bind.attempt.Lts as lts
-use Rattle.binds.proofs.bind.bind_at.Reads as bind-at-reads
-use Rattle.parse.proofs.ending.finished.Reads as finished-reads
-use Rattle.parse.proofs.tree.tree_of.Reads as tree-of-reads
 
--- src/bind.rt:19:11
 tree-of-requires : tie.Need-tree-of-requires
 tree-of-requires c κs = search needs
 
--- src/bind.rt:20:25
 enum-known-n : tie.Need-enum-known-n
 enum-known-n c = search needs
 
--- src/bind.rt:21:22
 enum-known-words : tie.Need-enum-known-words
 enum-known-words c = search needs
 
--- src/bind.rt:22:35
 slice-reshare-prefix-bind-at : tie.Need-slice-reshare-prefix-bind-at
 slice-reshare-prefix-bind-at c = there-is (c .before .before .before .before .before .tree-of .ensures) (c .before .words .given .1) .within
 
--- src/bind.rt:22:35
 slice-aggregate-bind-at : tie.Need-slice-aggregate-bind-at
 slice-aggregate-bind-at c = let x = there-is (c .before .before .before .before .before .before .tree-of .ensures) (c .before .before .words .given .1) in rw length-take (omega (arith, x .within))
 
--- src/bind.rt:22:17
 bind-at-requires : tie.Need-bind-at-requires
 bind-at-requires c κs = whole-in (there-is (c .before .before .before .before .before .before .before .tree-of .ensures) (c .before .before .before .words .given .1))
 
--- src/bind.rt:23:13
 finished-requires : tie.Need-finished-requires
 finished-requires c κs = search needs
 
--- src/bind.rt:16:1
 same-length : tie.Need-same-length
 same-length c = search needs
 
--- src/bind.rt:16:1
 returns : tie.Need-returns
 returns c = bind-none _ _ _ _ (there-none _ (c .before .before .before .before .before .tree-of .ensures) (c .before .n .given .1))
 
--- src/bind.rt:16:1
 same-length-2 : tie.Need-same-length-2
 same-length-2 c = search needs
 
--- src/bind.rt:16:1
 same-length-3 : tie.Need-same-length-3
 same-length-3 c = search needs
 
--- src/bind.rt:16:1
 returns-2 : tie.Need-returns-2
 returns-2 c =
     let x = there-is (c .before .before .before .before .before .before .before .before .before .before .before .tree-of .ensures) (c .before .before .before .before .before .before .before .words .given .1) in

@@ -5,61 +5,43 @@ use Rattle.parse.proofs.Ended.{ended, here-in, expr-final, expr-none}
 use borrow.Author.Needs.{needs}
 use Rattle.parse.proofs.expression.attempt.Statement.{statement}
 use Rattle.parse.proofs.expression.attempt.Tie as tie
-use Rattle.parse.proofs.expression.attempt.Reads as reads
-use Rattle.parse.proofs.expression.attempt.Lts as lts
-use Rattle.exprs.proofs.expr.expr.Reads as expr-reads
-use Rattle.parse.proofs.ending.finished.Reads as finished-reads
-use Rattle.parse.proofs.tree.tree_of.Reads as tree-of-reads
 
--- src/expression.rt:20:11
 tree-of-requires : tie.Need-tree-of-requires
 tree-of-requires c κs = search needs
 
--- src/expression.rt:21:25
 enum-known-n : tie.Need-enum-known-n
 enum-known-n c = search needs
 
--- src/expression.rt:22:22
 enum-known-words : tie.Need-enum-known-words
 enum-known-words c = search needs
 
--- src/expression.rt:24:32
 slice-reshare-prefix-expr : tie.Need-slice-reshare-prefix-expr
 slice-reshare-prefix-expr c = there-is (c .before .before .before .before .before .tree-of .ensures) (c .before .words .given .1) .within
 
--- src/expression.rt:24:32
 slice-aggregate-expr : tie.Need-slice-aggregate-expr
 slice-aggregate-expr c = let x = there-is (c .before .before .before .before .before .before .tree-of .ensures) (c .before .before .words .given .1) in rw length-take (omega (arith, x .within))
 
--- src/expression.rt:24:51
 slice-aggregate-expr-2 : tie.Need-slice-aggregate-expr-2
 slice-aggregate-expr-2 c = search needs
 
--- src/expression.rt:24:17
 expr-requires : tie.Need-expr-requires
 expr-requires c κs = here-in (there-is (c .before .before .before .before .before .before .before .before .tree-of .ensures) (c .before .before .before .before .words .given .1)) (omega arith)
 
--- src/expression.rt:25:13
 finished-requires : tie.Need-finished-requires
 finished-requires c κs = search needs
 
--- src/expression.rt:17:1
 same-length : tie.Need-same-length
 same-length c = search needs
 
--- src/expression.rt:17:1
 returns : tie.Need-returns
 returns c = expr-none _ _ _ _ (there-none _ (c .before .before .before .before .before .tree-of .ensures) (c .before .n .given .1))
 
--- src/expression.rt:17:1
 same-length-2 : tie.Need-same-length-2
 same-length-2 c = search needs
 
--- src/expression.rt:17:1
 same-length-3 : tie.Need-same-length-3
 same-length-3 c = search needs
 
--- src/expression.rt:17:1
 returns-2 : tie.Need-returns-2
 returns-2 c =
     let x = there-is (c .before .before .before .before .before .before .before .before .before .before .before .before .before .tree-of .ensures) (c .before .before .before .before .before .before .before .before .before .words .given .1) in

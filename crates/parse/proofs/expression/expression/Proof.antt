@@ -5,28 +5,19 @@ use Rattle.parse.proofs.Ended.{closed}
 use borrow.Author.Needs.{needs}
 use Rattle.parse.proofs.expression.expression.Statement.{statement}
 use Rattle.parse.proofs.expression.expression.Tie as tie
-use Rattle.parse.proofs.expression.expression.Reads as reads
-use Rattle.parse.proofs.expression.expression.Lts as lts
-use Rattle.parse.proofs.ending.close.Reads as close-reads
-use Rattle.parse.proofs.expression.attempt.Reads as attempt-reads
 
--- src/expression.rt:36:9
 attempt-requires : tie.Need-attempt-requires
 attempt-requires c κs = search needs
 
--- src/expression.rt:37:5
 close-requires : tie.Need-close-requires
 close-requires c κs = search needs
 
--- src/expression.rt:31:1
 same-length : tie.Need-same-length
 same-length c = search needs
 
--- src/expression.rt:31:1
 same-length-2 : tie.Need-same-length-2
 same-length-2 c = search needs
 
--- src/expression.rt:31:1
 returns : tie.Need-returns
 returns c =
     let a = c .before .before .before .before .before .before .before .before .before .before .before .attempt .ensures in

@@ -6,61 +6,43 @@ use Rattle.parse.proofs.Drafts.{draft-ended, draft-final, draft-none}
 use borrow.Author.Needs.{needs}
 use Rattle.parse.proofs.solution.attempt.Statement.{statement}
 use Rattle.parse.proofs.solution.attempt.Tie as tie
-use Rattle.parse.proofs.solution.attempt.Reads as reads
-use Rattle.parse.proofs.solution.attempt.Lts as lts
-use Rattle.parse.proofs.solution.judged.Reads as judged-reads
-use Rattle.parse.proofs.tree.tree_of.Reads as tree-of-reads
-use Rattle.solutions.proofs.parts.parts_at.Reads as parts-at-reads
 
--- src/solution.rt:39:11
 tree-of-requires : tie.Need-tree-of-requires
 tree-of-requires c κs = search needs
 
--- src/solution.rt:40:25
 enum-known-n : tie.Need-enum-known-n
 enum-known-n c = search needs
 
--- src/solution.rt:41:22
 enum-known-words : tie.Need-enum-known-words
 enum-known-words c = search needs
 
--- src/solution.rt:42:36
 slice-reshare-prefix-parts-at : tie.Need-slice-reshare-prefix-parts-at
 slice-reshare-prefix-parts-at c = there-is (c .before .before .before .before .before .tree-of .ensures) (c .before .words .given .1) .within
 
--- src/solution.rt:42:36
 slice-aggregate-parts-at : tie.Need-slice-aggregate-parts-at
 slice-aggregate-parts-at c = let x = there-is (c .before .before .before .before .before .before .tree-of .ensures) (c .before .before .words .given .1) in rw length-take (omega (arith, x .within))
 
--- src/solution.rt:42:17
 parts-at-requires : tie.Need-parts-at-requires
 parts-at-requires c κs = whole-in (there-is (c .before .before .before .before .before .before .before .before .tree-of .ensures) (c .before .before .before .before .words .given .1))
 
--- src/solution.rt:43:13
 judged-requires : tie.Need-judged-requires
 judged-requires c κs = search needs
 
--- src/solution.rt:36:1
 same-length : tie.Need-same-length
 same-length c = search needs
 
--- src/solution.rt:36:1
 returns : tie.Need-returns
 returns c = draft-none _ _ _ _ (there-none _ (c .before .before .before .before .before .tree-of .ensures) (c .before .n .given .1))
 
--- src/solution.rt:36:1
 same-length-2 : tie.Need-same-length-2
 same-length-2 c = search needs
 
--- src/solution.rt:36:1
 same-length-3 : tie.Need-same-length-3
 same-length-3 c = search needs
 
--- src/solution.rt:36:1
 same-length-4 : tie.Need-same-length-4
 same-length-4 c = search needs
 
--- src/solution.rt:36:1
 returns-2 : tie.Need-returns-2
 returns-2 c =
     let x = there-is (c .before .before .before .before .before .before .before .before .before .before .before .before .before .before .tree-of .ensures) (c .before .before .before .before .before .before .before .before .before .before .words .given .1) in

@@ -4,32 +4,22 @@ use lib.ListN.{replicate}
 use borrow.Author.Needs.{needs}
 use Rattle.parse.proofs.solution.solution_draft.Statement.{statement}
 use Rattle.parse.proofs.solution.solution_draft.Tie as tie
-use Rattle.parse.proofs.solution.solution_draft.Reads as reads
-use Rattle.parse.proofs.solution.solution_draft.Lts as lts
-use Rattle.parse.proofs.solution.attempt.Reads as attempt-reads
-use Rattle.words.proofs.output.clear.Reads as clear-reads
 
--- src/solution.rt:62:9
 attempt-requires : tie.Need-attempt-requires
 attempt-requires c κs = search needs
 
--- src/solution.rt:63:5
 clear-requires : tie.Need-clear-requires
 clear-requires c κs = search needs
 
--- src/solution.rt:50:1
 same-length : tie.Need-same-length
 same-length c = search needs
 
--- src/solution.rt:50:1
 same-length-2 : tie.Need-same-length-2
 same-length-2 c = search needs
 
--- src/solution.rt:50:1
 same-length-3 : tie.Need-same-length-3
 same-length-3 c = search needs
 
--- src/solution.rt:50:1
 returns : tie.Need-returns
 returns c =
     let a = c .before .before .before .before .before .before .before .before .before .before .attempt .ensures in

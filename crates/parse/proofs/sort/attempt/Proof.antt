@@ -5,84 +5,61 @@ use Rattle.parse.proofs.Answered.{is-tree, without-tree, sort-refused, 
 use borrow.Author.Needs.{needs}
 use Rattle.parse.proofs.sort.attempt.Statement.{statement}
 use Rattle.parse.proofs.sort.attempt.Tie as tie
-use Rattle.parse.proofs.sort.attempt.Reads as reads
-use Rattle.parse.proofs.sort.attempt.Lts as lts
-use Rattle.parse.proofs.tree.tree_of.Reads as tree-of-reads
-use Rattle.sorts.proofs.sorts.sort.Reads as sort-reads
 
--- src/sort.rt:15:11
 tree-of-requires : tie.Need-tree-of-requires
 tree-of-requires c κs = search needs
 
--- src/sort.rt:16:25
 enum-known-n : tie.Need-enum-known-n
 enum-known-n c = search needs
 
--- src/sort.rt:17:22
 enum-known-words : tie.Need-enum-known-words
 enum-known-words c = search needs
 
--- src/sort.rt:17:63
 slice-reshare-prefix-sort : tie.Need-slice-reshare-prefix-sort
 slice-reshare-prefix-sort c = there-is (c .before .before .before .before .before .tree-of .ensures) (c .before .words .given .1) .within
 
--- src/sort.rt:17:63
 slice-aggregate-sort : tie.Need-slice-aggregate-sort
 slice-aggregate-sort c = let x = there-is (c .before .before .before .before .before .before .tree-of .ensures) (c .before .before .words .given .1) in rw length-take (omega (arith, x .within))
 
--- src/sort.rt:17:38
 sort-requires : tie.Need-sort-requires
 sort-requires c κs = is-tree (there-is (c .before .before .before .before .before .before .before .tree-of .ensures) (c .before .before .before .words .given .1))
 
--- src/sort.rt:18:29
 enum-known-n-2 : tie.Need-enum-known-n-2
 enum-known-n-2 c = search needs
 
--- src/sort.rt:19:26
 enum-known-w : tie.Need-enum-known-w
 enum-known-w c = search needs
 
--- src/sort.rt:21:21
 same-length : tie.Need-same-length
 same-length c = search needs
 
--- src/sort.rt:21:21
 same-length-2 : tie.Need-same-length-2
 same-length-2 c = search needs
 
--- src/sort.rt:21:21
 returns : tie.Need-returns
 returns c = let x = there-is (c .before .before .before .before .before .before .before .before .before .before .before .before .before .before .tree-of .ensures) (c .before .before .before .before .before .before .before .before .before .before .words .given .1) in sort-short x (c .before .before .before .before .before .before .sort .ensures (x .it) (x .there)) (c .before .before .w .given .1) (c .before .before .before .before .before .before .sort .kept .1 .1 .0) (c .if1 .taken)
 
--- src/sort.rt:12:1
 same-length-3 : tie.Need-same-length-3
 same-length-3 c = search needs
 
--- src/sort.rt:12:1
 returns-2 : tie.Need-returns-2
 returns-2 c = without-tree (there-none _ (c .before .before .before .before .before .tree-of .ensures) (c .before .n .given .1))
 
--- src/sort.rt:12:1
 same-length-4 : tie.Need-same-length-4
 same-length-4 c = search needs
 
--- src/sort.rt:12:1
 same-length-5 : tie.Need-same-length-5
 same-length-5 c = search needs
 
--- src/sort.rt:12:1
 returns-3 : tie.Need-returns-3
 returns-3 c = let x = there-is (c .before .before .before .before .before .before .before .before .before .before .before .before .before .tree-of .ensures) (c .before .before .before .before .before .before .before .before .before .words .given .1) in sort-refused x (c .before .before .before .before .before .sort .ensures (x .it) (x .there)) (c .before .n2 .given .1)
 
--- src/sort.rt:12:1
 same-length-6 : tie.Need-same-length-6
 same-length-6 c = search needs
 
--- src/sort.rt:12:1
 same-length-7 : tie.Need-same-length-7
 same-length-7 c = search needs
 
--- src/sort.rt:12:1
 returns-4 : tie.Need-returns-4
 returns-4 c = let x = there-is (c .before .before .before .before .before .before .before .before .before .before .before .before .before .before .tree-of .ensures) (c .before .before .before .before .before .before .before .before .before .before .words .given .1) in sort-long x (c .before .before .before .before .before .before .sort .ensures (x .it) (x .there)) (c .before .before .w .given .1) (c .before .before .before .before .before .before .sort .kept .1 .1 .0) (c .if1 .left)
 

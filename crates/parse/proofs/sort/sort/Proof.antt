@@ -5,58 +5,42 @@ use Rattle.parse.proofs.Answered.{kept, cleared}
 use borrow.Author.Needs.{needs}
 use Rattle.parse.proofs.sort.sort.Statement.{statement}
 use Rattle.parse.proofs.sort.sort.Tie as tie
-use Rattle.parse.proofs.sort.sort.Reads as reads
-use Rattle.parse.proofs.sort.sort.Lts as lts
-use Rattle.words.proofs.output.clear.Reads as clear-reads
-use Rattle.parse.proofs.sort.attempt.Reads as attempt-reads
 
--- src/sort.rt:38:11
 attempt-requires : tie.Need-attempt-requires
 attempt-requires c κs = search needs
 
--- src/sort.rt:39:22
 enum-known-w : tie.Need-enum-known-w
 enum-known-w c = search needs
 
--- src/sort.rt:40:13
 clear-requires : tie.Need-clear-requires
 clear-requires c κs = search needs
 
--- src/sort.rt:43:25
 enum-known-n : tie.Need-enum-known-n
 enum-known-n c = search needs
 
--- src/sort.rt:44:13
 clear-requires-2 : tie.Need-clear-requires-2
 clear-requires-2 c κs = search needs
 
--- src/sort.rt:45:13
 clear-requires-3 : tie.Need-clear-requires-3
 clear-requires-3 c κs = search needs
 
--- src/sort.rt:33:1
 same-length : tie.Need-same-length
 same-length c = search needs
 
--- src/sort.rt:33:1
 same-length-2 : tie.Need-same-length-2
 same-length-2 c = search needs
 
--- src/sort.rt:33:1
 returns : tie.Need-returns
 returns c =
     let k = kept (c .before .before .before .before .before .before .before .before .before .before .before .attempt .ensures) (c .before .before .before .before .before .w .given .1) in
     (k .0, (c .before .before .clear .ensures ∙ ap (λ (m : ℕ). replicate m 0) (c .before .before .before .before .before .before .before .before .before .before .before .attempt .kept .1 .0), k .1))
 
--- src/sort.rt:33:1
 same-length-3 : tie.Need-same-length-3
 same-length-3 c = search needs
 
--- src/sort.rt:33:1
 same-length-4 : tie.Need-same-length-4
 same-length-4 c = search needs
 
--- src/sort.rt:33:1
 returns-2 : tie.Need-returns-2
 returns-2 c =
     let k = cleared (c .before .before .before .before .before .before .before .before .before .before .before .before .before .before .before .attempt .ensures) (c .before .before .before .before .before .before .before .before .before .n .given .1) (c .before .before .before .before .before .before .before .before .before .before .before .before .before .before .before .attempt .kept .1 .1 .0) (c .before .before .clear3 .ensures) in

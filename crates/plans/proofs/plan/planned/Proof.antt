@@ -4,191 +4,139 @@ use Rattle.plans.proofs.TreePlans.{three-there, five-there, here-scopes
 use borrow.Author.Needs.{needs}
 use Rattle.plans.proofs.plan.planned.Statement.{statement}
 use Rattle.plans.proofs.plan.planned.Tie as tie
-use Rattle.plans.proofs.plan.planned.Reads as reads
-use Rattle.plans.proofs.plan.planned.Lts as lts
-use Rattle.places.proofs.expr_words.put2.Reads as put2-reads
-use Rattle.places.proofs.expr_words.put_name.Reads as put-name-reads
-use Rattle.places.proofs.expr_words.put_numeral.Reads as put-numeral-reads
-use Rattle.scopes.proofs.variable.variable.Reads as variable-reads
-use Rattle.plans.proofs.lists.list_plan.Reads as list-plan-reads
 
--- src/plan.rt:50:16
 mul-kind : tie.Need-mul-kind
 mul-kind c = omega (arith, two-there (c .before .before .before .before .pre .spot))
 
--- src/plan.rt:50:16
 shared-slice-read-kind : tie.Need-shared-slice-read-kind
 shared-slice-read-kind c = omega (arith, two-there (c .before .before .before .before .before .pre .spot))
 
--- src/plan.rt:52:9
 list-plan-requires : tie.Need-list-plan-requires
 list-plan-requires c κs = here-list _ _ _ _ _ _ _ (c .before .before .before .before .before .before .before .pre) (c .before .if1 .taken)
 
--- src/plan.rt:52:9
 same-length : tie.Need-same-length
 same-length c = search needs
 
--- src/plan.rt:52:9
 returns : tie.Need-returns
 returns c h = planned-list _ _ _ _ _ _ _ h _ _ _ (c .before .before .list-plan .result) (c .before .before .before .before .if1 .taken) (c .before .before .list-plan .ensures)
 
--- src/plan.rt:55:33
 add-t20 : tie.Need-add-t20
 add-t20 c = omega (arith, three-there (c .before .before .before .before .before .before .before .pre .spot) (λ e. omega (arith, c .if2 .taken)))
 
--- src/plan.rt:55:28
 mul-t21 : tie.Need-mul-t21
 mul-t21 c = omega (arith, three-there (c .before .before .before .before .before .before .before .pre .spot) (λ e. omega (arith, c .if2 .taken)))
 
--- src/plan.rt:55:28
 shared-slice-read-t23 : tie.Need-shared-slice-read-t23
 shared-slice-read-t23 c = omega (arith, three-there (c .before .before .before .before .before .before .before .before .pre .spot) (λ e. omega (arith, c .before .if2 .taken)))
 
--- src/plan.rt:55:47
 add-t24 : tie.Need-add-t24
 add-t24 c = omega (arith, three-there (c .before .before .before .before .before .before .before .before .pre .spot) (λ e. omega (arith, c .before .if2 .taken)))
 
--- src/plan.rt:55:42
 mul-t25 : tie.Need-mul-t25
 mul-t25 c = omega (arith, three-there (c .before .before .before .before .before .before .before .before .pre .spot) (λ e. omega (arith, c .before .if2 .taken)))
 
--- src/plan.rt:55:42
 shared-slice-read-t27 : tie.Need-shared-slice-read-t27
 shared-slice-read-t27 c = omega (arith, three-there (c .before .before .before .before .before .before .before .before .before .pre .spot) (λ e. omega (arith, c .before .before .if2 .taken)))
 
--- src/plan.rt:56:27
 variable-requires : tie.Need-variable-requires
 variable-requires c κs = (here-scopes _ _ _ _ _ _ _ (c .before .before .before .before .before .before .before .before .before .before .pre), omega (arith, c .before .before .before .before .before .before .before .before .before .before .pre .room))
 
--- src/plan.rt:56:9
 same-length-2 : tie.Need-same-length-2
 same-length-2 c = search needs
 
--- src/plan.rt:56:9
 returns-2 : tie.Need-returns-2
 returns-2 c h = let v = c .before .before .variable .ensures (here-scopes _ _ _ _ _ _ _ h) in planned-symbol _ _ _ _ _ _ _ h _ _ _ _ (c .before .before .before .before .before .before .if2 .taken) (v .0) (v .1)
 
--- src/plan.rt:60:21
 add-t30 : tie.Need-add-t30
 add-t30 c = omega (arith, five-there (c .before .before .before .before .before .before .before .before .pre .spot) (c .if3 .taken))
 
--- src/plan.rt:60:16
 mul-t31 : tie.Need-mul-t31
 mul-t31 c = omega (arith, five-there (c .before .before .before .before .before .before .before .before .pre .spot) (c .if3 .taken))
 
--- src/plan.rt:60:16
 shared-slice-read-t33 : tie.Need-shared-slice-read-t33
 shared-slice-read-t33 c = omega (arith, five-there (c .before .before .before .before .before .before .before .before .before .pre .spot) (c .before .if3 .taken))
 
--- src/plan.rt:61:21
 add-t34 : tie.Need-add-t34
 add-t34 c = omega (arith, five-there (c .before .before .before .before .before .before .before .before .before .pre .spot) (c .before .if3 .taken))
 
--- src/plan.rt:61:16
 mul-t35 : tie.Need-mul-t35
 mul-t35 c = omega (arith, five-there (c .before .before .before .before .before .before .before .before .before .pre .spot) (c .before .if3 .taken))
 
--- src/plan.rt:61:16
 shared-slice-read-t37 : tie.Need-shared-slice-read-t37
 shared-slice-read-t37 c = omega (arith, five-there (c .before .before .before .before .before .before .before .before .before .before .pre .spot) (c .before .before .if3 .taken))
 
--- src/plan.rt:62:21
 add-t38 : tie.Need-add-t38
 add-t38 c = omega (arith, five-there (c .before .before .before .before .before .before .before .before .before .before .pre .spot) (c .before .before .if3 .taken))
 
--- src/plan.rt:62:16
 mul-t39 : tie.Need-mul-t39
 mul-t39 c = omega (arith, five-there (c .before .before .before .before .before .before .before .before .before .before .pre .spot) (c .before .before .if3 .taken))
 
--- src/plan.rt:62:16
 shared-slice-read-t41 : tie.Need-shared-slice-read-t41
 shared-slice-read-t41 c = omega (arith, five-there (c .before .before .before .before .before .before .before .before .before .before .before .pre .spot) (c .before .before .before .if3 .taken))
 
--- src/plan.rt:63:21
 add-t42 : tie.Need-add-t42
 add-t42 c = omega (arith, five-there (c .before .before .before .before .before .before .before .before .before .before .before .pre .spot) (c .before .before .before .if3 .taken))
 
--- src/plan.rt:63:16
 mul-t43 : tie.Need-mul-t43
 mul-t43 c = omega (arith, five-there (c .before .before .before .before .before .before .before .before .before .before .before .pre .spot) (c .before .before .before .if3 .taken))
 
--- src/plan.rt:63:16
 shared-slice-read-t45 : tie.Need-shared-slice-read-t45
 shared-slice-read-t45 c = omega (arith, five-there (c .before .before .before .before .before .before .before .before .before .before .before .before .pre .spot) (c .before .before .before .before .if3 .taken))
 
--- src/plan.rt:65:27
 put-numeral-requires : tie.Need-put-numeral-requires
 put-numeral-requires c κs = search needs
 
--- src/plan.rt:65:9
 same-length-3 : tie.Need-same-length-3
 same-length-3 c = search needs
 
--- src/plan.rt:65:9
 returns-3 : tie.Need-returns-3
 returns-3 c h = let v = c .before .before .put-numeral .ensures (c .before .before .before .before .before .before .before .before .before .before .before .before .before .before .before .before .args .count) in planned-integer _ _ _ _ _ _ _ h _ _ _ _ (c .before .before .before .before .before .before .before .before .if3 .taken) (v .0) (v .1)
 
--- src/plan.rt:68:54
 add-put2 : tie.Need-add-put2
 add-put2 c = omega (arith, two-there (c .before .before .before .before .before .before .before .before .before .before .pre .spot))
 
--- src/plan.rt:68:49
 mul-put2 : tie.Need-mul-put2
 mul-put2 c = omega (arith, two-there (c .before .before .before .before .before .before .before .before .before .before .pre .spot))
 
--- src/plan.rt:68:49
 shared-slice-read-put2 : tie.Need-shared-slice-read-put2
 shared-slice-read-put2 c = omega (arith, two-there (c .before .before .before .before .before .before .before .before .before .before .before .pre .spot))
 
--- src/plan.rt:68:27
 put2-requires : tie.Need-put2-requires
 put2-requires c κs = search needs
 
--- src/plan.rt:68:9
 same-length-4 : tie.Need-same-length-4
 same-length-4 c = search needs
 
--- src/plan.rt:68:9
 returns-4 : tie.Need-returns-4
 returns-4 c h = planned-boolean _ _ _ _ _ _ _ h _ _ _ _ (c .before .before .before .before .before .if4 .taken) (c .before .before .put2 .ensures)
 
--- src/plan.rt:71:33
 add-t55 : tie.Need-add-t55
 add-t55 c = omega (arith, three-there (c .before .before .before .before .before .before .before .before .before .before .pre .spot) (λ e. omega (arith, c .if5 .taken)))
 
--- src/plan.rt:71:28
 mul-t56 : tie.Need-mul-t56
 mul-t56 c = omega (arith, three-there (c .before .before .before .before .before .before .before .before .before .before .pre .spot) (λ e. omega (arith, c .if5 .taken)))
 
--- src/plan.rt:71:28
 shared-slice-read-t58 : tie.Need-shared-slice-read-t58
 shared-slice-read-t58 c = omega (arith, three-there (c .before .before .before .before .before .before .before .before .before .before .before .pre .spot) (λ e. omega (arith, c .before .if5 .taken)))
 
--- src/plan.rt:71:47
 add-t59 : tie.Need-add-t59
 add-t59 c = omega (arith, three-there (c .before .before .before .before .before .before .before .before .before .before .before .pre .spot) (λ e. omega (arith, c .before .if5 .taken)))
 
--- src/plan.rt:71:42
 mul-t60 : tie.Need-mul-t60
 mul-t60 c = omega (arith, three-there (c .before .before .before .before .before .before .before .before .before .before .before .pre .spot) (λ e. omega (arith, c .before .if5 .taken)))
 
--- src/plan.rt:71:42
 shared-slice-read-t62 : tie.Need-shared-slice-read-t62
 shared-slice-read-t62 c = omega (arith, three-there (c .before .before .before .before .before .before .before .before .before .before .before .before .pre .spot) (λ e. omega (arith, c .before .before .if5 .taken)))
 
--- src/plan.rt:72:27
 put-name-requires : tie.Need-put-name-requires
 put-name-requires c κs = search needs
 
--- src/plan.rt:72:9
 same-length-5 : tie.Need-same-length-5
 same-length-5 c = search needs
 
--- src/plan.rt:72:9
 returns-5 : tie.Need-returns-5
 returns-5 c h = planned-quoted _ _ _ _ _ _ _ h _ _ _ _ (c .before .before .before .before .before .before .if5 .taken) (c .before .before .put-name .ensures)
 
--- src/plan.rt:36:1
 returns-6 : tie.Need-returns-6
 returns-6 c h = planned-decimal _ _ _ _ _ _ _ h _ _ _ (c .before .before .before .before .if1 .left) (c .before .before .before .if2 .left) (c .before .before .if3 .left) (c .before .if4 .left) (c .if5 .left)
 

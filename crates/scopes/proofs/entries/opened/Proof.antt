@@ -8,72 +8,53 @@ use Rattle.scopes.specs.Scopes.{pushed, deeper}
 use borrow.Author.Needs.{needs}
 use Rattle.scopes.proofs.entries.opened.Statement.{statement}
 use Rattle.scopes.proofs.entries.opened.Tie as tie
-use Rattle.scopes.proofs.entries.opened.Reads as reads
-use Rattle.scopes.proofs.entries.opened.Lts as lts
-use Rattle.words.proofs.number.length_to_long.Reads as length-to-long-reads
 
--- src/scopes.rt:20:9
 returns : tie.Need-returns
 unfolding pushed deeper pick
 returns c = (rw (eq-eqb _ 0 (c .if1 .taken)) refl, rw (eq-eqb _ 0 (c .if1 .taken)) refl)
 
--- src/scopes.rt:22:25
 length-to-long-requires : tie.Need-length-to-long-requires
 length-to-long-requires c κs = search needs
 
--- src/scopes.rt:22:12
 mul-scopes : tie.Need-mul-scopes
 mul-scopes c = search needs
 
--- src/scopes.rt:22:5
 mul-scopes-2 : tie.Need-mul-scopes-2
 mul-scopes-2 c = search needs
 
--- src/scopes.rt:22:5
 slice-write-scopes : tie.Need-slice-write-scopes
 slice-write-scopes c = search needs
 
--- src/scopes.rt:23:12
 mul-scopes-3 : tie.Need-mul-scopes-3
 mul-scopes-3 c = search needs
 
--- src/scopes.rt:23:12
 add-scopes : tie.Need-add-scopes
 add-scopes c = search needs
 
--- src/scopes.rt:23:5
 mul-scopes-4 : tie.Need-mul-scopes-4
 mul-scopes-4 c = search needs
 
--- src/scopes.rt:23:5
 slice-write-scopes-2 : tie.Need-slice-write-scopes-2
 slice-write-scopes-2 c = omega (arith, c .before .before .before .pre, length-set (c .before .before .before .args .scopes .now) (3 * c .before .before .before .args .depth) (c .length-to-long .result))
 
--- src/scopes.rt:24:12
 mul-scopes-5 : tie.Need-mul-scopes-5
 mul-scopes-5 c = search needs
 
--- src/scopes.rt:24:12
 add-scopes-2 : tie.Need-add-scopes-2
 add-scopes-2 c = search needs
 
--- src/scopes.rt:24:5
 mul-scopes-6 : tie.Need-mul-scopes-6
 mul-scopes-6 c = search needs
 
--- src/scopes.rt:24:5
 slice-write-scopes-3 : tie.Need-slice-write-scopes-3
 slice-write-scopes-3 c = omega (arith, c .before .before .before .pre, length-set (c .before .before .before .args .scopes .now) (3 * c .before .before .before .args .depth) (c .length-to-long .result), length-set (set (c .before .before .before .args .scopes .now) (3 * c .before .before .before .args .depth) (c .length-to-long .result)) (3 * c .before .before .before .args .depth + 1) (c .before .before .before .args .n))
 
--- src/scopes.rt:25:5
 add-result : tie.Need-add-result
 add-result c = search needs
 
--- src/scopes.rt:15:1
 same-length : tie.Need-same-length
 same-length c = search needs
 
--- src/scopes.rt:15:1
 returns-2 : tie.Need-returns-2
 unfolding pushed deeper pick
 returns-2 c = (rw (ne-eqb _ 0 (c .before .if1 .left), c .length-to-long .ensures) refl, rw (ne-eqb _ 0 (c .before .if1 .left)) refl)

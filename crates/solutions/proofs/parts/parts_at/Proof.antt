@@ -8,47 +8,30 @@ use Rattle.solutions.proofs.SolutionParts.{root, whole-other, whole-cou
 use borrow.Author.Needs.{needs}
 use Rattle.solutions.proofs.parts.parts_at.Statement.{statement}
 use Rattle.solutions.proofs.parts.parts_at.Tie as tie
-use Rattle.solutions.proofs.parts.parts_at.Reads as reads
-use Rattle.solutions.proofs.parts.parts_at.Lts as lts
-use Rattle.places.proofs.expr_words.put1.Reads as put1-reads
-use Rattle.places.proofs.place.node_at.Reads as node-at-reads
-use Rattle.places.proofs.place.words_at.Reads as words-at-reads
-use Rattle.plans.proofs.binders.binder_words.Reads as binder-words-reads
-use Rattle.solutions.proofs.parts.all_pairs.Reads as all-pairs-reads
-use Rattle.solutions.proofs.parts.body_at.Reads as body-at-reads
-use Rattle.words.proofs.number.word_to_length.Reads as word-to-length-reads
 
--- src/draft.rt:86:32
 node-at-requires : tie.Need-node-at-requires
 node-at-requires c κs = root (c .before .before .before .before .pre)
 
--- src/draft.rt:86:20
 enum-known-n : tie.Need-enum-known-n
 enum-known-n c = search needs
 
--- src/draft.rt:87:9
 enum-told : tie.Need-enum-told
 enum-told c = search needs
 
--- src/draft.rt:87:9
 returns : tie.Need-returns
 returns c h = whole-other h _ (node-other (c .before .before .before .before .before .before .before .args .tree .now) 0 (c .before .before .node-at .ensures) (c .enum-told .given .1))
 
--- src/draft.rt:90:9
 returns-2 : tie.Need-returns-2
 returns-2 c h = whole-count h (node-list (c .before .before .before .before .before .before .before .before .before .args .tree .now) 0 (c .before .before .before .before .node-at .ensures) (c .before .before .n .given .1)) _ (c .if1 .taken)
 
--- src/draft.rt:92:26
 words-at-requires : tie.Need-words-at-requires
 words-at-requires c κs = head-spot (c .before .before .before .before .before .before .before .before .before .pre) (node-list (c .before .before .before .before .before .before .before .before .before .args .tree .now) 0 (c .before .before .before .before .node-at .ensures) (c .before .before .n .given .1)) (c .if1 .left)
 
--- src/draft.rt:92:18
 add-params : tie.Need-add-params
 add-params c =
     let p = head-spot (c .before .before .before .before .before .before .before .before .before .before .pre) (node-list (c .before .before .before .before .before .before .before .before .before .before .args .tree .now) 0 (c .before .before .before .before .before .node-at .ensures) (c .before .before .before .n .given .1)) (c .before .if1 .left) in
     omega (arith, spot-within p, c .words-at .ensures p, c .before .before .before .before .before .before .before .before .before .before .good)
 
--- src/draft.rt:93:32
 node-at-requires-2 : tie.Need-node-at-requires-2
 node-at-requires-2 c κs =
     let l = node-list (c .before .before .before .before .before .before .before .before .before .before .args .tree .now) 0 (c .before .before .before .before .before .node-at .ensures) (c .before .before .before .n .given .1) in
@@ -56,15 +39,12 @@ node-at-requires-2 c κs =
     let js = c .words-at .ensures (head-spot (c .before .before .before .before .before .before .before .before .before .before .pre) l three) in
     params-spot (c .before .before .before .before .before .before .before .before .before .before .pre) l three js
 
--- src/draft.rt:93:20
 enum-known-k : tie.Need-enum-known-k
 enum-known-k c = search needs
 
--- src/draft.rt:94:9
 enum-told-2 : tie.Need-enum-told-2
 enum-told-2 c = search needs
 
--- src/draft.rt:94:9
 returns-3 : tie.Need-returns-3
 returns-3 c h =
     let l = node-list (c .before .before .before .before .before .before .before .before .before .before .before .before .before .args .tree .now) 0 (c .before .before .before .before .before .before .before .before .node-at .ensures) (c .before .before .before .before .before .before .n .given .1) in
@@ -72,11 +52,9 @@ returns-3 c h =
     let js = c .before .before .before .words-at .ensures (head-spot h l three) in
     params-other h l three js _ (node-other (c .before .before .before .before .before .before .before .before .before .before .before .before .before .args .tree .now) (c .before .before .before .before .before .before .n .given .0 .1 .0 + c .before .before .before .words-at .result) (c .before .before .node-at2 .ensures) (c .enum-told2 .given .1))
 
--- src/draft.rt:96:9
 word-to-length-requires : tie.Need-word-to-length-requires
 word-to-length-requires c κs = search needs
 
--- src/draft.rt:97:9
 all-pairs-requires : tie.Need-all-pairs-requires
 all-pairs-requires c κs =
     let l = node-list (c .before .before .before .before .before .before .before .before .before .before .before .before .before .before .before .args .tree .now) 0 (c .before .before .before .before .before .before .before .before .before .before .node-at .ensures) (c .before .before .before .before .before .before .before .before .n .given .1) in
@@ -86,7 +64,6 @@ all-pairs-requires c κs =
     let ms = c .word-to-length .ensures .0 in
     pairs-row (c .before .before .before .before .before .before .before .before .before .before .before .before .before .before .before .pre) l three js v ms 0 (omega arith)
 
--- src/draft.rt:98:9
 returns-4 : tie.Need-returns-4
 returns-4 c h =
     let l = node-list (c .before .before .before .before .before .before .before .before .before .before .before .before .before .before .before .before .before .args .tree .now) 0 (c .before .before .before .before .before .before .before .before .before .before .before .before .node-at .ensures) (c .before .before .before .before .before .before .before .before .before .before .n .given .1) in
@@ -97,11 +74,9 @@ returns-4 c h =
     let is = c .before .all-pairs .ensures (pairs-row h l three js v ms 0 (omega arith)) in
     pairs-bad h l three js v ms is _ (not-true _ (c .if2 .taken))
 
--- src/draft.rt:100:9
 put1-requires : tie.Need-put1-requires
 put1-requires c κs = search needs
 
--- src/draft.rt:101:11
 binder-words-requires : tie.Need-binder-words-requires
 binder-words-requires c κs =
     let l = node-list (c .before .before .before .before .before .before .before .before .before .before .before .before .before .before .before .before .before .before .before .before .before .before .args .tree .now) 0 (c .before .before .before .before .before .before .before .before .before .before .before .before .before .before .before .before .before .node-at .ensures) (c .before .before .before .before .before .before .before .before .before .before .before .before .before .before .before .n .given .1) in
@@ -111,15 +86,12 @@ binder-words-requires c κs =
     let ms = c .before .before .before .before .before .before .before .word-to-length .ensures .0 in
     pairs-row (c .before .before .before .before .before .before .before .before .before .before .before .before .before .before .before .before .before .before .before .before .before .before .pre) l three js v ms (c .before .before .before .put1 .result) (omega (arith, c .before .before .before .put1 .ensures .is))
 
--- src/draft.rt:102:25
 enum-known-e : tie.Need-enum-known-e
 enum-known-e c = search needs
 
--- src/draft.rt:103:22
 enum-known-u : tie.Need-enum-known-u
 enum-known-u c = search needs
 
--- src/draft.rt:104:33
 words-at-requires-2 : tie.Need-words-at-requires-2
 words-at-requires-2 c κs =
     let l = node-list (c .before .before .before .before .before .before .before .before .before .before .before .before .before .before .before .before .before .before .before .before .before .before .before .before .before .before .before .before .args .tree .now) 0 (c .before .before .before .before .before .before .before .before .before .before .before .before .before .before .before .before .before .before .before .before .before .before .before .node-at .ensures) (c .before .before .before .before .before .before .before .before .before .before .before .before .before .before .before .before .before .before .before .before .before .n .given .1) in
@@ -127,7 +99,6 @@ words-at-requires-2 c κs =
     let js = c .before .before .before .before .before .before .before .before .before .before .before .before .before .before .before .before .before .before .words-at .ensures (head-spot (c .before .before .before .before .before .before .before .before .before .before .before .before .before .before .before .before .before .before .before .before .before .before .before .before .before .before .before .before .pre) l three) in
     params-spot (c .before .before .before .before .before .before .before .before .before .before .before .before .before .before .before .before .before .before .before .before .before .before .before .before .before .before .before .before .pre) l three js
 
--- src/draft.rt:104:24
 add-body : tie.Need-add-body
 add-body c =
     let l = node-list (c .before .before .before .before .before .before .before .before .before .before .before .before .before .before .before .before .before .before .before .before .before .before .before .before .before .before .before .before .before .args .tree .now) 0 (c .before .before .before .before .before .before .before .before .before .before .before .before .before .before .before .before .before .before .before .before .before .before .before .before .node-at .ensures) (c .before .before .before .before .before .before .before .before .before .before .before .before .before .before .before .before .before .before .before .before .before .before .n .given .1) in
@@ -136,7 +107,6 @@ add-body c =
     let p = params-spot (c .before .before .before .before .before .before .before .before .before .before .before .before .before .before .before .before .before .before .before .before .before .before .before .before .before .before .before .before .before .pre) l three js in
     omega (arith, spot-within p, c .words-at2 .ensures p, c .before .before .before .before .before .before .before .before .before .before .before .before .before .before .before .before .before .before .before .before .before .before .before .before .before .before .before .before .before .good)
 
--- src/draft.rt:105:13
 body-at-requires : tie.Need-body-at-requires
 body-at-requires c κs =
     let l = node-list (c .before .before .before .before .before .before .before .before .before .before .before .before .before .before .before .before .before .before .before .before .before .before .before .before .before .before .before .before .before .before .args .tree .now) 0 (c .before .before .before .before .before .before .before .before .before .before .before .before .before .before .before .before .before .before .before .before .before .before .before .before .before .node-at .ensures) (c .before .before .before .before .before .before .before .before .before .before .before .before .before .before .before .before .before .before .before .before .before .before .before .n .given .1) in
@@ -150,11 +120,9 @@ body-at-requires c κs =
     let read = c .before .before .before .before .before .before .before .binder-words .ensures row (c .before .before .before .before .before .before .before .before .before .before .before .before .before .before .before .before .before .before .before .before .before .before .before .before .before .before .before .before .before .before .args .count) 0 (omega (arith, c .before .before .before .before .before .before .before .before .before .before .before .before .before .before .before .before .before .before .before .before .before .before .before .before .before .before .before .before .before .before .good)) in
     parts-body (c .before .before .before .before .before .before .before .before .before .before .before .before .before .before .before .before .before .before .before .before .before .before .before .before .before .before .before .before .before .before .pre) l three js v ms is yes _ (c .before .before .before .before .before .before .before .before .before .before .before .put1 .ensures) (got-at read (c .before .before .before .u .given .1)) (c .before .words-at2 .ensures (params-spot (c .before .before .before .before .before .before .before .before .before .before .before .before .before .before .before .before .before .before .before .before .before .before .before .before .before .before .before .before .before .before .pre) l three js))
 
--- src/draft.rt:82:1
 same-length : tie.Need-same-length
 same-length c = search needs
 
--- src/draft.rt:82:1
 returns-5 : tie.Need-returns-5
 returns-5 c h =
     let l = node-list (c .before .before .before .before .before .before .before .before .before .before .before .before .before .before .before .before .before .before .before .before .before .before .before .before .before .before .before .before .args .tree .now) 0 (c .before .before .before .before .before .before .before .before .before .before .before .before .before .before .before .before .before .before .before .before .before .before .before .node-at .ensures) (c .before .before .before .before .before .before .before .before .before .before .before .before .before .before .before .before .before .before .before .before .before .n .given .1) in
@@ -168,15 +136,12 @@ returns-5 c h =
     let read = c .before .before .before .before .before .binder-words .ensures row (c .before .before .before .before .before .before .before .before .before .before .before .before .before .before .before .before .before .before .before .before .before .before .before .before .before .before .before .before .args .count) 0 (omega (arith, c .before .before .before .before .before .before .before .before .before .before .before .before .before .before .before .before .before .before .before .before .before .before .before .before .before .before .before .before .good)) in
     sorts-bad h l three js v ms is yes _ (bad-at read (c .before .e .given .1))
 
--- src/draft.rt:82:1
 same-length-2 : tie.Need-same-length-2
 same-length-2 c = search needs
 
--- src/draft.rt:82:1
 same-length-3 : tie.Need-same-length-3
 same-length-3 c = search needs
 
--- src/draft.rt:82:1
 returns-6 : tie.Need-returns-6
 returns-6 c h =
     let l = node-list (c .before .before .before .before .before .before .before .before .before .before .before .before .before .before .before .before .before .before .before .before .before .before .before .before .before .before .before .before .before .before .before .before .before .args .tree .now) 0 (c .before .before .before .before .before .before .before .before .before .before .before .before .before .before .before .before .before .before .before .before .before .before .before .before .before .before .before .before .node-at .ensures) (c .before .before .before .before .before .before .before .before .before .before .before .before .before .before .before .before .before .before .before .before .before .before .before .before .before .before .n .given .1) in
