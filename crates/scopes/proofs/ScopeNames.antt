@@ -14,9 +14,9 @@ use Rattle.reading.specs.Bytes.{Span, nothing, just}
 use Rattle.reading.specs.Tree.{Tree, Trees, atomWords, symbol, atom, list, tnil, tcons, trees, treeWords, treesWords}
 use Rattle.grammar.specs.Scope.{Scope, sameName, numberAmong, numberIn, isAmong, repeated}
 use Rattle.places.specs.Spot.{Spot}
-use Rattle.scopes.specs.Scopes.{Named, none, more, NameList, Pairs, IsScope, Opened, OpenScopes, placeAmong, Meant}
+use Rattle.scopes.specs.Scopes.{Named, none, more, Pairs, IsScope, Opened, OpenScopes, placeAmong, Meant}
 use Rattle.scopes.specs.declared.entries.Found.the-variants.{At, Nothing}
-use Rattle.places.proofs.Spots.{word, word0, spot-within, list-there, list-size}
+use Rattle.places.proofs.Spots.{word, word0, spot-within, list-size}
 
 -- The span of the name of a pair.
 abbrev pub spanAt : List ℕ → ℕ → Span
@@ -58,25 +58,6 @@ pub named-trees : (pairs : Trees) (names : List Span) → Named pairs names → 
 unfolding trees
 named-trees tnil [] none = refl
 named-trees (tcons t ts) (s ∷ ss) (more x) = ap suc (named-trees ts ss x)
-
-module _ {ws : List ℕ} {k : ℕ} {names : List Span} (x : NameList ws k names) where
-  list-spot : Spot ws k
-  list-spot = record { tree = list (x .pairs); rest = x .rest; words = x .words }
-
-  pub list-in : k + 3 ≤ length ws
-  unfolding treeWords list-spot
-  list-in = list-there list-spot (word0 list-spot)
-
-  pub list-words : drop (k + 3) ws ≡ treesWords (x .pairs) ++ x .rest
-  unfolding treeWords
-  list-words = sym (drop-drop 3 k ws) ∙ ap (drop 3) (x .words)
-
-  pub list-trees : getD ws (k + 1) 0 ≡ length names
-  unfolding treeWords list-spot
-  list-trees = word list-spot 1 ∙ named-trees (x .pairs) names (x .named)
-
-  abbrev pub list-pairs : (n : ℕ) → n ≡ getD ws (k + 1) 0 → Pairs ws (k + 3) n
-  list-pairs n e = record { names = names; pairs = x .pairs; rest = x .rest; words = list-words; named = x .named; many = e ∙ list-trees }
 
 -- ---- a search among names
 

@@ -7,7 +7,7 @@ use lib.ListN.{length, drop, set, getD}
 use Rattle.reading.specs.Limits.{maxLists}
 use Rattle.reading.specs.Pick.{pick}
 use Rattle.reading.specs.Bytes.{Span, Maybe, nothing, just}
-use Rattle.reading.specs.Tree.{Tree, Trees, symbol, atom, list, tnil, tcons, treeWords, treesWords}
+use Rattle.reading.specs.Tree.{Tree, Trees, symbol, atom, list, tnil, tcons, treesWords}
 use Rattle.grammar.specs.Scope.{Scope, sameName}
 use Rattle.scopes.specs.declared.entries.Found.{Found}
 use Rattle.scopes.specs.declared.entries.Found.the-variants.{At, Nothing}
@@ -16,13 +16,6 @@ use Rattle.scopes.specs.declared.entries.Found.the-variants.{At, Nothing
 pub data Named : Trees → List Span → Type 0 where
   none : Named tnil []
   more : {s : Span} {u : Tree} {ts : Trees} {ss : List Span} → Named ts ss → Named (tcons (list (tcons (atom (symbol s)) (tcons u tnil))) ts) (s ∷ ss)
-
--- The names of a scope, at a place of the tree: a list of such pairs.
-pub record NameList (ws : List ℕ) (at : ℕ) (names : List Span) : Type 0 where
-  pub pairs : Trees
-  pub rest : List ℕ
-  pub words : drop at ws ≡ treeWords (list pairs) ++ rest
-  pub named : Named pairs names
 
 -- So many pairs of a name and a sort, from a place on.
 pub record Pairs (ws : List ℕ) (at n : ℕ) : Type 0 where
@@ -58,6 +51,7 @@ pub record Kept (es es′ : List ℕ) (d : ℕ) : Type 0 where
 unfoldable pub pushed : List ℕ → ℕ → ℕ → ℕ → ℕ → List ℕ
 pushed es d at n k = pick (eqb at 0) es (set (set (set es (3 * d) at) (3 * d + 1) n) (3 * d + 2) k)
 
+-- The depth inside: one more, unless the place is 0.
 unfoldable pub deeper : ℕ → ℕ → ℕ
 deeper d at = pick (eqb at 0) d (d + 1)
 
