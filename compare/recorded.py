@@ -1,7 +1,7 @@
 #!/usr/bin/env python3
 """Orders recorded answers for the program `replay`: compare/recorded.py ANSWERS > crates/replay/stdin
 
-A case is a line, `OP START TREE DRAFT OUT INPUT = REFUSAL A B COUNT WORDS`, and none is changed, dropped or doubled. They are put in
+A case is a line, `OP START TREE DRAFT OUT INPUT = REFUSAL A B COUNT WORDS`, and none is changed, dropped or doubled; a line that begins with `#` is a note, and left out. They are put in
 an order in which as many as can be start at the count that the line before leaves, so that they are calls on one reader. Flattening
 (F) takes no reader and stands anywhere between them.
 """
@@ -60,7 +60,7 @@ def sessions(steps):
 
 
 def main():
-    lines = open(sys.argv[1]).read().splitlines()
+    lines = [line for line in open(sys.argv[1]).read().splitlines() if not line.startswith("#")]
     shuffle = random.Random(1).shuffle
     shuffle(lines)
     steps = [(int(f[1]), int(f[10]), line) for line in lines for f in [line.split(" ")] if f[0] != "F"]

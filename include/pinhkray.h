@@ -24,7 +24,7 @@ extern "C" {
 
 /* The version of this header. It rises by 1 with every landing that changes what is declared here or what a function
  * answers. Compare it with pinhkray_version(): an archive of another version belongs to another header. */
-#define PINHKRAY_VERSION 2
+#define PINHKRAY_VERSION 3
 
 /* The limits: bytes of a text, lists of a text inside one another, expressions in words inside one another. */
 #define PINHKRAY_MAX_BYTES 32768
@@ -52,12 +52,13 @@ enum pinhkray_refusal {
     PINHKRAY_MALFORMED = 8,      /* the text does not have the form that was asked for */
     PINHKRAY_DECIMAL = 9,        /* a decimal stands as an expression */
     PINHKRAY_REPEATED_NAME = 10, /* an exists or a solution binds a name twice */
-    PINHKRAY_BAD_BITS = 11,      /* the bits of a lit are missing, not binary, or 2^128 and more */
+    PINHKRAY_BAD_BITS = 11,      /* the digits of a lit are missing, not binary, or 2^128 and more */
     PINHKRAY_FUNC_NUMBER = 12,   /* the number of a func is outside 0 to 64 */
     PINHKRAY_NUMBERS_SPENT = 13, /* the count would exceed 2^64 - 1 */
     PINHKRAY_BAD_WORDS = 14,     /* the words are not those of one expression or solution, or a span is outside the text */
     PINHKRAY_UNWRITABLE = 15,    /* a part of the solution cannot be written in SMT-LIB */
-    PINHKRAY_UNPRINTABLE = 16    /* a name or string has |, ", a backslash or a byte outside 32 to 126 */
+    PINHKRAY_UNPRINTABLE = 16,   /* a name or string has |, ", a backslash or a byte outside 32 to 126 */
+    PINHKRAY_WRONG_WIDTH = 17    /* a lit has more or fewer digits than its size says */
 };
 
 /* The words of an answer. A node is its kind, its fields, and the nodes inside it, in the order that is given below. A

@@ -85,6 +85,10 @@ static void refusals(void) {
     CHECK(solution(lists, 0) == PINHKRAY_TOO_DEEP);
     CHECK(solution("(lambda () nan)", 0) == PINHKRAY_DECIMAL);
     CHECK(solution("(lambda () (lit \"#b\" (BitVec Size3)))", 0) == PINHKRAY_BAD_BITS);
+    CHECK(solution("(lambda () (lit \"#b+1\" (BitVec Size2)))", 0) == PINHKRAY_BAD_BITS);
+    CHECK(solution("(lambda () (lit \"#b1\" (BitVec Size)))", 0) == PINHKRAY_MALFORMED);
+    CHECK(solution("(lambda () (lit \"#b101\" (BitVec Size2)))", 0) == PINHKRAY_WRONG_WIDTH);
+    CHECK(solution("(lambda () (lit \"#b101\" (BitVec Size4)))", 0) == PINHKRAY_WRONG_WIDTH);
     CHECK(solution("(lambda ((x (func 65 () Int))) x)", 0) == PINHKRAY_FUNC_NUMBER);
 }
 
@@ -108,6 +112,8 @@ static void parts(void) {
     const uint32_t sort[] = {9, 0, 8, 1, 2};
     const uint32_t expression[] = {51, 1, 7, 0, 1, 36, 7, 0};
     const uint32_t bind[] = {2, 1, 1, 1, 64, 10, 2, 1, 37, 13, 1};
+    const uint32_t literal[] = {35, 5, 0, 0, 0, 3};
+    const char *digits = "(lit \"#b101\" (BitVec Size3))";
     age();
     CHECK(pinhkray_sort(bytes("(func 1 (Int) Bool)"), 19, tree, LENGTH(tree), out, LENGTH(out), &words) == 0);
     CHECK(wrote(sort, LENGTH(sort)) && all(tree, LENGTH(tree), 0));
@@ -118,6 +124,10 @@ static void parts(void) {
     age();
     CHECK(pinhkray_bind(bytes("((x Int) ($k x))"), 16, tree, LENGTH(tree), out, LENGTH(out), 7, &words, &after) == 0);
     CHECK(wrote(bind, LENGTH(bind)) && after == 7);
+    age();
+    CHECK(pinhkray_expression(bytes(digits), strlen(digits), tree, LENGTH(tree), out, LENGTH(out), 7, &words,
+                              &after) == PINHKRAY_ACCEPTED);
+    CHECK(wrote(literal, LENGTH(literal)) && after == 7);
 }
 
 static void flattening(void) {
@@ -220,7 +230,7 @@ static const struct answer expressions[] = {
     {"7", PINHKRAY_EXPR_NUMERAL, 7},
     {"true", PINHKRAY_EXPR_BOOLEAN, 1},
     {"\"a\"", PINHKRAY_EXPR_STRING, 1},
-    {"(lit \"#b101\" (BitVec Size3))", PINHKRAY_EXPR_BITVEC, 1},
+    {"(lit \"#b101\" (BitVec Size3))", PINHKRAY_EXPR_BITVEC, 5},
     {" a", PINHKRAY_EXPR_VAR, 1},
     {"((as apply Int) a)", PINHKRAY_EXPR_APP, 1},
     {"(((as apply Int) a) b)", PINHKRAY_EXPR_APP, 0},

@@ -135,7 +135,8 @@ static const struct row rows[] = {
     {"a width", "Size", "0", "1"},
     {"a number", "-", "0", "1"},
     {"a decimal", ".", "0", "1"},
-    {"bits", "(lit \"#b0", "0", "1\" (BitVec Size3))"},
+    {"digits of a small size", "(lit \"#b0", "0", "1\" (BitVec Size3))"},
+    {"literals", "(and", "(lit\"#b1\"(a Size1))", ")"},
     {"white space", "", " ", "x"},
     {"lists side by side", "", "()", ""},
     {"names side by side", "", "a ", ""},
@@ -171,6 +172,19 @@ static void binder_text(const char *name, const char *before, const char *behind
     for (; end - to >= 7; i++)
         to += sprintf((char *)to, "(%c%c a)", letters[i / n % n], letters[i % n]);
     put(&to, behind, 1);
+    add(name, bytes, (size_t)(to - bytes), 0);
+}
+
+// As many digits as there is room for, all but the last 0, and a size that says as many, or one more.
+static void literal_text(const char *name, size_t more)
+{
+    u8 *bytes = malloc(MAX_TEXT + 1), *to = bytes;
+    const size_t longest = sizeof " (BitVec Size4294967295))";
+    size_t digits = MAX_TEXT - longest - strlen("(lit \"#b\"");
+    put(&to, "(lit \"#b", 1);
+    put(&to, "0", digits - 1);
+    put(&to, "1\"", 1);
+    to += sprintf((char *)to, " (BitVec Size%zu))", digits + more);
     add(name, bytes, (size_t)(to - bytes), 0);
 }
 
@@ -227,6 +241,8 @@ void make_extremes(void)
     binder_text("exists, binders", "(exists(", ")a)");
     binder_text("a bind's binders", "((x Int)(exists(", ")a))");
     binder_text("parameters", "(lambda(", ")a)");
+    literal_text("digits", 0);
+    literal_text("digits, one fewer than the size says", 1);
     const size_t most = NODES - 1;
     words("Neg", LIST(39), most, LIST(33, 0), 1);
     words("Not", LIST(44), most, LIST(33, 0), 1);

@@ -157,8 +157,8 @@ void mode_fuzz(enum op op, u64 seconds, u64 seed, const char *disassembly)
         }
     }
     blocks_show(op);
-    printf("robust: fuzz %s: %" PRIu64 " s, seed %" PRIu64 ", %" PRIu64 " inputs, %" PRIu64 " calls, kept %zu; refusals 0 to 16:", op_names[op],
-           spent() - start, seed, inputs, calls_made, kept);
+    printf("robust: fuzz %s: %" PRIu64 " s, seed %" PRIu64 ", %" PRIu64 " inputs, %" PRIu64 " calls, kept %zu; refusals 0 to %d:", op_names[op],
+           spent() - start, seed, inputs, calls_made, kept, REFUSALS - 1);
     for (int r = 0; r < REFUSALS; r++)
         printf(" %" PRIu64, refused_inputs[r]);
     printf("\nrobust: fuzz %s: blocks %" PRIu64 " of %" PRIu64 " (%" PRIu64 " by the recorded cases and the extremes; the last new one after %" PRIu64

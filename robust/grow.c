@@ -1,5 +1,6 @@
 // Random numbers, texts after the grammar with some damage, and words of expressions.
 #include "robust.h"
+#include <stdio.h>
 #include <string.h>
 
 static u64 state = 1;
@@ -30,11 +31,11 @@ const char *const dictionary[] = {
     "lambda", "exists", "let", "not", "or", "and", "lit", "if", "-", "+", "*", "/", "mod", "=", "!=", "<", "<=", ">", ">=", "<=>", "=>", "cast",
     "cast_as_int", "is$", "is$C", "as", "apply", "(as apply Int)", "((as apply Int) f)", "$", "$k", "func", "function", "Set_Set", "Map_t",
     "Array_t", "BitVec", "(BitVec Size3)", "Int", "int", "Bool", "bool", "Real", "real", "Str", "str", "true", "false", "x", "y", "z", "(x Int)",
-    "((x Int))", "((x Int) (y Int))", "Size", "Size3", "Size4294967295", "Size4294967296", "Size+8", "@(0)", "@(18446744073709551615)",
+    "((x Int))", "((x Int) (y Int))", "Size", "Size1", "Size3", "Size4294967295", "Size4294967296", "Size+8", "@(0)", "@(18446744073709551615)",
     "@(18446744073709551616)", "@)", "0", "1", "64", "65", "-1", "+5", "4294967296", "18446744073709551616",
     "170141183460469231731687303715884105727", "170141183460469231731687303715884105728", "-170141183460469231731687303715884105728",
     "-170141183460469231731687303715884105729", "999999999999999999", "1000000000000000000", "1.5", ".5", "5.", "1e5", "1E-5", "inf", "-Infinity",
-    "NaN", "#b", "\"#b101\"", "(lit \"#b101\" (BitVec Size3))", "strLen", "int_to_bv8", "bv8_to_int", "int_to_bv32", "bv32_to_int", "int_to_bv64",
+    "NaN", "#b", "\"#b101\"", "(lit \"#b101\" (BitVec Size3))", "(lit \"#b1\" (BitVec Size2))", "strLen", "int_to_bv8", "bv8_to_int", "int_to_bv32", "bv32_to_int", "int_to_bv64",
     "bv64_to_int", "int_to_bv128", "bv128_to_int", "bvule", "bvsle", "bvuge", "bvsge", "bvugt", "bvsgt", "bvult", "bvslt", "bvudiv", "bvsdiv",
     "bvurem", "bvsrem", "bvlshr", "bvashr", "bvand", "bvor", "bvxor", "bvnot", "bvadd", "bvneg", "bvsub", "bvmul", "bvshl", "Set_empty", "Set_sng",
     "Set_cup", "Set_cap", "Set_dif", "Set_mem", "Set_sub", "Map_default", "Map_select", "Map_store", "arr_select_m", "arr_store_m", "bvad", "strLe",
@@ -45,7 +46,7 @@ const size_t dictionary_size = COUNT(dictionary);
 static const char *const exprs[] = {
     "%N", "%N", "%I", "true", "\"a b\"", "%T", "false", "(not %E)", "(and%A)", "(or%A)", "(if %E %E %E)", "(%O %E %E)", "(%O %E %E)", "(- %E)",
     "(let (%N %E) %E)", "(let ((%N %E)) %E)", "(exists (%B) %E)", "(exists (%B) %E)", "(%T %E)", "(%T %E %E)", "((as apply %S) %E)",
-    "(((as apply %S) %E)%A)", "((%E %E) %E)", "((not %E)%A)", "(is$C %E)", "(cast %E)", "(lit \"#b%D%D\" (BitVec %Z))", "(%E)", "(%N%A)",
+    "(((as apply %S) %E)%A)", "((%E %E) %E)", "((not %E)%A)", "(is$C %E)", "(cast %E)", "(lit \"#b%D\" (BitVec %Z))", "%L", "%L", "(%E)", "(%N%A)",
 };
 static const char *const sorts[] = {
     "Int", "Bool", "real", "str", "A", "%X", "%Z", "(Set_Set %S)", "(Map_t %S %S)", "(Array_t %S %S)", "(BitVec %Z)", "(BitVec %S)", "(A %S)",
@@ -56,8 +57,8 @@ static const char *const preds[] = {"(%E)", "%E", "($k%M)", "(and %P %P)", "(and
 static const char *const solutions[] = {"(lambda (%B) %E)", "(lambda (%B) %E)", "(lambda () %E)"};
 static const char *const names[] = {"x", "y", "z", "f", "a", "x", "\xc3\xa9", "$k", "lq_karg$x##0"};
 static const char *const integers[] = {"0", "1", "-5", "+7", "4294967296", "18446744073709551615", "-170141183460469231731687303715884105728"};
-static const char *const bits[] = {"0", "1", "01", "110101", "+", "00000000000000000000000000000000", "2"};
-static const char *const widths[] = {"Size3", "Size64", "Size+8", "Size4294967295", "Sizex", "Size"};
+static const char *const bits[] = {"0", "1", "01", "101", "110101", "+", "+1", "00000000000000000000000000000000", "2", "\xc3\xa9", ""};
+static const char *const widths[] = {"Size1", "Size+2", "Size03", "Size3", "Size64", "Size+8", "Size4294967295", "Sizex", "Size"};
 static const char *const indexes[] = {"@(0)", "@(+7)", "@(18446744073709551615)", "@(x)"};
 static const char *const numbers[] = {"0", "1", "2", "64", "65", "-1"};
 static const char *const operators[] = {"+", "-", "*", "/", "mod", "=", "!=", "<", "<=", ">", ">=", "<=>", "=>"};
@@ -84,6 +85,22 @@ static void pick(const char *const *list, size_t n, size_t ending, int depth)
     expand(list[below(depth <= 0 ? ending : n)], depth - 1);
 }
 
+// A literal of some digits, mostly as many as its size says.
+static void literal(void)
+{
+    static const size_t counts[] = {1, 2, 3, 8, 31, 32, 33, 64, 127, 128, 129, 200};
+    static const char *const spellings[] = {"Size", "Size", "Size+", "Size0", "Size+00"};
+    size_t n = below(4) ? counts[below(COUNT(counts))] : 1 + below(140), zeros = n > 128 && below(8) ? n - 128 : below(3) ? 0 : below(n);
+    expand(below(8) ? "(lit \"#b" : "(lit\"#b", 0);
+    for (size_t i = 0; i < n; i++)
+        put(i >= zeros && (i == zeros || below(2)) ? "1" : "0", 1);
+    expand("\" (BitVec ", 0);
+    expand(spellings[below(COUNT(spellings))], 0);
+    char said[24];
+    snprintf(said, sizeof said, "%zu))", below(8) ? n : below(2) ? n + 1 : n - 1);
+    expand(said, 0);
+}
+
 static void rule_of(char name, int depth)
 {
     switch (name) {
@@ -96,6 +113,7 @@ static void rule_of(char name, int depth)
     case 'M': pick(arguments, COUNT(arguments), 2, depth); return;
     case 'N': pick(names, COUNT(names), COUNT(names), 0); return;
     case 'I': pick(integers, COUNT(integers), COUNT(integers), 0); return;
+    case 'L': literal(); return;
     case 'D': pick(bits, COUNT(bits), COUNT(bits), 0); return;
     case 'Z': pick(widths, COUNT(widths), COUNT(widths), 0); return;
     case 'X': pick(indexes, COUNT(indexes), COUNT(indexes), 0); return;

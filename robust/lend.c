@@ -151,7 +151,7 @@ static u32 possible(enum op op)
     case SORT: return 0x11ff;
     case FLATTEN: return 0x40c1;
     case SMTLIB: return 0x1c0c1;
-    default: return 0x3fff;
+    default: return 0x23fff;
     }
 }
 

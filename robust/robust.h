@@ -70,7 +70,7 @@ u32 walk_answer(const struct call *c, const struct reply *r);
 // check.c: everything that is held against one input.
 void check_input(const struct call *c);
 struct call roomy(enum op op, const u8 *bytes, size_t len);
-#define REFUSALS 17
+#define REFUSALS 18
 extern u64 accepted_inputs, refused_inputs[REFUSALS];
 extern size_t needed_words, needed_tree; // of the last input: its answer's and its tree's words, 0 if refused
 

@@ -15,6 +15,7 @@ static u32 why; // the first refusal met, 0 so far
 static u64 text_len;
 static u8 met[1 << 21];
 static int answer; // whether the words are an answer
+static int from_text; // whether they are that to a text
 int walk_learning;
 
 // Three kinds, one inside the other, were met in an answer.
@@ -95,6 +96,22 @@ static void binders(u32 outer, u32 middle)
     }
 }
 
+// A literal of a text has a digit at least, all of them in the text, and a value that has room in them.
+static void literal(void)
+{
+    u32 value[4];
+    for (int i = 0; i < 4; i++)
+        value[i] = take();
+    u32 width = take();
+    if (why || !from_text)
+        return;
+    if (width == 0 || width > text_len)
+        why = 14;
+    for (u32 i = 0; i < 4; i++)
+        if (width < 32 * (i + 1) && value[i] >> (width > 32 * i ? width - 32 * i : 0) != 0)
+            why = 14;
+}
+
 static void expr(int inside, u32 outer, u32 middle)
 {
     u32 kind = take();
@@ -110,7 +127,7 @@ static void expr(int inside, u32 outer, u32 middle)
     case 32: skip(4); break;
     case 33: take_below(2); break;
     case 34: case 37: span(); break;
-    case 35: skip(5); break;
+    case 35: literal(); break;
     case 36: fresh(0); break;
     case 38:
         flag = take_below(2);
@@ -179,7 +196,7 @@ static void begin(const u32 *from, size_t n, u64 text)
     why = 0;
     text_len = text;
     walk_freshes = 0;
-    answer = 0;
+    answer = from_text = 0;
 }
 
 static u32 end(void)
@@ -220,6 +237,7 @@ u32 walk_answer(const struct call *c, const struct reply *r)
 {
     begin(r->words, r->n, c->op == FLATTEN ? UINT64_MAX : c->len);
     answer = 1;
+    from_text = c->op != FLATTEN;
     switch (c->op) {
     case READ_ONE: tree(0); break;
     case READ_ALL:

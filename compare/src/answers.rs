@@ -1,4 +1,4 @@
-//! Recorded answers of the source, a case a line: `OP START TREE DRAFT OUT INPUT = REFUSAL A B COUNT WORDS`.
+//! Recorded answers, a case a line: `OP START TREE DRAFT OUT INPUT = REFUSAL A B COUNT WORDS`.
 
 use crate::call::{Answer, Call, Operation, Refusal};
 

@@ -29,6 +29,14 @@ fn binders() -> impl Iterator<Item = String> {
     one.chain(two).chain(three)
 }
 
+/// Bytes of a literal beside its digits, where there are 10,000 or more.
+const LITERAL: usize = "(lit \"#b\" (BitVec Size32768))".len();
+
+/// A literal of so many digits, zeros but for the last, which says that it has so many more.
+fn literal(digits: usize, more: usize, last: &str) -> String {
+    format!("(lit \"#b{}{last}\" (BitVec Size{}))", "0".repeat(digits - last.len()), digits + more)
+}
+
 /// Nested as deep as can be: what the nesting is made of, and the text.
 fn deepest() -> Vec<(&'static str, String)> {
     let max = MAX_LISTS;
@@ -131,9 +139,17 @@ fn longest() -> Vec<(&'static str, String)> {
         ("a width", format!("Size{}1", "0".repeat(MAX_BYTES - 5))),
         ("a number", format!("-{}1", "0".repeat(MAX_BYTES - 2))),
         ("a decimal", format!(".{}1", "0".repeat(MAX_BYTES - 2))),
-        ("bits", {
-            let frame = "(lit \"#b\" (BitVec Size3))".len();
-            format!("(lit \"#b{}1\" (BitVec Size3))", "0".repeat(MAX_BYTES - frame - 1))
+        ("digits", literal(MAX_BYTES - LITERAL, 0, "1")),
+        ("digits, one fewer than the size says", literal(MAX_BYTES - LITERAL, 1, "1")),
+        ("digits, the last one none", literal(MAX_BYTES - LITERAL, 0, "2")),
+        ("digits, one byte too long", literal(MAX_BYTES - LITERAL + 1, 0, "1")),
+        ("digits of the largest value", literal(MAX_BYTES - LITERAL, 0, &"1".repeat(128))),
+        ("digits of a value too large", literal(MAX_BYTES - LITERAL, 0, &"1".repeat(129))),
+        ("literals", fill("(and", same("(lit\"#b1\"(a Size1))"), ")")),
+        ("literals of the largest value", fill("(and", same(&format!("(lit\"#b{}\"(a Size128))", "1".repeat(128))), ")")),
+        ("literals, the last one of another width", {
+            let wrong = "(lit\"#b1\"(a Size2)))";
+            fill("(and", same("(lit\"#b1\"(a Size1))"), wrong)
         }),
         ("space", " ".repeat(MAX_BYTES - 1) + "x"),
         ("lists side by side", "()".repeat(MAX_BYTES / 2)),

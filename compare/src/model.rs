@@ -5,6 +5,11 @@ use crate::call::{Answer, Call, Operation, Refusal};
 pub trait Model {
     fn new(op: Operation, text: &[u8]) -> Self;
 
+    /// Whether it has no answer to the operation on the text.
+    fn excepted(&self) -> bool {
+        false
+    }
+
     /// How many words the tree of the first expression has, if the text has one.
     fn tree_words(&self) -> Result<usize, Refusal>;
 

@@ -21,7 +21,7 @@ pub const WRITABLE: Pools = Pools {
 const APPLIED: &[&str] = &["Int", "Bool", "(func 0 (Int) Int)", "(Set_Set Int)"];
 const RELATIONS: &[&str] = &["<", "<=", ">", ">=", "=", "=", "!="];
 const OPERATORS: &[&str] = &["+", "-", "+", "-", "*", "mod", "/"];
-const LITERALS: &[&str] = &["(lit \"#b000000101\" (BitVec Size32))", "\"\"", "\"a name\"", "true", "false"];
+const LITERALS: &[&str] = &["(lit \"#b00000000000000000000000000000101\" (BitVec Size32))", "\"\"", "\"a name\"", "true", "false"];
 
 struct Grower<'r> {
     r: &'r mut Random,

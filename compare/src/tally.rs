@@ -4,10 +4,15 @@ use crate::call::Refusal;
 use std::fmt;
 use std::ops::Add;
 
+/// The largest number of a refusal.
+const LAST: usize = 17;
+
 #[derive(Default)]
 pub struct Tally {
     accepted: u64,
-    refused: [u64; 17],
+    refused: [u64; LAST + 1],
+    /// Texts on which no call was made, since the model has no answer to them.
+    excepted: u64,
 }
 
 impl Tally {
@@ -18,8 +23,21 @@ impl Tally {
         }
     }
 
+    pub fn except(&mut self) {
+        self.excepted += 1;
+    }
+
     pub fn calls(&self) -> u64 {
         self.accepted + self.refused.iter().sum::<u64>()
+    }
+
+    /// That calls were accepted, and each of these refusals was met.
+    pub fn meets(&self, refusals: &[Refusal]) -> Result<(), String> {
+        match refusals.iter().find(|refusal| self.refused[**refusal as usize] == 0) {
+            _ if self.accepted == 0 => Err("no call was accepted".to_string()),
+            Some(refusal) => Err(format!("no call was refused with {refusal}")),
+            None => Ok(()),
+        }
     }
 }
 
@@ -27,7 +45,11 @@ impl Add for Tally {
     type Output = Tally;
 
     fn add(self, other: Tally) -> Tally {
-        Tally { accepted: self.accepted + other.accepted, refused: std::array::from_fn(|i| self.refused[i] + other.refused[i]) }
+        Tally {
+            accepted: self.accepted + other.accepted,
+            refused: std::array::from_fn(|i| self.refused[i] + other.refused[i]),
+            excepted: self.excepted + other.excepted,
+        }
     }
 }
 
@@ -35,6 +57,10 @@ impl fmt::Display for Tally {
     fn fmt(&self, f: &mut fmt::Formatter<'_>) -> fmt::Result {
         write!(f, "{} calls, {} accepted; refused", self.calls(), self.accepted)?;
         let met = self.refused.iter().enumerate().filter(|(_, n)| **n > 0);
-        met.enumerate().try_for_each(|(i, (refusal, n))| write!(f, "{} {refusal}: {n}", if i > 0 { "," } else { "" }))
+        met.enumerate().try_for_each(|(i, (refusal, n))| write!(f, "{} {refusal}: {n}", if i > 0 { "," } else { "" }))?;
+        if self.excepted > 0 {
+            write!(f, "; {} texts excepted", self.excepted)?;
+        }
+        Ok(())
     }
 }

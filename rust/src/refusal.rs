@@ -29,7 +29,7 @@ pub enum Refusal {
     Decimal = 9,
     /// An exists or a solution binds a name twice.
     RepeatedName = 10,
-    /// The bits of a `lit` are missing, not binary, or 2^128 and more.
+    /// The digits of a `lit` are missing, not binary, or 2^128 and more.
     BadBits = 11,
     /// The number of a `func` is outside 0 to 64.
     FuncNumber = 12,
@@ -45,6 +45,8 @@ pub enum Refusal {
     Unwritable = 15,
     /// A name or string of the solution has `|`, `"`, a backslash or a byte outside 32 to 126.
     Unprintable = 16,
+    /// A `lit` has more or fewer digits than its size says.
+    WrongWidth = 17,
 }
 
 use Refusal::*;
@@ -68,9 +70,10 @@ impl Refusal {
         BadWords,
         Unwritable,
         Unprintable,
+        WrongWidth,
     ];
 
-    /// The refusal's number, 1 to 16.
+    /// The refusal's number, 1 to 17.
     pub fn number(self) -> u32 {
         self as u32
     }
@@ -95,12 +98,13 @@ impl fmt::Display for Refusal {
             Malformed => "the text does not have the form that was asked for",
             Decimal => "a decimal stands as an expression",
             RepeatedName => "an exists or a solution binds a name twice",
-            BadBits => "the bits of a `lit` are missing, not binary, or 2^128 and more",
+            BadBits => "the digits of a `lit` are missing, not binary, or 2^128 and more",
             FuncNumber => "the number of a `func` is outside 0 to 64",
             NumbersSpent => "the fresh numbers run out",
             BadWords => "the words are not those of one expression or solution over the text",
             Unwritable => "a part of the solution cannot be written in SMT-LIB",
             Unprintable => "a name or string has a byte that cannot stand in SMT-LIB as it is",
+            WrongWidth => "a `lit` has more or fewer digits than its size says",
         })
     }
 }

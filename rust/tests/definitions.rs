@@ -131,4 +131,6 @@ fn the_header_is_of_this_version() {
         number(&header, "#define PINHKRAY_VERSION "),
         VERSION as usize
     );
+    let defined = file("crates/boundary/specs/Version.antt");
+    assert_eq!(number(&defined, "version = "), VERSION as usize);
 }

@@ -14,7 +14,7 @@ fn expressions() {
             "(or (not x) (=> a b) (<=> a b))",
         ),
         ("(!= (mod a 2) (/ b c))", "(!= (mod a 2) (/ b c))"),
-        ("(lit \"#b101\" (BitVec Size3))", "(_ bv1 3)"),
+        ("(lit \"#b101\" (BitVec Size3))", "(_ bv5 3)"),
         ("(let (x 1) (is$Cons x))", "(let (x 1) (is$Cons x))"),
         (
             "(exists ((x Int) (y (List Int))) (= x z))",

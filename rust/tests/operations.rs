@@ -75,7 +75,7 @@ fn expression() {
     let cases: [(&[u8], &[u32], u64); 5] = [
         (b"(and)", &[42, 0], 3),
         (b"(or (and) true)", &[43, 2, 37, 5, 3, 33, 1], 3),
-        (b"(lit \"#b101\" (BitVec Size3))", &[35, 1, 0, 0, 0, 3], 3),
+        (b"(lit \"#b101\" (BitVec Size3))", &[35, 5, 0, 0, 0, 3], 3),
         (b"(exists ((x Int)) x)", &[51, 1, 3, 0, 1, 36, 3, 0], 4),
         (
             b"(((as apply Int) f))",

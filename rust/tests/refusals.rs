@@ -1,6 +1,8 @@
 //! Each refusal by its smallest example, what it leaves behind, and the numbers.
 
-use pinhkray::{flatten, flatten_owned, Reader, Refusal, MAX_BYTES, MAX_EXPRESSIONS, MAX_LISTS};
+use pinhkray::{
+    flatten, flatten_owned, Expr, Reader, Refusal, MAX_BYTES, MAX_EXPRESSIONS, MAX_LISTS,
+};
 use Refusal::*;
 
 /// Lends slices full of ones to the solution operation, and looks at what a refusal leaves.
@@ -20,7 +22,7 @@ fn numbers_of_a_solution() {
     let deep = "(".repeat(MAX_LISTS + 1);
     let long = " ".repeat(MAX_BYTES + 1);
     let wide = format!("(lambda () (and {}))", "1 ".repeat(200));
-    let cases: [(u32, &[u8]); 13] = [
+    let cases: [(u32, &[u8]); 14] = [
         (1, long.as_bytes()),
         (2, b"\xff"),
         (3, b""),
@@ -34,6 +36,7 @@ fn numbers_of_a_solution() {
         (11, b"(lambda () (lit \"#b\" (BitVec Size3)))"),
         (12, b"(lambda ((x (func 65 () Int))) x)"),
         (13, b"(lambda ((x Int)) x)"),
+        (17, b"(lambda ((x Int)) (lit \"#b0\" (1 Size2)))"),
     ];
     for (number, text) in cases {
         let refusal = solution(u64::MAX, text).expect("a refusal");
@@ -61,6 +64,10 @@ fn numbers_of_the_others() {
     assert_eq!(reader.expression_owned(b"nan"), Err(Decimal));
     assert_eq!(reader.expression_owned(b"(lit \"#b2\")"), Err(BadBits));
     assert_eq!(
+        reader.bind_owned(b"((x Int) (lit \"#b01\" (BitVec Size1)))"),
+        Err(WrongWidth)
+    );
+    assert_eq!(
         reader.expression_owned(b"(exists ((x Int) (x Int)) x)"),
         Err(RepeatedName)
     );
@@ -81,6 +88,48 @@ fn numbers_of_the_others() {
         Err(NumbersSpent)
     );
     assert_eq!(last.count(), u64::MAX);
+}
+
+/// What a `lit` is refused with, in this order: its string, its digits, its size, and how many digits there are.
+#[test]
+fn numbers_of_a_literal() {
+    let mut reader = Reader::open(0);
+    let ones = "1".repeat(128);
+    let zeros = "0".repeat(300);
+    let cases: [(&str, Result<(u128, u32), Refusal>); 27] = [
+        ("\"#x1\" 5", Err(Malformed)),
+        ("\"#b\" (BitVec Size0)", Err(BadBits)),
+        ("\"#b2\"", Err(BadBits)),
+        ("\"#b2\" 5", Err(BadBits)),
+        ("\"#b+1\" (BitVec Size2)", Err(BadBits)),
+        ("\"#b1+1\" (BitVec Size3)", Err(BadBits)),
+        ("\"#b 1\" (BitVec Size2)", Err(BadBits)),
+        ("\"#bé\" (BitVec Size2)", Err(BadBits)),
+        (&format!("\"#b1{ones}\" (BitVec Size129)"), Err(BadBits)),
+        (&format!("\"#b1{ones}\""), Err(BadBits)),
+        ("\"#b1\"", Err(Malformed)),
+        ("\"#b1\" 5", Err(Malformed)),
+        ("\"#b1\" (BitVec Size)", Err(Malformed)),
+        ("\"#b1\" (BitVec Size1 x)", Err(Malformed)),
+        ("\"#b1\" (BitVec Size4294967297)", Err(Malformed)),
+        ("\"#b1\" (BitVec Size4294967295)", Err(WrongWidth)),
+        ("\"#b0\" (BitVec Size0)", Err(WrongWidth)),
+        ("\"#b1\" (BitVec Size2)", Err(WrongWidth)),
+        ("\"#b01\" (BitVec Size1)", Err(WrongWidth)),
+        (&format!("\"#b{ones}\" (BitVec Size129)"), Err(WrongWidth)),
+        (&format!("\"#b0{ones}\" (BitVec Size128)"), Err(WrongWidth)),
+        ("\"#b1\" (5 Size+01)", Ok((1, 1))),
+        ("\"#b101\" (BitVec Size3)", Ok((5, 3))),
+        ("\"#b001\" (BitVec Size3)", Ok((1, 3))),
+        (&format!("\"#b{ones}\" (a Size128)"), Ok((u128::MAX, 128))),
+        (&format!("\"#b0{ones}\" (a Size129)"), Ok((u128::MAX, 129))),
+        (&format!("\"#b{zeros}\" (a Size300)"), Ok((0, 300))),
+    ];
+    for (items, answer) in cases {
+        let read = reader.expression_owned(format!("(lit {items})").as_bytes());
+        let literal = answer.map(|(bits, width)| Expr::BitVec { bits, width });
+        assert_eq!(read, literal, "{items}");
+    }
 }
 
 #[test]
@@ -126,12 +175,12 @@ fn limits_of_texts() {
 
 #[test]
 fn every_number_has_its_refusal() {
-    assert_eq!(Refusal::ALL.len(), 16);
+    assert_eq!(Refusal::ALL.len(), 17);
     for (refusal, number) in Refusal::ALL.iter().zip(1..) {
         assert_eq!(refusal.number(), number);
         assert_eq!(Refusal::from_number(number), Some(*refusal));
     }
-    for none in [0, 17, u32::MAX] {
+    for none in [0, 18, u32::MAX] {
         assert_eq!(Refusal::from_number(none), None);
     }
 }
@@ -146,7 +195,7 @@ fn every_refusal_is_an_error_with_a_sentence_of_its_own() {
     );
     sentences.sort();
     sentences.dedup();
-    assert_eq!(sentences.len(), 16);
+    assert_eq!(sentences.len(), 17);
 }
 
 #[test]

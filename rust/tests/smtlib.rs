@@ -329,6 +329,10 @@ fn texts() {
         ),
         ("(lambda ((s (Set_Set Int))) true)", Err(Unwritable)),
         ("(lambda () λ)", Err(Unprintable)),
+        (
+            "(lambda () (lit \"#b101\" (BitVec Size3)))",
+            Ok("() (_ bv5 3)"),
+        ),
     ];
     for (text, term) in cases {
         let solution = Reader::open(0).solution_owned(text.as_bytes()).unwrap();
@@ -358,7 +362,7 @@ fn there_is_room_for_every_text() {
     let bound = longest("(a()(exists(", |i| format!("(v{i} str)"), ")true))");
     let bits = longest(
         "(a()(and ",
-        |_| format!("(lit\"#b0{}\"(a Size4294967295))", "1".repeat(128)),
+        |_| format!("(lit\"#b{}\"(a Size128))", "1".repeat(128)),
         "))",
     );
     let numbers = longest("(a()(and ", |_| format!("-{} ", i128::MAX), "))");

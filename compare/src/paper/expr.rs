@@ -214,12 +214,16 @@ impl<'t> Parser<'t> {
     }
 }
 
-/// `(lit "#b..." (.. Size..))`: one byte is dropped behind `#b`.
+/// `(lit "#b..." (.. Size..))`: the string, then the digits behind `#b`, then the size, and last that there are as many digits as it says.
 fn literal<'t>(items: &[Tree<'t>]) -> Read<Expr<'t>> {
     let Tree::Quoted(string) = item(items, 1)? else {
         return Err(MALFORMED);
     };
-    let digits = string.text.as_bytes().strip_prefix(b"#b").ok_or(MALFORMED)?;
-    let value = number::bits(digits.get(1..).unwrap_or(b"")).ok_or(NO_BITS)?;
-    Ok(Expr::BitVec(value, width_of_pair(item(items, 2)?)?))
+    let digits = string.text.strip_prefix("#b").ok_or(MALFORMED)?;
+    let value = number::binary(digits).ok_or(NO_BITS)?;
+    let width = width_of_pair(item(items, 2)?)?;
+    if digits.len() as u64 != u64::from(width) {
+        return Err(WRONG_WIDTH);
+    }
+    Ok(Expr::BitVec(value, width))
 }

@@ -20,7 +20,10 @@ pub fn index(text: &str) -> Option<u64> {
     text.parse().ok()
 }
 
-/// The bits of a literal: an optional `+` and binary digits, below 2^128. Dropping a byte may have cut a character, so these are bytes.
-pub fn bits(bytes: &[u8]) -> Option<u128> {
-    u128::from_str_radix(std::str::from_utf8(bytes).ok()?, 2).ok()
+/// The value of a literal's digits: at least one, each 0 or 1, without a sign, and below 2^128; zeros before it may be any number.
+pub fn binary(digits: &str) -> Option<u128> {
+    if digits.is_empty() {
+        return None;
+    }
+    digits.chars().try_fold(0u128, |value, digit| value.checked_mul(2)?.checked_add(digit.to_digit(2)?.into()))
 }

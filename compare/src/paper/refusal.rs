@@ -22,3 +22,5 @@ pub const NO_WORDS: Refusal = 14;
 pub const UNWRITABLE: Refusal = 15;
 /// A byte of a name or string that SMT-LIB does not take as it is.
 pub const UNPRINTABLE: Refusal = 16;
+/// A literal with more or fewer digits than its size says.
+pub const WRONG_WIDTH: Refusal = 17;

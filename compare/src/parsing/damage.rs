@@ -6,7 +6,7 @@ const BYTES: &[u8] = &[
     b'(', b')', b'"', b'@', b' ', b'-', b'+', b'.', b'0', b'1', b'x', b'$', b'#', 0xc2, 0x85, 0xa0, 0xe2, 0x80, 0xff, 0x00, 0xed, 0xf4, 0x90,
 ];
 const TOKENS: &[&str] = &[
-    "(", ")", "()", "and", "or", "not", "exists", "let", "lit", "as", "apply", "func", "is$", "$k", "x", "1", "nan", "65", "Size3", "\"#b11\"",
+    "(", ")", "()", "and", "or", "not", "exists", "let", "lit", "as", "apply", "func", "is$", "$k", "x", "1", "nan", "65", "Size2", "Size3", "\"#b11\"", "\"#b101\"",
     "BitVec", "Int", "true",
 ];
 
@@ -15,8 +15,16 @@ pub fn damaged(text: Vec<u8>, r: &mut Random) -> Vec<u8> {
     (0..times).fold(text, |t, _| if r.one_in(2) { bytes(t, r) } else { tokens(&t, r) })
 }
 
+/// A place in the text; where it has a literal, sometimes that of its first digit.
+fn place(t: &[u8], r: &mut Random) -> usize {
+    match t.windows(2).position(|two| two == b"#b") {
+        Some(literal) if r.one_in(4) => literal + 2,
+        _ => r.below(t.len() + 1),
+    }
+}
+
 fn bytes(mut t: Vec<u8>, r: &mut Random) -> Vec<u8> {
-    let at = r.below(t.len() + 1);
+    let at = place(&t, r);
     match r.below(8) {
         0 => t.truncate(at),
         1 | 2 => t.insert(at, r.pick(BYTES)),

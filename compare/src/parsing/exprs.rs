@@ -67,7 +67,7 @@ impl Grower<'_> {
 
     /// A list of at least `least` items behind its head.
     pub fn list_form(&mut self, depth: usize, least: usize) {
-        match self.r.below(24) {
+        match self.r.below(26) {
             0..=6 => {
                 let (head, n) = self.r.pick(FORMS);
                 self.form(head, n, depth);
@@ -81,7 +81,7 @@ impl Grower<'_> {
             10 => self.unseen(depth),
             11..=13 => self.let_in(depth),
             14..=17 => self.exists(depth),
-            18 => self.lit(),
+            18 | 24 | 25 => self.lit(),
             19 | 20 => self.apply(depth),
             21 => self.curried(depth),
             _ => self.application(depth),

@@ -88,6 +88,10 @@ fn one_short<'t>(call: Call<'t>, r: &mut Random) -> Call<'t> {
 /// A good text with slices just long enough, and one of them a word short; any text with slices and a count round what it needs.
 fn text_held<M: Model>(op: Operation, text: &[u8], r: &mut Random, tally: &mut Tally) -> Result<(), String> {
     let model = M::new(op, text);
+    if model.excepted() {
+        tally.except();
+        return Ok(());
+    }
     let needs = needs(&model, op, text, r);
     if needs.accepted {
         held(&model, &needs.call, tally)?;

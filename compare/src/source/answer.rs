@@ -1,6 +1,6 @@
 //! What the source answers to the calls on a text, with the limits, refusals and words of document 01.
 
-use super::differences::{count_after, fits, func_numbers};
+use super::differences::{count_after, excepted, fits, func_numbers};
 use super::names::{self, Atoms, Given, Unknown};
 use super::reader::{self, Reader};
 use super::terms::Term;
@@ -10,7 +10,7 @@ use crate::ffi;
 use crate::model::Model;
 use crate::reading;
 use std::collections::HashSet;
-use upstream::sexp::Parser;
+use upstream::sexp::{Parser, Sexp};
 
 /// An accepted text.
 struct Parsed {
@@ -31,7 +31,8 @@ pub struct Source {
     text: Vec<u8>,
     /// What read one answers, or what the operation itself does if it only reads.
     read: Result<Answer, Refusal>,
-    parsed: Result<Parsed, Refusal>,
+    /// Nothing if the text is excepted.
+    parsed: Option<Result<Parsed, Refusal>>,
 }
 
 fn words<S: Spans<String>>(spans: S, raised: u64, write: impl FnOnce(&mut Words<S>)) -> Vec<u32> {
@@ -40,14 +41,21 @@ fn words<S: Spans<String>>(spans: S, raised: u64, write: impl FnOnce(&mut Words<
     words.words
 }
 
-/// The source goes on from where the reader stands.
-fn parsed(op: Operation, text: &[u8], tree: &[u32], by: &mut Reader) -> Result<Parsed, Refusal> {
+/// The source goes on from where the reader stands. Nothing if the text is excepted.
+fn parsed(op: Operation, text: &[u8], tree: &[u32], by: &mut Reader) -> Option<Result<Parsed, Refusal>> {
     let mut sexp = Parser::new(std::str::from_utf8(text).expect("it was read")).parse().expect("it was read");
     func_numbers(&mut sexp);
+    if excepted(op, text, &sexp) {
+        return None;
+    }
+    Some(term(op, text, tree, &sexp, by))
+}
+
+fn term(op: Operation, text: &[u8], tree: &[u32], sexp: &Sexp, by: &mut Reader) -> Result<Parsed, Refusal> {
     let first = by.parser.next as u64;
-    let term = reader::parse(op, text, by, &sexp)?;
+    let term = reader::parse(op, text, by, sexp)?;
     let numbers = (by.parser.next - u128::from(first)) as u64;
-    let draft = if op.takes_draft() { words(Unknown, 0, |w| w.expr(&reader::body(text, &sexp))).len() } else { 0 };
+    let draft = if op.takes_draft() { words(Unknown, 0, |w| w.expr(&reader::body(text, sexp))).len() } else { 0 };
     let mut given = Vec::new();
     if count_after(first, numbers).is_ok() {
         given = words(Unknown, 0, |w| w.term(&term));
@@ -63,10 +71,14 @@ impl Source {
         let read = reading::source::answer(op == Operation::ReadAll, text);
         let parsed = match &read {
             Ok(tree) if op.takes_tree() => parsed(op, text, &tree.words, by),
-            Ok(_) => Err(0),
-            Err(refusal) => Err(*refusal),
+            Ok(_) => Some(Err(0)),
+            Err(refusal) => Some(Err(*refusal)),
         };
         Source { op, text: text.to_vec(), read, parsed }
+    }
+
+    fn parsed(&self) -> Result<&Parsed, Refusal> {
+        self.parsed.as_ref().expect("not excepted").as_ref().map_err(|r| *r)
     }
 }
 
@@ -76,12 +88,16 @@ impl Model for Source {
         Source::by(&mut reader::open(0), op, text)
     }
 
+    fn excepted(&self) -> bool {
+        self.parsed.is_none()
+    }
+
     fn tree_words(&self) -> Result<usize, Refusal> {
         self.read.as_ref().map(|tree| tree.words.len()).map_err(|r| *r)
     }
 
     fn draft_words(&self) -> Result<usize, Refusal> {
-        self.parsed.as_ref().map(|p| p.draft).map_err(|r| *r)
+        self.parsed().map(|p| p.draft)
     }
 
     fn answer(&self, call: &Call) -> Result<Answer, Refusal> {
@@ -92,7 +108,7 @@ impl Model for Source {
             return Ok(Answer { count: call.count, ..read.clone() });
         }
         fits(read.words.len(), call.tree)?;
-        let parsed = self.parsed.as_ref().map_err(|r| *r)?;
+        let parsed = self.parsed()?;
         let count = count_after(call.count, parsed.numbers)?;
         fits(parsed.draft, if call.op.takes_draft() { call.draft } else { 0 })?;
         let spans = Given { text: &self.text, atoms: &parsed.atoms, words: &parsed.given, taken: HashSet::new() };

@@ -10,6 +10,7 @@ use crate::call::{Call, Operation};
 use crate::check;
 use crate::ffi;
 use crate::model::Model;
+use crate::paper::Paper;
 use crate::random::Random;
 use crate::solutions::{self, SOLVED};
 use crate::timing::{micros, round_by_round, turns};
@@ -38,14 +39,17 @@ struct Case {
 }
 
 impl Case {
-    /// Both accept it, and with the same words.
+    /// Both accept it, and with the same words, but for texts that are excepted.
     fn new(text: String) -> Self {
         let (op, bytes) = (Operation::Solution, text.as_bytes());
-        let source = Source::new(op, bytes);
-        let [tree, draft] = [source.tree_words(), source.draft_words()].map(|n| n.expect("accepted"));
-        let answer = source.answer(&Call::roomy(op, bytes));
+        let paper = Paper::new(op, bytes);
+        let [tree, draft] = [paper.tree_words(), paper.draft_words()].map(|n| n.expect("accepted"));
+        let roomy = Call::roomy(op, bytes);
+        let answer = paper.answer(&roomy);
         let out = answer.as_ref().expect("accepted").words.len();
         check::call(&Call { op, text: bytes, tree, draft, out, count: 0 }, &answer).expect("no difference");
+        let source = Source::new(op, bytes);
+        assert!(source.excepted() || source.answer(&roomy) == answer, "no difference");
         let [tree, draft, out] = [tree, draft, out].map(|n| vec![0; n]);
         Case { text, tree, draft, out }
     }

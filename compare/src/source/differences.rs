@@ -1,9 +1,10 @@
-//! What document 01 answers otherwise than the source, one difference at a time; the numbers are rows of docs/DIFFERENCES.md.
+//! What documents 01 and 02 answer otherwise than the source, one difference at a time; the numbers are rows of docs/DIFFERENCES.md.
 //!
 //! Rows 1, 2 and 3 (texts too long, not UTF-8, nested too deep) are added where the reader is held against `sexp.rs`. Row 15 (-2^127) needs
 //! nothing: the source is built so that it wraps.
 
-use crate::call::Refusal;
+use super::reader;
+use crate::call::{Operation, Refusal};
 use upstream::parser::ParseError;
 use upstream::sexp::{Atom, Sexp};
 
@@ -22,6 +23,29 @@ pub fn func_numbers(sexp: &mut Sexp) {
         }
     }
     items.iter_mut().for_each(func_numbers);
+}
+
+/// No refusal's number: what the source has read is a literal.
+const LITERAL: Refusal = u32::MAX;
+
+/// Rows 19 to 21: the texts that are excepted, in which the source reads a `lit` with a string that begins with `#b`, as an expression. It does
+/// if it panics at one whose digits are none, as it does at nothing else. Any other `lit` is refused with 8 by both.
+pub fn excepted(op: Operation, text: &[u8], sexp: &Sexp) -> bool {
+    let mut marked = sexp.clone();
+    without_digits(&mut marked) && matches!(reader::parse(op, text, &mut reader::open(0), &marked), Err(LITERAL))
+}
+
+/// Takes the digits from every literal; whether there is one.
+fn without_digits(sexp: &mut Sexp) -> bool {
+    let Sexp::List(items) = sexp else { return false };
+    let mut found = false;
+    if let [Sexp::Atom(Atom::S(head)), Sexp::Atom(Atom::Q(digits)), ..] = &mut items[..] {
+        if head == "lit" && digits.starts_with("#b") {
+            *digits = "#b, and no digits".to_string();
+            found = true;
+        }
+    }
+    items.iter_mut().fold(found, |found, item| without_digits(item) || found)
 }
 
 /// Row 18: one number for all messages.
@@ -43,12 +67,8 @@ pub fn panic(message: &str) -> Option<Refusal> {
         ("not implemented: Float parsing not supported", 9),
         // Rows 23 and 24: a name that is gone from its scope.
         ("called `Option::unwrap()` on a `None` value", 10),
-        // Row 21.
-        ("Invalid binary string: ", 11),
-        // Row 19: nothing after `#b`.
-        ("start byte index 3 is out of bounds of ", 11),
-        // Row 20: the byte after `#b` is only a part of a character.
-        ("start byte index 3 is not a char boundary", 11),
+        // Rows 19 to 21: what stands for a literal's digits.
+        ("Invalid binary string: ", LITERAL),
     ];
     if message == format!("Unknown sort encountered {:?}", mark()) {
         return Some(12);

@@ -34,8 +34,13 @@ fn session(extremes: &[(String, String)], r: &mut Random, tally: &mut Tally) -> 
         if i == 0 || !r.one_in(6) {
             given = text(op, extremes, r);
         }
+        let source = Source::new(op, &given);
+        if source.excepted() {
+            tally.except();
+            continue;
+        }
         // The slices are made for a call at 0.
-        let lent = parsing::needs(&Source::new(op, &given), op, &given, r).about(r);
+        let lent = parsing::needs(&source, op, &given, r).about(r);
         let call = Call { count, ..lent };
         count = one(&call, &mut reader, tally).map_err(|e| format!("call {i} of a reader opened at {start}, {e}"))?;
     }

@@ -2,6 +2,7 @@ pub mod Uncurry
 pub mod Bound
 pub mod FlatCoded
 pub mod SolutionBack
+pub mod FlatLiterals
 pub mod Raise
 pub mod Cases
 pub mod FewOperands

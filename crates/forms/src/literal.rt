@@ -6,26 +6,24 @@ ghost use Rattle.grammar.specs.ParseExpr.{bitsOf};
 ghost use Rattle.forms.specs.FormNames.{bitsIn};
 use lexing::byte::begins_with;
 use lexing::number::Mag;
-use lexing::number::unsigned;
+use lexing::number::magnitude;
 use lexing::quad::Quad;
-use words::number::least;
 
-// The value of `#b..`; bits that are none, or too many; or a string that does not begin so.
+// The value of `#b..`; digits that are none, not binary, or 2^128 and more; or a string that does not begin so.
 pub enum Bits {
     Is(Quad),
     Bad,
     No,
 }
 
-// One byte behind `#b` is dropped.
+// Every byte behind `#b` is a digit.
 pub fn bits_of(name: &[u8]) -> Bits
     ensures { λ r. ⌜ bitsIn r ≡ andThen (bitsOf (now (name .entry))) (λ v. got (wideOf v)) ⌝ }
 {
     if !begins_with(b"#b", name) {
         return Bits::No;
     }
-    let from = least(3, name.len());
-    match unsigned(&name[from..], 2) {
+    match magnitude(&name[2..], 2) {
         Mag::Is(q) => Bits::Is(q),
         Mag::No => Bits::Bad,
     }

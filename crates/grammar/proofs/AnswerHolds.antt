@@ -7,7 +7,7 @@ use mathlib.Core.List.{List, [], _∷_}
 use Rattle.reading.specs.Pick.{pick}
 use Rattle.reading.specs.Bytes.{ascii, sameBytes, Maybe, nothing, just, Named, named, lookup}
 use Rattle.reading.proofs.Bytes.{same-equal}
-use Rattle.reading.specs.Answer.{Ans, got, bad, andThen, Res, ok, no, chain, lifted}
+use Rattle.reading.specs.Answer.{Refusal, Ans, got, bad, andThen, check, Res, ok, no, chain, lifted}
 
 abbrev pub Post : {A : Type 0} → Res A → (A → ℕ → Type 0) → Type 0
 Post (ok a n) Q = Q a n
@@ -29,6 +29,15 @@ lifted-post (bad r) n f Q R q k = tt
 pub any-post : {A B : Type 0} (x : Ans A) (n : ℕ) (f : A → ℕ → Res B) (R : B → ℕ → Type 0) → ((a : A) → Post (f a n) R) → Post (chain (lifted x n) f) R
 any-post (got a) n f R k = k a
 any-post (bad r) n f R k = tt
+
+-- An answer is known by its equation, and a test that passes by the test.
+pub known-every : {A : Type 0} (x : Ans A) → Every x (λ a. x ≡ got a)
+known-every (got a) = refl
+known-every (bad r) = tt
+
+pub check-every : (t : Bool) (r : Refusal) → Every (check t r) (λ _. t ≡ true)
+check-every true r = refl
+check-every false r = tt
 
 pub then-every : {A B : Type 0} (x : Ans A) (f : A → Ans B) (Q : A → Type 0) (R : B → Type 0) → Every x Q → ((a : A) → Q a → Every (f a) R) → Every (andThen x f) R
 then-every (got a) f Q R q k = k a q

@@ -50,7 +50,7 @@ abs-order : sortOf "(func 2 () Int)" ≡ (9 ∷ 0 ∷ 9 ∷ 1 ∷ 1 ∷ [])
 unfolding parseComputes
 abs-order = refl
 
--- 10 comes behind the body, 11 before the size.
+-- 10 comes behind the body; 11 before the size's 8, and that before 17.
 name-late : exprOf "(exists ((x Int) (x Int)) nan)" ≡ (9 ∷ [])
 unfolding parseComputes
 name-late = refl
@@ -58,3 +58,21 @@ name-late = refl
 bits-early : exprOf "(lit \"#b2\" 5)" ≡ (11 ∷ [])
 unfolding parseComputes
 bits-early = refl
+
+size-unread : exprOf "(lit \"#b1\" 5)" ≡ (8 ∷ [])
+unfolding parseComputes
+size-unread = refl
+
+digits-few : exprOf "(lit \"#b1\" (BitVec Size2))" ≡ (17 ∷ [])
+unfolding parseComputes
+digits-few = refl
+
+-- Every digit counts, the first, too.
+all-digits : exprOf "(lit \"#b101\" (BitVec Size3))" ≡ (35 ∷ 5 ∷ 0 ∷ 0 ∷ 0 ∷ 3 ∷ [])
+unfolding parseComputes
+all-digits = refl
+
+-- A `+` is no digit.
+plus-refused : exprOf "(lit \"#b+1\" (BitVec Size2))" ≡ (11 ∷ [])
+unfolding parseComputes
+plus-refused = refl

@@ -3,12 +3,12 @@ use Prim.Native.Nat.{ℕ, zero, suc, _+_, _-_, _^_}
 use mathlib.Core.Bool.{not}
 use mathlib.Core.List.{List, [], _∷_}
 use lib.Dec.{eqb, ltb}
-use lib.ListN.{length, drop}
+use lib.ListN.{length}
 use Rattle.reading.specs.Pick.{pick}
 use Rattle.reading.specs.Bytes.{ascii, sameBytes, beginsWith, Span, bytesAt}
-use Rattle.reading.specs.Number.{unsigned}
+use Rattle.reading.specs.Number.{below, digits}
 use Rattle.reading.specs.Tree.{Atom, symbol, quoted, integer, decimal, boolean, Tree, Trees, atom, list, tnil, tcons, trees}
-use Rattle.reading.specs.Answer.{Refusal, malformed, decimalRead, repeatedName, badLiteral, Ans, got, bad, andThen, check, Res, ok, no, chain, lifted}
+use Rattle.reading.specs.Answer.{Refusal, malformed, decimalRead, repeatedName, badLiteral, wrongWidth, Ans, got, bad, andThen, check, Res, ok, no, chain, lifted}
 use Rattle.reading.proofs.Picks.{pick-holds}
 use Rattle.reading.proofs.ReadRefusals.{Bad, bad-then, bad-check}
 use Rattle.grammar.specs.Names.{Form, fixed, many, cast, exists, letIn, lit, minus, isCtor, apply}
@@ -16,7 +16,7 @@ use Rattle.grammar.specs.ParseSort.{inList, inAtom, inSymbol, treeAt, pa
 use Rattle.grammar.specs.Expr.{Kind, kNeg, kBin, opSub}
 use Rattle.grammar.specs.Scope.{Scope, repeated, distinct}
 use Rattle.grammar.specs.ParseExpr
-use Rattle.grammar.specs.ParseExpr.{P, Child, childAt, rest, nestedAt, plainAt, operands, nodeForm, minusForm, nameOf, through, throughName, throughValue, letForm, isCtorForm, callForm, quotedIn, eachPred, symbols, kvarForm, exprPred, atomChild, bitsOf}
+use Rattle.grammar.specs.ParseExpr.{P, Child, childAt, rest, nestedAt, plainAt, operands, nodeForm, minusForm, nameOf, through, throughName, throughValue, letForm, isCtorForm, callForm, quotedIn, eachPred, symbols, kvarForm, exprPred, atomChild, digitsIn, bitsOf}
 use Rattle.grammar.specs.ParseBind.{parseBind}
 use Rattle.grammar.specs.ParseSolution.{allNames, allSorts, parseSolution}
 use Rattle.grammar.proofs.SortRefusals
@@ -28,6 +28,7 @@ pub record OfExpr (Q : Refusal → Type 0) : Type 0 where
   pub nine : Q decimalRead
   pub ten : Q repeatedName
   pub eleven : Q badLiteral
+  pub seventeen : Q wrongWidth
 
 -- A refusal, where there is one, is one of these.
 abbrev pub No : {A : Type 0} → (Refusal → Type 0) → Res A → Type 0
@@ -126,7 +127,7 @@ module _ (Q : Refusal → Type 0) (q : OfExpr Q) where
   unfolding bitsOf
   bits-of w =
       bad-then Q (check (beginsWith (ascii "#b") w) malformed) _ (bad-check Q (beginsWith (ascii "#b") w) malformed (q .sort .eight)) λ _.
-      SortRefusals.or-bad Q (q .sort) badLiteral (unsigned 2 (2 ^ 128) (drop 3 w)) (q .eleven)
+      SortRefusals.or-bad Q (q .sort) badLiteral (below (2 ^ 128) (digits 2 (digitsIn w))) (q .eleven)
 
   name-of : (t : Tree) → Bad Q (nameOf t)
   unfolding nameOf
@@ -246,6 +247,7 @@ module _ (Q : Refusal → Type 0) (q : OfExpr Q) where
         no-lifted Q (bitsOf (bytesAt text s)) n _ (bits-of (bytesAt text s)) λ v.
         child-at cs 2 n _ h λ d _.
         no-lifted Q (ParseExpr.widthOf text (d .tree)) n _ (width-of (d .tree)) λ width.
+        no-lifted Q (check (eqb (length (digitsIn (bytesAt text s))) width) wrongWidth) n _ (bad-check Q (eqb (length (digitsIn (bytesAt text s))) width) wrongWidth (q .seventeen)) λ _.
         tt
 
     as-form : (inner : Trees) (cs : List Child) → NoChildren cs → NoP (ParseExpr.asForm text inner cs)

@@ -6,12 +6,14 @@ pub mod SortOf
 pub mod WalkKeeps
 pub mod Forms
 pub mod BindersOf
+pub mod LitForm
 pub mod Walk
 pub mod Exact
 pub mod RuledOut
 pub mod FreshNumbers
 pub mod WalkPreds
 pub mod SolutionOf
+pub mod Literals
 pub mod Shallow
 pub mod Size
 pub mod SizeBind

@@ -1,4 +1,4 @@
--- What holds of an expression holds of it with its fresh numbers raised: it is coded, and scoped.
+-- What holds of an expression holds of it with its fresh numbers raised: it is coded, and scoped, and its literals fit.
 use Prim.Native.Nat.{ℕ, _+_}
 use mathlib.Core.List.{List, [], _∷_, _++_}
 use native.Mathlib.Omega.{arith}
@@ -6,6 +6,7 @@ use Rattle.grammar.specs.Item.{raise, bound}
 use Rattle.grammar.specs.Expr.{Binder, Kind, kNum, kBool, kStr, kBitVec, kFresh, kNamed, kNeg, kBin, kIf, kAnd, kOr, kNot, kImp, kIff, kAtom, kLet, kTheory, kIsCtor, kExists, Expr, Exprs, node, app, enil, econs, exprs, kindItems}
 use Rattle.grammar.specs.Shape.{HasOperands, BindersCoded, KindCoded, Coded, CodedAll}
 use Rattle.grammar.specs.Scoped.{Scoped, ScopedAll}
+use Rattle.grammar.specs.Literals.{LiteralFits, LiteralsFit, AllLiteralsFit}
 use Rattle.grammar.specs.Raise.{raiseBinders, raiseKind, raiseExpr, raiseExprs}
 use Rattle.grammar.proofs.Raise.{exprs-raise, kind-raise, raise-zero}
 
@@ -88,3 +89,39 @@ mutual
   pub scoped-all-raise : (c : ℕ) (es : Exprs) (around : List ℕ) → ScopedAll es c around → ScopedAll (raiseExprs c es) 0 around
   scoped-all-raise c enil around h = tt
   scoped-all-raise c (econs e es) around h = (scoped-raise c e around (h .0), scoped-all-raise c es around (h .1))
+
+-- A literal stays as it is.
+kind-fits-raise : (c : ℕ) (k : Kind) → LiteralFits k → LiteralFits (raiseKind c k)
+unfolding raiseKind
+kind-fits-raise c (kNum v) h = h
+kind-fits-raise c (kBool b) h = h
+kind-fits-raise c (kStr s) h = h
+kind-fits-raise c (kBitVec v width) h = h
+kind-fits-raise c (kFresh k) h = h
+kind-fits-raise c (kNamed x) h = h
+kind-fits-raise c kNeg h = h
+kind-fits-raise c (kBin op) h = h
+kind-fits-raise c kIf h = h
+kind-fits-raise c kAnd h = h
+kind-fits-raise c kOr h = h
+kind-fits-raise c kNot h = h
+kind-fits-raise c kImp h = h
+kind-fits-raise c kIff h = h
+kind-fits-raise c (kAtom r) h = h
+kind-fits-raise c (kLet x) h = h
+kind-fits-raise c (kTheory k) h = h
+kind-fits-raise c (kIsCtor x) h = h
+kind-fits-raise c (kExists bs) h = h
+
+mutual
+  unfolding raiseExpr
+
+  -- An expression whose literals fit has literals that fit when it is raised.
+  pub literals-raise : (c : ℕ) (e : Expr) → LiteralsFit e → LiteralsFit (raiseExpr c e)
+  literals-raise c (node k es) h = (kind-fits-raise c k (h .0), all-literals-raise c es (h .1))
+  literals-raise c (app o es e) h = (all-literals-raise c es (h .0), literals-raise c e (h .1))
+
+  -- The same for several expressions.
+  pub all-literals-raise : (c : ℕ) (es : Exprs) → AllLiteralsFit es → AllLiteralsFit (raiseExprs c es)
+  all-literals-raise c enil h = tt
+  all-literals-raise c (econs e es) h = (literals-raise c e (h .0), all-literals-raise c es (h .1))

@@ -1,4 +1,4 @@
--- What the notions of fresh numbers rule out, a case each.
+-- What the notions of fresh numbers and of literals rule out, a case each.
 use Prim.Native.Nat.{ℕ, _+_, _≤_, _<_, _%_, _/_, _^_}
 use mathlib.Core.Path.{_≡_, refl, ap}
 use mathlib.Core.Logic.{⊎-elim}
@@ -10,11 +10,13 @@ use lib.ListN.{length, drop, getD}
 use borrow.Author.Tests.{eq-eqb, ltb-true, ltb-false}
 use Rattle.reading.specs.Limits.{maxNumber}
 use Rattle.reading.specs.Pick.{pick}
+use Rattle.reading.specs.Number.{wideOf, valueOf}
 use Rattle.grammar.specs.Sort.{sInt, sortWords}
 use Rattle.grammar.specs.Item.{Item, plain, uses, binds, raise, wordsOf, used, bound}
-use Rattle.grammar.specs.Expr.{Expr, leaf, node, oneOf, econs, exprs, Binder, binderItems, kindItems, kFresh, kBool, kAnd, kExists}
+use Rattle.grammar.specs.Expr.{Expr, leaf, node, oneOf, econs, exprs, Binder, binderItems, kindItems, kFresh, kBool, kBitVec, kAnd, kExists}
 use Rattle.grammar.specs.Numbers.{hit, times, Exactly}
 use Rattle.grammar.specs.Scoped.{Scoped, ScopedSolution}
+use Rattle.grammar.specs.Literals.{LiteralsFit}
 
 -- The variable with a fresh number, and an exists that binds one number.
 abbrev variable : ℕ → Expr
@@ -87,3 +89,11 @@ unraised c n h l (binds k ∷ its) a e = absurd (go (ltb k n) refl)
         let high : (c + k) / 2 ^ 32 % 2 ^ 32 ≡ k / 2 ^ 32 % 2 ^ 32 = ap (λ (z : List ℕ). getD z 1 0) e in
         omega (arith, low, high, i)
     go false q = omega (arith, once k, a k (ltb-false k n q))
+
+-- The literal 4 of two digits does not fit, wherever it stands, nor one without digits.
+pub too-large : LiteralsFit (node kAnd (oneOf (leaf (kBitVec (wideOf 4) 2)))) → ⊥
+unfolding wideOf valueOf
+too-large h = omega (arith, h .1 .0 .0 .1)
+
+pub no-digits : LiteralsFit (leaf (kBitVec (wideOf 0) 0)) → ⊥
+no-digits h = omega (arith, h .0 .0)

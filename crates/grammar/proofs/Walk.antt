@@ -11,17 +11,19 @@ use Rattle.reading.specs.Tree.{Atom, symbol, quoted, integer, decimal, boolean,
 use Rattle.reading.specs.Answer.{check, malformed, chain, lifted}
 use Rattle.reading.proofs.Bytes.{begins-length, bytes-length}
 use Rattle.reading.proofs.Picks.{pick-holds}
-use Rattle.grammar.specs.ParseSort.{inList, inAtom, inSymbol, treeAt, parseSort}
+use Rattle.grammar.specs.ParseSort.{inList, inSymbol, treeAt, parseSort}
 use Rattle.grammar.specs.Expr.{Kind, kBitVec, kNeg, opSub, kBin, kLet, kIsCtor, Expr, Exprs, oneOf, enil, econs, exprs}
 use Rattle.grammar.specs.Names.{Form, fixed, many, cast, exists, letIn, lit, minus, isCtor, apply, keywords}
 use Rattle.grammar.specs.Scope.{Scope, varOf, distinct}
 use Rattle.grammar.specs.ParseExpr
-use Rattle.grammar.specs.ParseExpr.{P, Child, childAt, rest, nestedAt, plainAt, operands, nodeForm, minusForm, through, throughName, throughValue, letForm, isCtorForm, callForm, quotedIn, atomChild, orElseForm, bitsOf}
+use Rattle.grammar.specs.ParseExpr.{P, Child, childAt, rest, nestedAt, plainAt, operands, nodeForm, minusForm, through, throughName, throughValue, letForm, isCtorForm, callForm, atomChild, orElseForm}
 use Rattle.grammar.specs.Shape.{HasOperands}
+use Rattle.grammar.specs.Literals.{LiteralOf}
 use Rattle.grammar.proofs.AnswerHolds.{Post, Every, chain-post, lifted-post, any-post, map-post, map-every, lookup-holds}
 use Rattle.grammar.proofs.SortOf.{SortOf, in-list, in-symbol, sort-of}
 use Rattle.grammar.proofs.WalkKeeps.{PlainKind, BindersOf, Kept}
 use Rattle.grammar.proofs.Forms.{NameFrom, NameFromAny, neg-plain, bin-plain, bits-plain, let-plain, ctor-plain, FormFits, keywords-fit, form-fits}
+use Rattle.grammar.proofs.LitForm.{literal-of}
 use Rattle.grammar.proofs.BindersOf.{TreeIn, tree-at, sort-from, binders-of}
 
 module _ (text : List ℕ) (Inv : Tree → List Scope → ℕ → Expr → ℕ → Type 0) (InvAll : Trees → List Scope → ℕ → Exprs → ℕ → Type 0) (kept : Kept text Inv InvAll) where
@@ -117,15 +119,13 @@ module _ (text : List ℕ) (Inv : Tree → List Scope → ℕ → Expr → ℕ �
       kept .onNode ts sc n m (kIsCtor (varOf (record { start = s .start + 3; len = s .len - 3 }))) (oneOf e) (ctor-plain ts (record { start = s .start + 3; len = s .len - 3 }) (λ limit w. omega (arith, f limit w))) refl q
 
   lit-form : (ts : Trees) (cs : List Child) → Keeps (list ts) (ParseExpr.litForm text cs)
-  unfolding ParseExpr.litForm exprs
+  unfolding exprs
   lit-form ts cs sc n =
-      any-post (childAt cs 1) n _ _ λ c.
-      any-post (inAtom (c .tree)) n _ _ λ a.
-      any-post (quotedIn a) n _ _ λ s.
-      any-post (bitsOf (bytesAt text s)) n _ _ λ v.
-      any-post (childAt cs 2) n _ _ λ d.
-      any-post (ParseExpr.widthOf text (d .tree)) n _ _ λ width.
-      kept .onNode ts sc n n (kBitVec (wideOf v) width) enil (bits-plain ts (wideOf v) width) refl (kept .none ts sc n)
+      map-post (ParseExpr.litForm text cs sc n) (λ e m. LiteralOf text cs e × (m ≡ n)) _
+      (λ e m l.
+      let x = l .0 in
+      rw (x .is, l .1) (kept .onNode ts sc n n (kBitVec (wideOf (x .value)) (x .width)) enil (bits-plain ts (wideOf (x .value)) (x .width) (x .some, rw (x .whole) (x .below))) refl (kept .none ts sc n)))
+      (literal-of text cs sc n)
 
   exists-form : (ts : Trees) (cs : List Child) → ChildrenOf ts cs → Keeps (list ts) (ParseExpr.existsForm text cs)
   unfolding ParseExpr.existsForm childAt nestedAt

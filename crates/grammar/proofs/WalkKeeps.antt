@@ -13,15 +13,17 @@ use Rattle.grammar.specs.Expr.{Kind, kBool, kStr, kExists, Expr, Exprs, 
 use Rattle.grammar.specs.Scope.{Scope, numbered, symbolExpr}
 use Rattle.grammar.specs.ParseExpr.{numeral}
 use Rattle.grammar.specs.Shape.{BindersCoded, HasOperands, KindCoded, opensScope}
+use Rattle.grammar.specs.Literals.{LiteralFits}
 use Rattle.grammar.proofs.SortOf.{SortOf}
 
--- A kind that binds and uses no fresh number, and whose fields come from these trees.
+-- A kind that binds and uses no fresh number, and whose fields come from these trees; a literal is below 2^width.
 pub record PlainKind (ts : Trees) (k : Kind) : Type 0 where
   pub uses : (n : ℕ) → used (kindItems k n) ≡ []
   pub binds : (n : ℕ) → bound (kindItems k n) ≡ []
   pub opens : opensScope k ≡ 0
   pub coded : (limit numbers : ℕ) → AllWithin ts limit → KindCoded k limit numbers
   pub size : (n : ℕ) → length (wordsOf (kindItems k n)) ≤ 6
+  pub fits : LiteralFits k
 
 -- The names and sorts of binders that are read from a tree.
 pub record BindersOf (t : Tree) (names : List Span) (sorts : List Sort) : Type 0 where

@@ -7,6 +7,7 @@ pub mod Scope
 pub mod ParseExpr
 pub mod ParseBind
 pub mod ParseSolution
+pub mod Literals
 pub mod Numbers
 pub mod Scoped
 pub mod Shape

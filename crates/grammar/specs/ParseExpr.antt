@@ -7,9 +7,9 @@ use lib.Dec.{eqb, ltb}
 use lib.ListN.{length, drop}
 use Rattle.reading.specs.Pick.{pick}
 use Rattle.reading.specs.Bytes.{ascii, sameBytes, beginsWith, Span, bytesAt, Maybe, nothing, just, lookup}
-use Rattle.reading.specs.Number.{Wide, wideOf, minusOf, valueOf, unsigned}
+use Rattle.reading.specs.Number.{Wide, wideOf, minusOf, valueOf, below, digits}
 use Rattle.reading.specs.Tree.{Atom, symbol, quoted, integer, decimal, boolean, Tree, Trees, atom, list, tnil, tcons, trees}
-use Rattle.reading.specs.Answer.{Ans, got, bad, andThen, orBad, check, malformed, decimalRead, badLiteral, M, _>>=_, chain, done, lifted, fresh}
+use Rattle.reading.specs.Answer.{Ans, got, bad, andThen, orBad, check, malformed, decimalRead, badLiteral, wrongWidth, M, _>>=_, chain, done, lifted, fresh}
 use Rattle.grammar.specs.Sort.{Sort}
 use Rattle.grammar.specs.ParseSort.{inList, inAtom, inSymbol, treeAt, sizeOf, parseSort}
 use Rattle.grammar.specs.Expr.{VarName, Kind, kNum, kBool, kStr, kBitVec, kNeg, kBin, opSub, kLet, kIsCtor, kExists, Expr, Exprs, node, app, leaf, oneOf, enil, econs, Pred, kvar, expr}
@@ -175,9 +175,13 @@ orElseForm is (just f) = f
 orElseForm true nothing = isCtor
 orElseForm false nothing = apply
 
--- The bits of `#b..`: one byte behind `#b` is dropped.
+-- The digits of `#b..`: every byte behind `#b`.
+abbrev pub digitsIn : List ℕ → List ℕ
+digitsIn w = drop 2 w
+
+-- The value of `#b..`: at least one digit, each 0 or 1; 2^128 and more are 11, too.
 unfoldable pub bitsOf : List ℕ → Ans ℕ
-bitsOf w = andThen (check (beginsWith (ascii "#b") w) malformed) λ _. orBad badLiteral (unsigned 2 (2 ^ 128) (drop 3 w))
+bitsOf w = andThen (check (beginsWith (ascii "#b") w) malformed) λ _. orBad badLiteral (below (2 ^ 128) (digits 2 (digitsIn w)))
 
 module _ (text : List ℕ) where
   -- The sort of a `(name sort)`.
@@ -216,7 +220,7 @@ module _ (text : List ℕ) where
       andThen (treeAt ts 1) λ u.
       sizeOf text u
 
-  -- `(lit "#b.." (BitVec SIZE))`.
+  -- `(lit "#b.." (BitVec SIZE))`: there are as many digits as the size says; 17 comes last.
   unfoldable pub litForm : List Child → P
   litForm cs sc = do
     c ← lifted (childAt cs 1)
@@ -225,6 +229,7 @@ module _ (text : List ℕ) where
     v ← lifted (bitsOf (bytesAt text s))
     d ← lifted (childAt cs 2)
     width ← lifted (widthOf (d .tree))
+    _ ← lifted (check (eqb (length (digitsIn (bytesAt text s))) width) wrongWidth)
     done (leaf (kBitVec (wideOf v) width))
 
   unfoldable pub isApplyAtom : Atom → Bool

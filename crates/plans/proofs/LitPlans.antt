@@ -3,13 +3,13 @@ use Prim.Native.Nat.{ℕ, _+_, _≤_, _<_}
 use mathlib.Core.Path.{_≡_, refl, sym, ap, subst, _∙_}
 use mathlib.Core.List.{List, [], _∷_, _++_}
 use native.Mathlib.Omega.{arith}
-use lib.ListN.{length, getD}
-use borrow.Author.Tests.{ne-eqb}
+use lib.ListN.{length, getD, length-drop}
+use borrow.Author.Tests.{eq-eqb, ne-eqb}
 use Rattle.reading.specs.Bytes.{Span, bytesAt}
 use Rattle.reading.specs.Number.{Wide, wideOf}
 use Rattle.lexing.specs.Quads.{asWide}
 use Rattle.reading.specs.Tree.{symbol, quoted, integer, decimal, boolean, Tree, Trees, atom, list, tnil, tcons, trees, atomWords, treeWords}
-use Rattle.reading.specs.Answer.{Refusal, Ans, got, bad, andThen, orBad, malformed, Res, ok, no}
+use Rattle.reading.specs.Answer.{Refusal, Ans, got, bad, andThen, orBad, malformed, wrongWidth, Res, ok, no}
 use Rattle.lexing.specs.declared.quad.Quad.{Quad}
 use Rattle.lexing.specs.declared.number.Word32.{Word32}
 use Rattle.grammar.specs.Scope.{Scope}
@@ -18,7 +18,7 @@ use Rattle.grammar.specs.Expr.{kBitVec, Expr, leaf, exprs, exprItems, exprsItem
 use Rattle.grammar.specs.ParseSort
 use Rattle.grammar.specs.ParseSort.{inList, inAtom, inSymbol, symbolIn, treeAt, sizeNamed}
 use Rattle.grammar.specs.ParseExpr
-use Rattle.grammar.specs.ParseExpr.{childAt, atomChild, quotedIn, bitsOf}
+use Rattle.grammar.specs.ParseExpr.{childAt, atomChild, quotedIn, digitsIn, bitsOf}
 use Rattle.grammar.specs.Written.{told}
 use Rattle.sorts.specs.SortNames.{widthIn}
 use Rattle.places.specs.Spot.{Spot}
@@ -26,6 +26,7 @@ use Rattle.places.specs.Outcome.{Put}
 use Rattle.plans.specs.Plans.{Listed, PlannedList}
 use Rattle.plans.specs.declared.plan.Plan.the-variants.{Leaf}
 use Rattle.grammar.proofs.TreeHead.{no-list, no-symbol}
+use Rattle.grammar.proofs.LitForm.{bits-long}
 use Rattle.places.proofs.Inside.{child-tree}
 use Rattle.places.proofs.Spots.{word0, as-list}
 use Rattle.places.proofs.Rows.{Leading, lead-spot, leading, lead-count, lead-next, list-inside, as-symbol, as-quoted}
@@ -128,9 +129,13 @@ module _ (text : List ℕ) (s : Span) (sc : List Scope) (n : ℕ) where
       unfolding ParseExpr.litForm childAt ParseExpr.child atomChild inAtom quotedIn
       lit-unsized t ts k = rw (e, child-tree text t, k) refl
 
-      lit-whole : (t : Tree) (ts : Trees) {k : ℕ} → ParseExpr.widthOf text t ≡ got k → lit (tcons (atom (quoted x)) (tcons t ts)) ≡ ok (leaf (kBitVec (wideOf v) k)) n
+      lit-uneven : (t : Tree) (ts : Trees) {k : ℕ} → ParseExpr.widthOf text t ≡ got k → (length (digitsIn (bytesAt text x)) ≡ k → ⊥) → lit (tcons (atom (quoted x)) (tcons t ts)) ≡ no wrongWidth
       unfolding ParseExpr.litForm childAt ParseExpr.child atomChild inAtom quotedIn
-      lit-whole t ts k = rw (e, child-tree text t, k) refl
+      lit-uneven t ts {k} y d = rw (e, child-tree text t, y, ne-eqb (length (digitsIn (bytesAt text x))) k d) refl
+
+      lit-whole : (t : Tree) (ts : Trees) {k : ℕ} → ParseExpr.widthOf text t ≡ got k → length (digitsIn (bytesAt text x)) ≡ k → lit (tcons (atom (quoted x)) (tcons t ts)) ≡ ok (leaf (kBitVec (wideOf v) k)) n
+      unfolding ParseExpr.litForm childAt ParseExpr.child atomChild inAtom quotedIn
+      lit-whole t ts {k} y d = rw (e, child-tree text t, y, eq-eqb (length (digitsIn (bytesAt text x))) k d) refl
 
 module _ {text ws : List ℕ} {at w next : ℕ} (s : Span) (us : Trees) (h : Listed text ws at w next (tcons (atom (symbol s)) us)) where
   -- What the list is.
@@ -195,9 +200,17 @@ module _ {text ws : List ℕ} {at w next : ℕ} (s : Span) (us : Trees) (h : Lis
             pub lit-wide : bad malformed ≡ ParseExpr.widthOf text (lit-second l .tree) → whole ≡ no malformed
             lit-wide y = ap (lit text s (h .scopes) next) all-items ∙ lit-unsized text s (h .scopes) next span read (lit-second l .tree) (lit-second l .others) (sym y)
 
-            pub made-lit : (count : ℕ) {k u r : ℕ} {o o₁ o₂ : List ℕ} → got k ≡ ParseExpr.widthOf text (lit-second l .tree) → Put o w (35 ∷ g .a ∷ g .b ∷ g .c ∷ g .d ∷ []) o₁ u → Put o₁ u (k ∷ []) o₂ r
+            -- How many digits there are.
+            digits-are : length (digitsIn (bytesAt text span)) + 2 ≡ length v
+            digits-are = rw (← b) (omega (arith, length-drop 2 v, bits-long v (value .number) (value .is)))
+
+            pub lit-many : {k m : ℕ} → got k ≡ ParseExpr.widthOf text (lit-second l .tree) → m ≡ k → (length v ≡ 2 + m → ⊥) → whole ≡ no wrongWidth
+            lit-many y i d =
+                ap (lit text s (h .scopes) next) all-items ∙ lit-uneven text s (h .scopes) next span read (lit-second l .tree) (lit-second l .others) (sym y) (λ z. d (omega (arith, digits-are)))
+
+            pub made-lit : (count : ℕ) {k m u r : ℕ} {o o₁ o₂ : List ℕ} → got k ≡ ParseExpr.widthOf text (lit-second l .tree) → m ≡ k → length v ≡ 2 + m → Put o w (35 ∷ g .a ∷ g .b ∷ g .c ∷ g .d ∷ []) o₁ u → Put o₁ u (k ∷ []) o₂ r
                 → PlannedList text count ws at w next (tcons (atom (symbol s)) us) h (told count whole) o o₂ (Leaf r)
             unfolding exprItems exprsItems kindItems exprs raise wordsOf
-            made-lit count {k} {u} {r} {o} {o₁} {o₂} y p t =
-                rw (ap (lit text s (h .scopes) next) all-items ∙ lit-whole text s (h .scopes) next span read (lit-second l .tree) (lit-second l .others) (sym y), value .words)
+            made-lit count {k} {m} {u} {r} {o} {o₁} {o₂} y i d p t =
+                rw (ap (lit text s (h .scopes) next) all-items ∙ lit-whole text s (h .scopes) next span read (lit-second l .tree) (lit-second l .others) (sym y) (omega (arith, digits-are)), value .words)
                 (leaf-made (list (tcons (atom (symbol s)) us)) (put-append (35 ∷ g .a ∷ g .b ∷ g .c ∷ g .d ∷ []) (k ∷ []) p t) (omega (arith, p .is, t .is)))

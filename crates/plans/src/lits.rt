@@ -18,6 +18,7 @@ use places::expr_words::put1;
 use places::place::words_at;
 use sorts::names::size_named;
 use words::expr_kinds::BIT_VEC;
+use words::number::word_to_length;
 use words::span::bytes_at;
 use words::tree_kinds::LIST;
 use words::tree_kinds::QUOTED;
@@ -41,7 +42,7 @@ fn width_at(text: &[u8], tree: &[u32], at: usize) -> Word32
     size_named(bytes_at(text, tree[size + 1], tree[size + 2]))
 }
 
-// `(lit "#b.." (BitVec SIZE))`: the bits are judged before the size.
+// `(lit "#b.." (BitVec SIZE))`: the bits are judged before the size, and then how many digits there are behind `#b`.
 pub fn lit_plan(text: &[u8], tree: &[u32], at: usize, next: u64, out: &mut [u32], w: usize) -> Plan
     requires { ⌜ Headed (now text) (now tree) at w next ⌝ }
     ensures { λ r. ⌜ ((s : Span) (us : Trees) (h : Listed (now (text .entry)) (now (tree .entry)) at w next (tcons (atom (symbol s)) us)) (count : ℕ) → PlannedList (now (text .entry)) count (now (tree .entry)) at w next (tcons (atom (symbol s)) us) h (told count (litForm (now (text .entry)) (children (now (text .entry)) (tcons (atom (symbol s)) us)) (h .scopes) next)) (now (out .entry)) (now (out .exit)) r) ⌝ }
@@ -53,7 +54,8 @@ pub fn lit_plan(text: &[u8], tree: &[u32], at: usize, next: u64, out: &mut [u32]
     if tree[at + 6] != QUOTED {
         return Plan::Stop(8);
     }
-    match bits_of(bytes_at(text, tree[at + 7], tree[at + 8])) {
+    let name = bytes_at(text, tree[at + 7], tree[at + 8]);
+    match bits_of(name) {
         Bits::No => Plan::Stop(8),
         Bits::Bad => Plan::Stop(11),
         Bits::Is(q) => {
@@ -63,6 +65,9 @@ pub fn lit_plan(text: &[u8], tree: &[u32], at: usize, next: u64, out: &mut [u32]
             match width_at(text, tree, at + 9) {
                 Word32::No => Plan::Stop(8),
                 Word32::Is(width) => {
+                    if name.len() != 2 + word_to_length(width) {
+                        return Plan::Stop(17);
+                    }
                     let v = put_wide(out, w, BIT_VEC, q);
                     Plan::Leaf(put1(out, v, width))
                 }

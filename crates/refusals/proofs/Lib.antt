@@ -4,3 +4,4 @@ pub mod JudgeRefusals
 pub mod FlattenRefusals
 pub mod SmtlibRefusals
 pub mod Roomy
+pub mod Literals

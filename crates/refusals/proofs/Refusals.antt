@@ -139,7 +139,7 @@ sort-has = record { eight = refl; twelve = refl }
 
 expr-has : OfExpr (Among ofExpr)
 unfolding isAmong pick
-expr-has = record { sort = record { eight = refl; twelve = refl }; nine = refl; ten = refl; eleven = refl }
+expr-has = record { sort = record { eight = refl; twelve = refl }; nine = refl; ten = refl; eleven = refl; seventeen = refl }
 
 -- The refusals before 13.
 early-among : (op : Op) (text tree : List ℕ) → No (λ s. isAmong (number s) (refusalsOf op) ≡ true) (make op text tree 0)
@@ -232,7 +232,7 @@ reading-not =
 
 expr-not : OfExpr NotSeven
 expr-not =
-    record { sort = record { eight = λ e. omega arith; twelve = λ e. omega arith }; nine = λ e. omega arith; ten = λ e. omega arith; eleven = λ e. omega arith }
+    record { sort = record { eight = λ e. omega arith; twelve = λ e. omega arith }; nine = λ e. omega arith; ten = λ e. omega arith; eleven = λ e. omega arith; seventeen = λ e. omega arith }
 
 tree-not : (text tree : List ℕ) → 5 * length text ≤ length tree → OfTree NotSeven text tree
 tree-not text tree l =

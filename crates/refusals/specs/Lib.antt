@@ -1,3 +1,4 @@
 pub mod Refusals
 pub mod Met
 pub mod Needed
+pub mod Literals

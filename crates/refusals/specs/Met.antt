@@ -53,6 +53,7 @@ calls expression =
     ∷ text expression "(lit\"#b\")"
     ∷ text expression "((1 apply(func 65()a)))"
     ∷ atLast expression "(exists((a a))1)"
+    ∷ text expression "(lit\"#b0\"(1 Size2))"
     ∷ [])
 calls bind =
     inReading bind ""
@@ -62,6 +63,7 @@ calls bind =
     ∷ text bind "((a a)(lit\"#b\"))"
     ∷ text bind "((a(func 65()a)))"
     ∷ atLast bind "((a a)(exists((a a))1))"
+    ∷ text bind "((a a)(lit\"#b0\"(1 Size2)))"
     ∷ [])
 calls solution =
     inReading solution ""
@@ -71,6 +73,7 @@ calls solution =
     ∷ text solution "(1()(lit\"#b\"))"
     ∷ text solution "(1((a(func 65()a)))1)"
     ∷ atLast solution "(1((a a))1)"
+    ∷ text solution "(1()(lit\"#b0\"(1 Size2)))"
     ∷ [])
 
 -- The number of a refusal; none is 0.
@@ -92,6 +95,19 @@ met-all sort = refl
 met-all expression = refl
 met-all bind = refl
 met-all solution = refl
+
+-- 15 for a literal is met by stored words, as those of the literal 2 of one digit; one that is read is written.
+pub stored-literal : smtlibSaid (0 ∷ 35 ∷ 2 ∷ 0 ∷ 0 ∷ 0 ∷ 1 ∷ []) [] [] ≡ refused 15
+unfolding smtComputes
+stored-literal = refl
+
+pub read-literal : outcome (roomyCall solution (ascii "(1()(lit\"#b1\"(1 Size1)))")) 0 .said ≡ accepted 7 0
+unfolding readerComputes
+read-literal = refl
+
+pub literal-written : smtlibSaid (0 ∷ 35 ∷ 1 ∷ 0 ∷ 0 ∷ 0 ∷ 1 ∷ []) [] (replicate 12 0) ≡ accepted 12 0
+unfolding smtComputes
+literal-written = refl
 
 -- Numbers that stand in no list of theirs.
 pub not-among : (op : Op) → isAmong 14 (refusalsOf op) ≡ false

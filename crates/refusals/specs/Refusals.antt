@@ -16,7 +16,7 @@ unfoldable pub isAmong : ℕ → List ℕ → Bool
 isAmong r [] = false
 isAmong r (x ∷ xs) = pick (eqb r x) true (isAmong r xs)
 
--- "Refusals by operation" of document 01: those of reading, and what a sort and an expression add.
+-- "Refusals by operation" of document 01, and 17 by request C-13: those of reading, and what a sort and an expression add.
 abbrev pub ofReading : List ℕ
 ofReading = 1 ∷ 2 ∷ 3 ∷ 4 ∷ 5 ∷ 6 ∷ 7 ∷ []
 
@@ -24,7 +24,7 @@ abbrev pub ofSort : List ℕ
 ofSort = 8 ∷ 12 ∷ []
 
 abbrev pub ofExpr : List ℕ
-ofExpr = 8 ∷ 9 ∷ 10 ∷ 11 ∷ 12 ∷ 13 ∷ []
+ofExpr = 8 ∷ 9 ∷ 10 ∷ 11 ∷ 12 ∷ 13 ∷ 17 ∷ []
 
 -- The refusals of an operation.
 abbrev pub refusalsOf : Op → List ℕ

@@ -27,9 +27,15 @@ struct State {
     first: u64,
 }
 
+// Fewer bytes than these are read.
+const ROOM: usize = 524288;
+
 fn main() {
-    let mut data = [0u8; 163840];
+    let mut data = [0u8; ROOM];
     let n = io::read_full(0, &mut data);
+    if n == ROOM {
+        io::write_all(1, b"there are more lines than can be read\n");
+    }
     let state = replay(&data[..n]);
     io::print_decimal(1, state.answers);
     io::write_all(1, b" answers replayed\n");

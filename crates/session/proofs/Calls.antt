@@ -8,7 +8,7 @@ use lib.Dec.{leb}
 use lib.ListN.{length}
 use Rattle.reading.specs.Limits.{maxNumber}
 use Rattle.reading.specs.Pick.{pick}
-use Rattle.reading.specs.Answer.{Refusal, tooLong, notUtf8, endsEarly, strayClose, unclosed, tooDeep, noRoom, malformed, decimalRead, repeatedName, badLiteral, badFunc, unwritable, unprintable, number, numbersSpent, andThen, check, Res, ok, no, Final, accepts, refuses, finish, accepted, refused, zeros, over, saidOf, countOf, outputOf}
+use Rattle.reading.specs.Answer.{Refusal, tooLong, notUtf8, endsEarly, strayClose, unclosed, tooDeep, noRoom, malformed, decimalRead, repeatedName, badLiteral, badFunc, unwritable, unprintable, wrongWidth, number, numbersSpent, andThen, check, Res, ok, no, Final, accepts, refuses, finish, accepted, refused, zeros, over, saidOf, countOf, outputOf}
 use Rattle.reading.specs.Reading.{readText, readWords}
 use Rattle.reading.proofs.Finish.{finish-spent, finish-short, finish-long}
 use Rattle.grammar.specs.Item.{wordsOf}
@@ -104,6 +104,7 @@ not-spent badLiteral = (omega arith, λ e. omega arith)
 not-spent badFunc = (omega arith, λ e. omega arith)
 not-spent unwritable = (omega arith, λ e. omega arith)
 not-spent unprintable = (omega arith, λ e. omega arith)
+not-spent wrongWidth = (omega arith, λ e. omega arith)
 
 -- An accepted call does not report a refusal.
 apart : (a b r : ℕ) → accepted a b ≡ refused r → ⊥

@@ -13,7 +13,7 @@ use Rattle.reading.specs.Number.{valueOf}
 use Rattle.reading.specs.Answer.{Ans, got, bad, andThen, check, unwritable}
 use Rattle.grammar.specs.Sort.{cSet, cMap, cData, Sort, Sorts, sInt, sBool, sReal, sStr, sBitVec, sSize, sVar, sFunc, sAbs, sApp, snil, scons, sorts}
 use Rattle.grammar.specs.Expr.{relEq, Binder, Kind, kNum, kBool, kStr, kBitVec, kFresh, kNamed, kNeg, kBin, kIf, kAnd, kOr, kNot, kImp, kIff, kAtom, kLet, kTheory, kIsCtor, kExists, Expr, Exprs, node, app, enil, econs, Solution}
-use Rattle.grammar.proofs.AnswerHolds.{Every, then-every}
+use Rattle.grammar.proofs.AnswerHolds.{Every, check-every, then-every}
 use Rattle.smt.specs.SexpBack.{then}
 use Rattle.smt.specs.Term.{Ident, plainIdent, SmtSort, SmtSorts, Var, Term, tnum, tstr, tid, tapp, Terms, tnil, tcons, terms, Closed, closedBytes}
 use Rattle.smt.specs.TermBack.{readClosed}
@@ -166,10 +166,6 @@ width-is (sFunc s t) = tt
 width-is (sAbs i s) = tt
 width-is (sApp c ss) = tt
 
-check-known : (t : Bool) → Every (check t unwritable) (λ u. t ≡ true)
-check-known true = refl
-check-known false = tt
-
 module _ (text : List ℕ) where
   bytes-are : (s : Span) → Every (bytesOf text s) (λ n. n ≡ bytesAt text s)
   unfolding bytesOf
@@ -218,7 +214,7 @@ module _ (text : List ℕ) where
     sort-means (sAbs i s) = tt
     sort-means (sApp cSet ss) = tt
     sort-means (sApp cMap ss) =
-        then-every (check (eqb (sorts ss) 2) unwritable) _ (λ u. eqb (sorts ss) 2 ≡ true) (SortMeans (sApp cMap ss)) (check-known (eqb (sorts ss) 2)) λ u e.
+        then-every (check (eqb (sorts ss) 2) unwritable) _ (λ u. eqb (sorts ss) 2 ≡ true) (SortMeans (sApp cMap ss)) (check-every (eqb (sorts ss) 2) unwritable) λ u e.
         then-every (sortsOf text ss) _ (SortsMean ss) (SortMeans (sApp cMap ss)) (sorts-mean ss) λ ts h. rw h (array-means ss e)
     sort-means (sApp (cData s) ss) =
         then-every (symbolOf text "s " s) _ (λ n. n ≡ ascii "s " ++ bytesAt text s) (SortMeans (sApp (cData s) ss)) (symbol-is "s " s) λ n e.

@@ -2,5 +2,6 @@ pub mod Shown
 pub mod Table
 pub mod Readings
 pub mod ReadingsParsed
+pub mod ReadingsLiterals
 pub mod Bounds
 pub mod Slices

@@ -19,7 +19,7 @@ differences =
     ∷ asked sort "(func 18446744073709551617 () Int)" (refusal 12)
     ∷ asked sort "(func -1 () Int)" (refusal 12)
     ∷ asked sort "(func 65 (5) Int)" (refusal 12)
-    -- nothing behind `#b`, and a character of two bytes, the second of which is the rest
+    -- no digit behind `#b`, and a character of two bytes
     ∷ asked expression "(lit \"#b\" (BitVec Size3))" (refusal 11)
     ∷ askedBytes expression (ascii "(lit \"#b" ++ (195 ∷ 169 ∷ []) ++ ascii "\" (BitVec Size3))") (refusal 11)
     -- too many lists, too many bytes, no UTF-8

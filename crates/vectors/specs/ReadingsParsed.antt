@@ -6,7 +6,7 @@ use mathlib.Core.List.{List, [], _∷_, _++_}
 use lib.ListN.{replicate}
 use Rattle.reading.specs.Bytes.{ascii}
 use Rattle.session.specs.Session.{sort, expression, bind, solution}
-use Rattle.vectors.specs.Shown.{refusal, words, Asked, asks, asked, askedBytes, lending, tells, told, Flat, flat, flatInto, flattensTo, flatAnswers}
+use Rattle.vectors.specs.Shown.{refusal, words, Asked, asks, asked, lending, tells, told, Flat, flat, flatInto, flattensTo, flatAnswers}
 
 -- Sorts.
 abbrev pub sortsRead : List Asked
@@ -89,7 +89,7 @@ expressions =
     ∷ asked expression "(cast (and))" (words (42 ∷ 0 ∷ []))
     ∷ asked expression "(cast_as_int (x))" (refusal 8)
     ∷ asked expression "(is$a (x))" (refusal 8)
-    ∷ asked expression "(lit \"#b11\" ((BitVec Size3)))" (refusal 8)
+    ∷ asked expression "(lit \"#b110\" ((BitVec Size3)))" (refusal 8)
     ∷ asked expression "(exists (((x) Int)) x)" (refusal 8)
     ∷ asked expression "(exists (((x Int))) x)" (refusal 8)
     ∷ asked expression "(exists ((x ((Int)))) x)" (refusal 8)
@@ -139,16 +139,6 @@ expressions =
     -- the same after flattening, which writes the head's arguments first
     ∷ asks 0 (lending 128 64 64 solution (ascii "(lambda () ((((as apply Int) f) (exists ((x Int)) x)) (exists ((y Int)) y)))"))
     (words (0 ∷ 38 ∷ 0 ∷ 2 ∷ 51 ∷ 1 ∷ 1 ∷ 0 ∷ 1 ∷ 36 ∷ 1 ∷ 0 ∷ 51 ∷ 1 ∷ 0 ∷ 0 ∷ 1 ∷ 36 ∷ 0 ∷ 0 ∷ 37 ∷ 29 ∷ 1 ∷ []))
-    -- literals: the sort's head is not looked at, one byte is dropped, leading zeros do not count
-    ∷ asked expression "(lit \"#b11\" (5 Size+3) ())" (words (35 ∷ 1 ∷ 0 ∷ 0 ∷ 0 ∷ 3 ∷ []))
-    ∷ asked expression "(lit \"#b1+1\" (BitVec Size3))" (words (35 ∷ 1 ∷ 0 ∷ 0 ∷ 0 ∷ 3 ∷ []))
-    ∷ asked expression "(lit \"#b1\" (BitVec Size3))" (refusal 11)
-    ∷ asked expression "(lit \"#b1+\" (BitVec Size3))" (refusal 11)
-    ∷ asked expression "(lit \"#b1-0\" (BitVec Size3))" (refusal 11)
-    ∷ asked expression "(lit \"#b+\" (BitVec Size3))" (refusal 11)
-    ∷ askedBytes expression (ascii "(lit \"#b1" ++ replicate 130 48 ++ ascii "1\" (BitVec Size3))") (words (35 ∷ 1 ∷ 0 ∷ 0 ∷ 0 ∷ 3 ∷ []))
-    ∷ askedBytes expression (ascii "(lit \"#b1" ++ replicate 128 49 ++ ascii "\" (BitVec Size3))") (words (35 ∷ 4294967295 ∷ 4294967295 ∷ 4294967295 ∷ 4294967295 ∷ 3 ∷ []))
-    ∷ askedBytes expression (ascii "(lit \"#b11" ++ replicate 128 48 ++ ascii "\" (BitVec Size3))") (refusal 11)
     -- operators and relations by their codes
     ∷ asked expression "(+ a b)" (words (40 ∷ 0 ∷ 37 ∷ 3 ∷ 1 ∷ 37 ∷ 5 ∷ 1 ∷ []))
     ∷ asked expression "(- a b)" (words (40 ∷ 1 ∷ 37 ∷ 3 ∷ 1 ∷ 37 ∷ 5 ∷ 1 ∷ []))

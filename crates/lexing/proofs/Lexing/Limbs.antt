@@ -2,7 +2,7 @@
 use Prim.Native.Nat.{ℕ, zero, suc, _+_, _-_, _*_, _/_, _%_, _^_, _<_, _≤_}
 use mathlib.Core.Path.{_≡_, sym, ap, _∙_}
 use native.Mathlib.Omega.{arith}
-use native.Mathlib.Nat.{mul-add, mul-left-comm, mul-suc, mul-le-mul-left, le-trans, le-add-left, add-zero, mul-assoc, mod-eq-of-lt, mod-add-div, div-lt-iff-lt-mul}
+use native.Mathlib.Nat.{mul-add, mul-left-comm, mul-suc, mul-le-mul-left, le-trans, le-add-left, add-zero, mul-assoc, mod-eq-of-lt}
 use Rattle.reading.specs.Number.{Wide, wideOf, valueOf, minusOf}
 use Rattle.lexing.specs.Quads.{Fit, Grows}
 
@@ -46,19 +46,10 @@ high a y h = omega arith
 small : (a : ℕ) → a < 2 ^ 32 → a % 2 ^ 32 ≡ a
 small a h = omega arith
 
--- The words of the number that words stand for, and the number that its words stand for.
+-- The words of the number that words stand for.
 pub wide-back : (w : Wide) → Fit w → wideOf (valueOf w) ≡ w
 unfolding valueOf wideOf
 wide-back w f = rw (low _ _ (f .a), high _ _ (f .a), low _ _ (f .b), high _ _ (f .b), low _ _ (f .c), high _ _ (f .c), small _ (f .d))
-
-three : (x : ℕ) → x < 2 ^ 96 → x % 2 ^ 32 + 2 ^ 32 * (x / 2 ^ 32 % 2 ^ 32 + 2 ^ 32 * (x / 2 ^ 32 / 2 ^ 32 % 2 ^ 32)) ≡ x
-three x h = omega arith
-
-pub value-back : (n : ℕ) → n < 2 ^ 128 → valueOf (wideOf n) ≡ n
-unfolding valueOf wideOf
-value-back n h =
-    let k : n / 2 ^ 32 < 2 ^ 96 = div-lt-iff-lt-mul {k = 2 ^ 32} {x = n} {y = 2 ^ 96} (omega arith) .1 h in
-    ap (λ (y : ℕ). n % 2 ^ 32 + 2 ^ 32 * y) (three (n / 2 ^ 32) k) ∙ mod-add-div n (2 ^ 32)
 
 -- Four words stand for a number below 2^128.
 pub value-fits : (w : Wide) → Fit w → valueOf w < 2 ^ 128

@@ -9,12 +9,13 @@ use borrow.Author.Tests.{ltb-true}
 use Rattle.reading.specs.Pick.{pick}
 use Rattle.reading.specs.Bytes.{Maybe, nothing, just}
 use Rattle.reading.specs.Number.{wideOf, valueOf, below}
+use Rattle.reading.proofs.Values.{value-back}
 use Rattle.lexing.specs.declared.quad.Quad.{Quad}
 use Rattle.lexing.specs.declared.number.Mag.the-variants.{Is, No}
 use Rattle.lexing.specs.declared.number.Word32.the-variants as word32
 use Rattle.lexing.specs.declared.number.Word64.the-variants as word64
 use Rattle.lexing.specs.Quads.{asQuad, asWide, asMag, asWord32, asWord64, numberOf, Fit}
-use Rattle.lexing.proofs.Lexing.Limbs.{wide-back, value-back, value-fits}
+use Rattle.lexing.proofs.Lexing.Limbs.{wide-back, value-fits}
 use Rattle.lexing.proofs.Lexing.Digits.{below-yes, below-no}
 
 -- There is no number, or it is too big, or it is the words'.

@@ -1,6 +1,7 @@
 use mathlib.Core.Path.{sym, _∙_}
 use borrow.Author.Tests.{not-true, not-false}
-use Rattle.forms.proofs.LiteralBits.{bits-not, bits-are}
+use Rattle.forms.proofs.LiteralBits.{bits-not, bits-there, bits-are}
+use native.Mathlib.Omega.{arith}
 use borrow.Author.Needs.{needs}
 use Rattle.forms.proofs.literal.bits_of.Statement.{statement}
 use Rattle.forms.proofs.literal.bits_of.Tie as tie
@@ -14,20 +15,17 @@ begins-with-requires c κs = search needs
 returns : tie.Need-returns
 returns c = bits-not _ (sym (c .before .begins-with .ensures) ∙ not-true _ (c .if1 .taken))
 
-least-requires : tie.Need-least-requires
-least-requires c κs = search needs
+sub-magnitude : tie.Need-sub-magnitude
+sub-magnitude c = omega (arith, bits-there _ (sym (c .before .begins-with .ensures) ∙ not-false _ (c .if1 .left)))
 
-sub-unsigned : tie.Need-sub-unsigned
-sub-unsigned c = search needs
+part-magnitude-start : tie.Need-part-magnitude-start
+part-magnitude-start c = omega (arith, bits-there _ (sym (c .before .begins-with .ensures) ∙ not-false _ (c .if1 .left)))
 
-part-unsigned-start : tie.Need-part-unsigned-start
-part-unsigned-start c = search needs
+part-magnitude-end : tie.Need-part-magnitude-end
+part-magnitude-end c = search needs
 
-part-unsigned-end : tie.Need-part-unsigned-end
-part-unsigned-end c = search needs
-
-unsigned-requires : tie.Need-unsigned-requires
-unsigned-requires c κs = search needs
+magnitude-requires : tie.Need-magnitude-requires
+magnitude-requires c κs = search needs
 
 enum-known-q : tie.Need-enum-known-q
 enum-known-q c = search needs
@@ -36,10 +34,10 @@ enum-told : tie.Need-enum-told
 enum-told c = search needs
 
 returns-2 : tie.Need-returns-2
-returns-2 c = bits-are _ _ (sym (c .before .before .before .before .before .before .before .begins-with .ensures) ∙ not-false _ (c .before .before .before .before .before .before .if1 .left)) (c .before .before .before .before .before .least .ensures) (c .before .before .before .unsigned .ensures) (c .before .q .given .1)
+returns-2 c = bits-are _ _ (sym (c .before .before .before .before .before .before .begins-with .ensures) ∙ not-false _ (c .before .before .before .before .before .if1 .left)) (c .before .before .before .magnitude .ensures) (c .before .q .given .1)
 
 returns-3 : tie.Need-returns-3
-returns-3 c = bits-are _ _ (sym (c .before .before .before .before .before .before .begins-with .ensures) ∙ not-false _ (c .before .before .before .before .before .if1 .left)) (c .before .before .before .before .least .ensures) (c .before .before .unsigned .ensures) (c .enum-told .given .1)
+returns-3 c = bits-are _ _ (sym (c .before .before .before .before .before .begins-with .ensures) ∙ not-false _ (c .before .before .before .before .if1 .left)) (c .before .before .magnitude .ensures) (c .enum-told .given .1)
 
 pub bits-of-spec : {M : Type 1} → statement M
 bits-of-spec =
@@ -48,11 +46,10 @@ bits-of-spec =
     slice-aggregate-begins-with
     begins-with-requires
     returns
-    least-requires
-    sub-unsigned
-    part-unsigned-start
-    part-unsigned-end
-    unsigned-requires
+    sub-magnitude
+    part-magnitude-start
+    part-magnitude-end
+    magnitude-requires
     enum-known-q
     enum-told
     returns-2
