@@ -38,6 +38,13 @@ impl<'t> Call<'t> {
     pub fn roomy(op: Operation, text: &'t [u8]) -> Self {
         Call { op, text, tree: usize::MAX, draft: usize::MAX, out: usize::MAX, count: 0 }
     }
+
+    /// How many words of tree, draft and output are lent: of those that the operation does not take, none.
+    pub fn lent(&self) -> [usize; 3] {
+        let tree = if self.op.takes_tree() { self.tree } else { 0 };
+        let draft = if self.op.takes_draft() { self.draft } else { 0 };
+        [tree, draft, self.out]
+    }
 }
 
 /// A refusal's number, from 1 on.

@@ -8,7 +8,7 @@ use std::fmt::LowerHex;
 const BEHIND: usize = 4;
 
 /// What slices are lent of.
-trait Element: Copy + Default + PartialEq + LowerHex {
+pub trait Element: Copy + Default + PartialEq + LowerHex {
     const NAME: &'static str;
 
     /// One that no answer holds at a place by chance.
@@ -33,7 +33,7 @@ impl Element for u8 {
 }
 
 /// A slice of so many elements as it is lent, and those behind it.
-fn filled<T: Element>(len: usize) -> Vec<T> {
+pub fn filled<T: Element>(len: usize) -> Vec<T> {
     (0..len + BEHIND).map(T::pattern).collect()
 }
 
@@ -59,11 +59,10 @@ fn expected(count: u64, out: usize, should: &Result<Answer, Refusal>) -> (Reply,
 
 /// Calls the library, with slices that are filled with a pattern first; the count of the reader that comes back.
 pub fn call(call: &Call, should: &Result<Answer, Refusal>) -> Result<u64, String> {
-    let tree_len = if call.op.takes_tree() { call.tree } else { 0 };
-    let draft_len = if call.op.takes_draft() { call.draft } else { 0 };
-    let (mut tree, mut draft, mut out) = (filled(tree_len), filled(draft_len), filled(call.out));
-    let reply = ffi::reply(call, &mut tree[..tree_len], &mut draft[..draft_len], &mut out[..call.out]);
-    let (good, out_after) = expected(call.count, call.out, should);
+    let [tree_len, draft_len, out_len] = call.lent();
+    let (mut tree, mut draft, mut out) = (filled(tree_len), filled(draft_len), filled(out_len));
+    let reply = ffi::reply(call, &mut tree[..tree_len], &mut draft[..draft_len], &mut out[..out_len]);
+    let (good, out_after) = expected(call.count, out_len, should);
     let held = || {
         replied(reply, good)?;
         same("output", &out, &out_after)?;
@@ -104,14 +103,14 @@ pub fn smtlib(words: &[u32], text: &[u8], out_len: usize, should: &Result<String
     held().map_err(|e| format!("{}: {e}", shown_solution(words, text, out_len)))
 }
 
-fn replied(reply: Reply, good: Reply) -> Result<(), String> {
+pub fn replied(reply: Reply, good: Reply) -> Result<(), String> {
     if reply != good {
         return Err(format!("{reply:?}, and not {good:?}"));
     }
     Ok(())
 }
 
-fn same<T: Element>(slice: &str, is: &[T], should: &[T]) -> Result<(), String> {
+pub fn same<T: Element>(slice: &str, is: &[T], should: &[T]) -> Result<(), String> {
     match is.iter().zip(should).position(|(a, b)| a != b) {
         Some(at) => Err(format!("{} {at} of the {slice} is {:x}, and not {:x}", T::NAME, is[at], should[at])),
         None => Ok(()),

@@ -1,4 +1,4 @@
-//! Holds the proved library against documents 01 and 02 and against the source, by running.
+//! Holds the proved library against documents 01 and 02, against the source and against another archive of it, by running.
 //!
 //!     compare gate ANSWERS TERMS    the recorded answers of documents 01 and 02, the small stack, and some hundred thousand calls;
 //!                                   a name that is empty stands for no file
@@ -8,6 +8,9 @@
 //!     compare script                what `solsmt` should print for standard input
 //!     compare bench-flatten         the time of flattening
 //!     compare bench-smtlib          the time of writing solutions as SMT-LIB terms, beside that of reading them
+//!     compare beside SHARED SEED MILLIONS [WORD ..]  so many million random calls of all functions against another archive, of which SHARED
+//!                                   is a shared object, behind all small texts; texts that contain one of the words are passed over
+//!     compare bench-beside SHARED [TEXT ..]  the time of solution against another archive, of made texts or of these
 //!     compare reading SEED MILLIONS so many million for read one and read all against sexp.rs, behind all short texts
 //!     compare source SEED MILLIONS  so many million for all operations against parser.rs and constraint.rs, behind all small texts
 //!     compare bench TEXT ..         the time of read one against sexp.rs
@@ -16,6 +19,8 @@
 //! The last four need the source when the program is built.
 
 mod answers;
+mod bench;
+mod beside;
 mod call;
 mod check;
 mod extreme;
@@ -30,6 +35,7 @@ mod random;
 mod reading;
 mod recorded;
 mod sessions;
+mod shared;
 mod smtlib;
 mod solutions;
 #[cfg(flux_source)]
@@ -38,9 +44,11 @@ mod stack;
 mod tally;
 mod timing;
 
+use ffi::Archive;
 use paper::Paper;
 use parsing::Small;
 use random::Random;
+use shared::Shared;
 use std::io::Read;
 
 /// How far a run goes.
@@ -94,6 +102,17 @@ fn terms_held(nodes: usize, random: u64, r: &mut Random) -> Result<(), String> {
     let all = smtlib::run(nodes, random, r)?;
     println!("compare: the paper, Smtlib, these together: {all}: no difference");
     all.meets(&[6, 7, 14, 15, 16])
+}
+
+/// Another archive, that a shared object was made of.
+fn other(path: &str) -> Result<Archive, String> {
+    Archive::of(&Shared::load(path)?)
+}
+
+fn against_other(other: &Archive, words: &[&str], random: u64, r: &mut Random) -> Result<(), String> {
+    let all = beside::run(other, words, GATE.small, random, r)?;
+    println!("compare: the other archive, these together: {all}: no difference");
+    all.meets(&[])
 }
 
 #[cfg(flux_source)]
@@ -161,6 +180,10 @@ fn run(words: &[&str]) -> Result<(), String> {
             smtlib::bench::run();
             Ok(())
         }
+        ["beside", path, seed, millions, words @ ..] => {
+            against_other(&other(path)?, words, number(millions)? * 1_000_000, &mut Random::new(number(seed)?))
+        }
+        ["bench-beside", path, paths @ ..] => beside::bench::run(&other(path)?, paths),
         #[cfg(flux_source)]
         ["reading", seed, millions] => reading_long(seed, millions),
         #[cfg(flux_source)]
@@ -169,10 +192,7 @@ fn run(words: &[&str]) -> Result<(), String> {
             source_held(&size, &mut Random::new(number(seed)?))
         }
         #[cfg(flux_source)]
-        ["bench-solution", paths @ ..] => {
-            source::bench::run(paths);
-            Ok(())
-        }
+        ["bench-solution", paths @ ..] => source::bench::run(paths),
         #[cfg(flux_source)]
         ["bench", paths @ ..] => {
             reading::bench::run(paths);
@@ -180,7 +200,7 @@ fn run(words: &[&str]) -> Result<(), String> {
         }
         #[cfg(not(flux_source))]
         ["reading" | "source" | "bench" | "bench-solution", ..] => Err("built without the source; FLUX_SOURCE names its folder".to_string()),
-        _ => Err("compare gate ANSWERS TERMS | long SEED MILLIONS | smtlib SEED MILLIONS | write | script | reading SEED MILLIONS | source SEED MILLIONS | bench TEXT .. | bench-solution [TEXT ..] | bench-flatten | bench-smtlib".to_string()),
+        _ => Err("compare gate ANSWERS TERMS | long SEED MILLIONS | smtlib SEED MILLIONS | write | script | reading SEED MILLIONS | source SEED MILLIONS | bench TEXT .. | bench-solution [TEXT ..] | bench-flatten | bench-smtlib | beside SHARED SEED MILLIONS [WORD ..] | bench-beside SHARED [TEXT ..]".to_string()),
     }
 }
 

@@ -11,7 +11,7 @@ const LAST: usize = 17;
 pub struct Tally {
     accepted: u64,
     refused: [u64; LAST + 1],
-    /// Texts on which no call was made, since the model has no answer to them.
+    /// Texts on which no call was made, since the model has no answer to them or they are to be passed over.
     excepted: u64,
 }
 

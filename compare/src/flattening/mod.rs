@@ -23,23 +23,31 @@ const ALPHABET: [u32; 11] = [0, 1, 2, 5, 8, 10, 33, 38, 39, 42, 51];
 /// The answer to words, and an output of so many.
 pub type Model = fn(&[u32], usize) -> Result<Answer, Refusal>;
 
+/// Makes calls on words, and counts them.
+pub type Held<'a> = &'a dyn Fn(&[u32], &mut Random, &mut Tally) -> Result<(), String>;
+
 /// Holds flattening against a model, on all lists of up to so many words and in so many random calls, and prints how they ended.
 pub fn run(name: &str, model: Model, small: usize, random: u64, r: &mut Random) -> Result<Tally, String> {
     let mut all = Tally::default();
     (0..=small).try_for_each(|len| every(model, &mut Vec::new(), len, r, &mut all))?;
     println!("compare: {name}, Flatten, all lists of up to {small} words: {all}");
+    Ok(all + run_held(name, &|words, r, tally| words_held(model, words, r, tally), random, r)?)
+}
+
+/// So many random calls with words held in any way.
+pub fn run_held(name: &str, held: Held, calls: u64, r: &mut Random) -> Result<Tally, String> {
     let mut tally = Tally::default();
     let extremes = extremes();
-    while tally.calls() < random {
+    while tally.calls() < calls {
         if r.one_in(3000) {
             let (_, words) = &extremes[r.below(extremes.len())];
-            words_held(model, words, r, &mut tally)?;
+            held(words, r, &mut tally)?;
         } else {
-            words_held(model, &words(r), r, &mut tally)?;
+            held(&words(r), r, &mut tally)?;
         }
     }
     println!("compare: {name}, Flatten, random words: {tally}");
-    Ok(all + tally)
+    Ok(tally)
 }
 
 fn every(model: Model, words: &mut Vec<u32>, len: usize, r: &mut Random, tally: &mut Tally) -> Result<(), String> {
@@ -60,16 +68,21 @@ fn held(model: Model, words: &[u32], out: usize, tally: &mut Tally) -> Result<()
     check::flatten(words, out, &answer)
 }
 
-/// Good words with an output just long enough; any words with one round what they need.
-pub fn words_held(model: Model, words: &[u32], r: &mut Random, tally: &mut Tally) -> Result<(), String> {
+/// The outputs of the calls on words. Good words with one just long enough; any words with one round what they need.
+pub fn outputs(model: Model, words: &[u32], r: &mut Random, mut each: impl FnMut(usize) -> Result<(), String>) -> Result<(), String> {
     let need = match model(words, usize::MAX) {
         Ok(answer) => {
-            held(model, words, answer.words.len(), tally)?;
+            each(answer.words.len())?;
             answer.words.len()
         }
         Err(_) => r.below(8),
     };
-    held(model, words, lengths::length(need, r), tally)
+    each(lengths::length(need, r))
+}
+
+/// Words held against a model.
+pub fn words_held(model: Model, words: &[u32], r: &mut Random, tally: &mut Tally) -> Result<(), String> {
+    outputs(model, words, r, |out| held(model, words, out, tally))
 }
 
 fn words(r: &mut Random) -> Vec<u32> {

@@ -27,15 +27,23 @@ pub use small::Small;
 /// The operations, and of each how many of a hundred calls are its.
 pub const OPERATIONS: [(Operation, u64); 4] = [(Operation::Sort, 12), (Operation::Expression, 28), (Operation::Bind, 20), (Operation::Solution, 40)];
 
+/// Makes calls of an operation on a text, and counts them.
+pub type Held<'a> = &'a dyn Fn(Operation, &[u8], &mut Random, &mut Tally) -> Result<(), String>;
+
 /// Holds the operations against a model, on all texts up to these sizes and in so many calls on random ones, and prints how they ended.
 pub fn run<M: Model>(name: &str, most: Small, calls: u64, r: &mut Random) -> Result<Tally, String> {
+    run_held(name, &text_held::<M>, most, calls, r)
+}
+
+/// The same with texts held in any way.
+pub fn run_held(name: &str, held: Held, most: Small, calls: u64, r: &mut Random) -> Result<Tally, String> {
     let mut all = Tally::default();
     for (op, share) in OPERATIONS {
-        let small = each::<M>(op, r, |each| small::texts(op, most, each))?;
+        let small = each(held, op, r, |each| small::texts(op, most, each))?;
         println!("compare: {name}, {op:?}, all small texts: {small}");
-        let words = each::<M>(op, r, |each| words::texts(each))?;
+        let words = each(held, op, r, |each| words::texts(each))?;
         println!("compare: {name}, {op:?}, every word in every place: {words}");
-        let random = random::<M>(op, calls * share / 100, r)?;
+        let random = random(held, op, calls * share / 100, r)?;
         println!("compare: {name}, {op:?}, random texts: {random}");
         all = all + small + words + random;
     }
@@ -85,46 +93,55 @@ fn one_short<'t>(call: Call<'t>, r: &mut Random) -> Call<'t> {
     }
 }
 
-/// A good text with slices just long enough, and one of them a word short; any text with slices and a count round what it needs.
-fn text_held<M: Model>(op: Operation, text: &[u8], r: &mut Random, tally: &mut Tally) -> Result<(), String> {
+/// The calls on a text. A good text with slices just long enough, and one of them a word short; any text with slices and a count round what
+/// it needs.
+pub fn calls(
+    model: &impl Model, op: Operation, text: &[u8], r: &mut Random, mut each: impl FnMut(&Call) -> Result<(), String>,
+) -> Result<(), String> {
+    let needs = needs(model, op, text, r);
+    if needs.accepted {
+        each(&needs.call)?;
+        if r.one_in(4) {
+            each(&one_short(needs.call, r))?;
+        }
+    }
+    let call = needs.about(r);
+    each(&Call { count: lengths::count(needs.numbers, r), ..call })
+}
+
+/// A text held against a model.
+pub fn text_held<M: Model>(op: Operation, text: &[u8], r: &mut Random, tally: &mut Tally) -> Result<(), String> {
     let model = M::new(op, text);
     if model.excepted() {
         tally.except();
         return Ok(());
     }
-    let needs = needs(&model, op, text, r);
-    if needs.accepted {
-        held(&model, &needs.call, tally)?;
-        if r.one_in(4) {
-            held(&model, &one_short(needs.call, r), tally)?;
-        }
-    }
-    let call = needs.about(r);
-    held(&model, &Call { count: lengths::count(needs.numbers, r), ..call }, tally)
+    calls(&model, op, text, r, |call| held(&model, call, tally))
 }
 
 /// Every text that `texts` hands on.
-pub fn each<M: Model>(op: Operation, r: &mut Random, texts: impl FnOnce(&mut dyn FnMut(&[u8]))) -> Result<Tally, String> {
+pub fn each(held: Held, op: Operation, r: &mut Random, texts: impl FnOnce(&mut dyn FnMut(&[u8]))) -> Result<Tally, String> {
     let mut tally = Tally::default();
     let mut result = Ok(());
     texts(&mut |text| {
         if result.is_ok() {
-            result = text_held::<M>(op, text, r, &mut tally);
+            result = held(op, text, r, &mut tally);
         }
     });
     result.map(|()| tally)
 }
 
-/// At least `n` calls on random texts.
-fn random<M: Model>(op: Operation, n: u64, r: &mut Random) -> Result<Tally, String> {
+/// At least `n` calls on random texts; what only reads is given those of all the others.
+pub fn random(held: Held, op: Operation, n: u64, r: &mut Random) -> Result<Tally, String> {
     let mut tally = Tally::default();
     let extremes = extreme::texts();
     while tally.calls() < n {
         if r.one_in(1500) {
             let (_, text) = &extremes[r.below(extremes.len())];
-            text_held::<M>(op, text.as_bytes(), r, &mut tally)?;
+            held(op, text.as_bytes(), r, &mut tally)?;
         } else {
-            text_held::<M>(op, &text(op, r), r, &mut tally)?;
+            let of = if op.takes_tree() { op } else { r.pick(&OPERATIONS).0 };
+            held(op, &text(of, r), r, &mut tally)?;
         }
     }
     Ok(tally)

@@ -30,6 +30,9 @@ const SORTS: &[&[u32]] = &[
 /// The text of these: one byte that a name may have, and one that it may not.
 const TEXT: &[u8] = b"x|";
 
+/// Makes calls on a solution's words and a text, and counts them.
+pub type Held<'a> = &'a dyn Fn(&[u32], &[u8], &mut Random, &mut Tally) -> Result<(), String>;
+
 /// The recorded answers: the paper gives all of them, and so does the library. How many there were.
 pub fn recorded(path: &str) -> Result<usize, String> {
     let file = std::fs::read_to_string(path).map_err(|e| format!("{path}: {e}"))?;
@@ -53,19 +56,24 @@ pub fn run(small: usize, random: u64, r: &mut Random) -> Result<Tally, String> {
         every(&mut vec![1, 7, 0], SORTS, nodes, &[33, 1], r, &mut all)?;
     }
     println!("compare: the paper, Smtlib, all bodies and sorts of up to {small} nodes: {all}");
+    Ok(all + run_held("the paper", &solution_held, random, r)?)
+}
+
+/// So many random calls with solutions held in any way.
+pub fn run_held(name: &str, held: Held, calls: u64, r: &mut Random) -> Result<Tally, String> {
     let mut tally = Tally::default();
     let extremes = extremes();
-    while tally.calls() < random {
+    while tally.calls() < calls {
         if r.one_in(20_000) {
             let Extreme { words, text, .. } = &extremes[r.below(extremes.len())];
-            solution_held(words, text, r, &mut tally)?;
+            held(words, text, r, &mut tally)?;
         } else {
             let (words, text) = solution(r);
-            solution_held(&words, &text, r, &mut tally)?;
+            held(&words, &text, r, &mut tally)?;
         }
     }
-    println!("compare: the paper, Smtlib, random solutions: {tally}");
-    Ok(all + tally)
+    println!("compare: {name}, Smtlib, random solutions: {tally}");
+    Ok(tally)
 }
 
 /// All lists of so many nodes behind some words, with others behind them.
@@ -88,21 +96,27 @@ fn held(words: &[u32], text: &[u8], out: usize, tally: &mut Tally) -> Result<(),
     check::smtlib(words, text, out, &answer)
 }
 
-/// A good solution with a slice just long enough, one byte short, and of none; any solution with one round what it needs.
-fn solution_held(words: &[u32], text: &[u8], r: &mut Random, tally: &mut Tally) -> Result<(), String> {
+/// The outputs of the calls on a solution. A good one with a slice just long enough, one byte short, and of none; any with one round what it
+/// needs.
+pub fn outputs(words: &[u32], text: &[u8], r: &mut Random, mut each: impl FnMut(usize) -> Result<(), String>) -> Result<(), String> {
     let need = match paper::smtlib(words, text, usize::MAX) {
         Ok(written) => {
-            held(words, text, written.len(), tally)?;
+            each(written.len())?;
             match r.below(8) {
-                0 => held(words, text, written.len() - 1, tally)?,
-                1 => held(words, text, 0, tally)?,
+                0 => each(written.len() - 1)?,
+                1 => each(0)?,
                 _ => {}
             }
             written.len()
         }
         Err(_) => r.below(40),
     };
-    held(words, text, lengths::length(need, r), tally)
+    each(lengths::length(need, r))
+}
+
+/// A solution held against the paper.
+fn solution_held(words: &[u32], text: &[u8], r: &mut Random, tally: &mut Tally) -> Result<(), String> {
+    outputs(words, text, r, |out| held(words, text, out, tally))
 }
 
 fn solution(r: &mut Random) -> Lent {

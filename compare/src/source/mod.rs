@@ -48,7 +48,7 @@ fn extremes(r: &mut Random) -> Result<Tally, String> {
     let mut all = Tally::default();
     let texts = extreme::texts();
     for (op, _) in parsing::OPERATIONS {
-        all = all + parsing::each::<Source>(op, r, |each| texts.iter().for_each(|(_, text)| each(text.as_bytes())))?;
+        all = all + parsing::each(&parsing::text_held::<Source>, op, r, |each| texts.iter().for_each(|(_, text)| each(text.as_bytes())))?;
     }
     for (_, words) in flattening::extremes() {
         flattening::words_held(flatten::flatten, &words, r, &mut all)?;

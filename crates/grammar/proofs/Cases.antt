@@ -5,11 +5,12 @@ use mathlib.Core.Path.{_≡_, refl}
 use mathlib.Core.List.{List, [], _∷_}
 use lib.ListN.{replicate}
 use Rattle.reading.specs.Bytes.{ascii}
-use Rattle.reading.specs.Answer.{number, Res, ok, no, chain, lifted}
+use Rattle.reading.specs.Answer.{wrongWidth, number, Res, ok, no, chain, lifted}
 use Rattle.grammar.specs.Sort.{sortWords}
 use Rattle.grammar.specs.Item.{wordsOf}
 use Rattle.grammar.specs.Expr.{exprItems, solutionItems}
 use Rattle.grammar.specs.ParseSolution.{parseSolution}
+use Rattle.grammar.specs.OtherRule.{headedBy, listExprBy, listChildBy, childBy, litName}
 use Rattle.grammar.specs.Operations.{theTree, makeSort, makeExpr}
 use Rattle.grammar.specs.Compute.{parseComputes}
 
@@ -76,3 +77,16 @@ all-digits = refl
 plus-refused : exprOf "(lit \"#b+1\" (BitVec Size2))" ≡ (11 ∷ [])
 unfolding parseComputes
 plus-refused = refl
+
+-- The same with a rule by which every list that begins with `lit` is 17.
+abbrev ruledOf : String → List ℕ
+ruledOf text = shown (λ e. wordsOf (exprItems e)) (chain (lifted (theTree (ascii text) room) 0) (λ t. childBy (ascii text) litName (λ cs sc n. no wrongWidth) t .plainly []))
+
+-- Such a list is read by the rule, and nothing else is.
+rule-read : ruledOf "(not (lit x))" ≡ (17 ∷ [])
+unfolding parseComputes headedBy listExprBy listChildBy childBy
+rule-read = refl
+
+rule-unread : ruledOf "(not lit)" ≡ (44 ∷ 37 ∷ 5 ∷ 3 ∷ [])
+unfolding parseComputes headedBy listExprBy listChildBy childBy
+rule-unread = refl

@@ -14,6 +14,7 @@ pub mod FreshNumbers
 pub mod WalkPreds
 pub mod SolutionOf
 pub mod Literals
+pub mod OtherRule
 pub mod Shallow
 pub mod Size
 pub mod SizeBind

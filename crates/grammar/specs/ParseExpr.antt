@@ -321,17 +321,20 @@ module _ (text : List ℕ) where
   atomExpr (decimal s) sc = lifted (bad decimalRead)
   atomExpr (boolean b) sc = done (leaf (kBool b))
 
-  -- A list, its items being these.
-  unfoldable pub listChild : Trees → List Child → Child
-  listChild ts cs =
+  -- A list, its items being these, that is read as an expression so.
+  abbrev pub listOf : Trees → List Child → P → Child
+  listOf ts cs p =
       record {
         tree = list ts;
-        plainly = listExpr cs;
-        nested = through cs (listExpr cs);
+        plainly = p;
+        nested = through cs p;
         letName = throughName cs;
         letValue = throughValue cs;
-        preds = listPreds cs (through cs (listExpr cs));
+        preds = listPreds cs (through cs p);
       }
+
+  unfoldable pub listChild : Trees → List Child → Child
+  listChild ts cs = listOf ts cs (listExpr cs)
 
   unfoldable mutual
     pub child : Tree → Child
