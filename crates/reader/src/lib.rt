@@ -71,7 +71,8 @@ impl Reader {
     }
 
     // The expression that a text begins with, not flattened; reports how many words it has, and 0. Refusals: those of `sort`, 9 for a decimal
-    // as an expression, 10 for a repeated name in an exists, 11 for the bits of a `lit`, 13 if the fresh numbers run out.
+    // as an expression, 10 for a repeated name in an exists, 11 for the digits of a `lit`, 17 if there are not as many as its size says, 13 if
+    // the fresh numbers run out.
     pub fn expression(self, text: &[u8], tree: &mut [u32], out: &mut [u32]) -> Answer
         ensures { λ r. ⌜ Promised (exprCall (now (text .entry)) (now (tree .entry)) (now (out .entry))) (self .next) (replied r (now (tree .exit)) [] (now (out .exit))) ⌝ }
     {

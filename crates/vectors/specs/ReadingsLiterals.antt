@@ -37,6 +37,7 @@ literals =
     -- 128 digits and 129: the value is to be below 2^128, and leading zeros do not count against that
     ∷ askedBytes expression (ascii "(lit \"#b" ++ replicate 128 49 ++ ascii "\" (BitVec Size128))") (words (35 ∷ 4294967295 ∷ 4294967295 ∷ 4294967295 ∷ 4294967295 ∷ 128 ∷ []))
     ∷ askedBytes expression (ascii "(lit \"#b" ++ replicate 128 49 ++ ascii "\" (BitVec Size129))") (refusal 17)
+    ∷ askedBytes expression (ascii "(lit \"#b1" ++ replicate 128 48 ++ ascii "\" (BitVec Size129))") (refusal 11)
     ∷ askedBytes expression (ascii "(lit \"#b1" ++ replicate 128 48 ++ ascii "\" (BitVec Size128))") (refusal 11)
     ∷ askedBytes expression (ascii "(lit \"#b1" ++ replicate 128 48 ++ ascii "\")") (refusal 11)
     ∷ askedBytes expression (ascii "(lit \"#b0" ++ replicate 128 49 ++ ascii "\" (BitVec Size129))") (words (35 ∷ 4294967295 ∷ 4294967295 ∷ 4294967295 ∷ 4294967295 ∷ 129 ∷ []))
