@@ -46,6 +46,7 @@ module _ (text name : List ℕ) (rule : List Child → P) where
     all-alike tnil h = refl
     all-alike (tcons t ts) h = ap₂ _∷_ (alike t (h .0)) (all-alike ts (h .1))
 
+  -- So it is where no list begins with the name.
   first-without : (ts : Trees) → NotFirst text name ts → FirstAlike ts
   unfolding headedBy pick
   first-without tnil h = tt
@@ -60,6 +61,7 @@ module _ (text name : List ℕ) (rule : List Child → P) where
     all-without tnil h = tt
     all-without (tcons t ts) h = (without t (h .0), all-without ts (h .1))
 
+-- Any rule, and trees without the name.
 pub otherwise-alike : OtherwiseAlike
 otherwise-alike text name rule t h = alike text name rule t (without text name rule t h)
 
@@ -69,6 +71,7 @@ module _ (text : List ℕ) where
   unfolding beginsWith lookup keywords sameBytes pick
   lit-form w e = rw (same-equal w litName e) refl
 
+  -- So every list is read alike with the rule of literals for that name.
   first-lit : (t : Tree) (cs : List Child) → headedBy text litName (ParseExpr.litForm text) t cs ≡ ParseExpr.headed text t cs
   unfolding headedBy pick ParseExpr.headed ParseExpr.atomHeaded ParseExpr.formOf ParseExpr.parseForm
   first-lit (atom (symbol s)) cs = go (sameBytes (bytesAt text s) litName) refl
@@ -95,5 +98,6 @@ module _ (text : List ℕ) where
     all-lists tnil = tt
     all-lists (tcons t ts) = (all-trees t, all-lists ts)
 
+-- The rule of literals, and all trees.
 pub literals-by-rule : LiteralsByRule
 literals-by-rule text t = alike text litName (ParseExpr.litForm text) t (all-trees text t)
