@@ -183,7 +183,7 @@ fn run(words: &[&str]) -> Result<(), String> {
         ["beside", path, seed, millions, words @ ..] => {
             against_other(&other(path)?, words, number(millions)? * 1_000_000, &mut Random::new(number(seed)?))
         }
-        ["bench-beside", path, paths @ ..] => beside::bench::run(&other(path)?, paths),
+        ["bench-beside", path, paths @ ..] => bench::run(&other(path)?, paths),
         #[cfg(flux_source)]
         ["reading", seed, millions] => reading_long(seed, millions),
         #[cfg(flux_source)]

@@ -1,4 +1,4 @@
-//! The time of solution against that of another archive of the library.
+//! Another archive of the library, as what the time of solution is taken against.
 
 use crate::bench::{self, Slices, Way};
 use crate::call::{Answer, Call, Refusal};
@@ -17,9 +17,4 @@ impl Way for Archive {
     fn time(&self, text: &str, slices: Slices) -> Duration {
         bench::time(|call, tree, draft, out| self.reply(call, tree, draft, out), text, slices)
     }
-}
-
-/// The solutions in these files, or, without one, made ones of several sizes.
-pub fn run(other: &Archive, paths: &[&str]) -> Result<(), String> {
-    bench::run(other, paths)
 }

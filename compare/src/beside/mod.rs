@@ -1,6 +1,6 @@
 //! Another archive of the library, held against the one that is linked: every answer should be the same.
 
-pub mod bench;
+mod bench;
 mod both;
 
 use crate::call::Operation;

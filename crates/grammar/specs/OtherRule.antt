@@ -22,11 +22,12 @@ module _ (text name : List ℕ) where
   isName (atom a) = isNameAtom a
   isName (list ts) = false
 
-  -- No list begins with the name: not this one, nor one inside it.
+  -- A list of these items does not begin with the name.
   abbrev pub NotFirst : Trees → Type 0
   NotFirst tnil = Unit {0}
   NotFirst (tcons t ts) = isName t ≡ false
 
+  -- No list of a tree begins with the name, the tree itself or one inside it.
   abbrev mutual
     pub Without : Tree → Type 0
     Without (atom a) = Unit {0}
@@ -59,10 +60,11 @@ module _ (text name : List ℕ) where
       childrenBy tnil = []
       childrenBy (tcons t ts) = childBy t ∷ childrenBy ts
 
--- With the rule of literals for `lit` this is the parser.
+-- The name that a literal begins with.
 abbrev pub litName : List ℕ
 litName = ascii "lit"
 
+-- With the rule of literals for that name this is the parser.
 abbrev pub LiteralsByRule : Type 0
 LiteralsByRule = (text : List ℕ) (t : Tree) → childBy text litName (litForm text) t ≡ child text t
 

@@ -321,7 +321,7 @@ module _ (text : List ℕ) where
   atomExpr (decimal s) sc = lifted (bad decimalRead)
   atomExpr (boolean b) sc = done (leaf (kBool b))
 
-  -- A list, its items being these, that is read as an expression so.
+  -- A list, its items being these, by how it is read as an expression.
   abbrev pub listOf : Trees → List Child → P → Child
   listOf ts cs p =
       record {
@@ -333,6 +333,7 @@ module _ (text : List ℕ) where
         preds = listPreds cs (through cs p);
       }
 
+  -- The same, read as an expression by its first item.
   unfoldable pub listChild : Trees → List Child → Child
   listChild ts cs = listOf ts cs (listExpr cs)
 
