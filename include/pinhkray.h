@@ -24,7 +24,7 @@ extern "C" {
 
 /* The version of this header. It rises by 1 with every landing that changes what is declared here or what a function
  * answers. Compare it with pinhkray_version(): an archive of another version belongs to another header. */
-#define PINHKRAY_VERSION 3
+#define PINHKRAY_VERSION 4
 
 /* The limits: bytes of a text, lists of a text inside one another, expressions in words inside one another. */
 #define PINHKRAY_MAX_BYTES 32768

@@ -62,12 +62,16 @@ static uint32_t solution(const char *text, uint64_t count) {
 
 static void solutions(void) {
     const char *text = "(lambda ((x Int)) (< x 5))";
+    const uint32_t minus_inf[] = {1, 0, 0, 1, 47, 4, 37, 23, 4, 36, 0, 0};
     const uint32_t first[] = {1, 0, 0, 1, 47, 4, 36, 0, 0, 32, 5, 0, 0, 0};
     const uint32_t second[] = {1, 1, 0, 1, 47, 4, 36, 1, 0, 32, 5, 0, 0, 0};
     CHECK(solution(text, 0) == PINHKRAY_ACCEPTED);
     CHECK(wrote(first, LENGTH(first)) && after == 1);
     CHECK(solution(text, after) == PINHKRAY_ACCEPTED);
     CHECK(wrote(second, LENGTH(second)) && after == 2);
+    CHECK(solution("(lambda ((inf Int)) (< -inf inf))", 0) == PINHKRAY_ACCEPTED);
+    CHECK(wrote(minus_inf, LENGTH(minus_inf)) && after == 1);
+    CHECK(solution("(lambda ((nan Int) (nan Int)) nan)", 2) == PINHKRAY_REPEATED_NAME);
     CHECK(solution("(lambda ((x Int) (x Int)) x)", 2) == PINHKRAY_REPEATED_NAME);
     CHECK(solution("(lambda ((x Int) (x Int)) ())", 2) == PINHKRAY_MALFORMED);
     CHECK(solution(text, UINT64_MAX) == PINHKRAY_NUMBERS_SPENT);
@@ -83,7 +87,8 @@ static void refusals(void) {
     CHECK(solution(")", 0) == PINHKRAY_STRAY_CLOSE);
     CHECK(solution("\"", 0) == PINHKRAY_UNCLOSED);
     CHECK(solution(lists, 0) == PINHKRAY_TOO_DEEP);
-    CHECK(solution("(lambda () nan)", 0) == PINHKRAY_DECIMAL);
+    CHECK(solution("(lambda () 1.5)", 0) == PINHKRAY_DECIMAL);
+    CHECK(solution("(lambda () 1e5)", 0) == PINHKRAY_DECIMAL);
     CHECK(solution("(lambda () (lit \"#b\" (BitVec Size3)))", 0) == PINHKRAY_BAD_BITS);
     CHECK(solution("(lambda () (lit \"#b+1\" (BitVec Size2)))", 0) == PINHKRAY_BAD_BITS);
     CHECK(solution("(lambda () (lit \"#b1\" (BitVec Size)))", 0) == PINHKRAY_MALFORMED);

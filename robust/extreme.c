@@ -60,7 +60,7 @@ static const struct nested nests[] = {
     {"func, outputs", "", "(func 64 () ", LISTS - 1, "Int", ")", ""},
     {"not", "", "(not ", LISTS, "x", ")", ""},
     {"not, seen through", "(not ", "(", LISTS - 1, "x", ")", ")"},
-    {"not, a decimal", "", "(not ", LISTS, "nan", ")", ""},
+    {"not, a decimal", "", "(not ", LISTS, "1.5", ")", ""},
     {"and", "", "(and x ", LISTS, "x", " x)", ""},
     {"or", "", "(or x ", LISTS, "x", " x)", ""},
     {"if", "", "(if x ", LISTS, "x", " x)", ""},

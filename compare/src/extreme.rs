@@ -72,7 +72,7 @@ fn deepest() -> Vec<(&'static str, String)> {
         ("applications, arguments", nest("((not f) ", max - 1, "x", ")")),
         ("apply", nest("((as apply Int) ", max - 1, "f", ")")),
         ("apply, sorts", format!("((as apply {}) f)", nest("(Set_Set ", max - 2, "Int", ")"))),
-        ("a decimal", nest("(not ", max, "nan", ")")),
+        ("a decimal", nest("(not ", max, "1.5", ")")),
         ("a bind's sort", bind(&nest("(Set_Set ", max - 2, "Int", ")"), "($k x)")),
         ("a bind's ands", bind("Int", &nest("(and ", max - 2, "($k x)", ")"))),
         ("a bind's nots", bind("Int", &nest("(not ", max - 1, "x", ")"))),

@@ -1,7 +1,8 @@
 //! Each refusal by its smallest example, what it leaves behind, and the numbers.
 
 use pinhkray::{
-    flatten, flatten_owned, Expr, Reader, Refusal, MAX_BYTES, MAX_EXPRESSIONS, MAX_LISTS,
+    flatten, flatten_owned, Expr, Reader, Refusal, Span, Tree, MAX_BYTES, MAX_EXPRESSIONS,
+    MAX_LISTS,
 };
 use Refusal::*;
 
@@ -31,7 +32,7 @@ fn numbers_of_a_solution() {
         (6, deep.as_bytes()),
         (7, wide.as_bytes()),
         (8, b"a"),
-        (9, b"(lambda () nan)"),
+        (9, b"(lambda () 1.5)"),
         (10, b"(lambda ((x Int) (x Int)) x)"),
         (11, b"(lambda () (lit \"#b\" (BitVec Size3)))"),
         (12, b"(lambda ((x (func 65 () Int))) x)"),
@@ -61,7 +62,7 @@ fn numbers_of_the_others() {
     assert_eq!(reader.read_one(b"(a", &mut []), Err(EndsEarly));
     assert_eq!(reader.sort_owned(b"()"), Err(Malformed));
     assert_eq!(reader.sort_owned(b"(func -1 () Int)"), Err(FuncNumber));
-    assert_eq!(reader.expression_owned(b"nan"), Err(Decimal));
+    assert_eq!(reader.expression_owned(b"1."), Err(Decimal));
     assert_eq!(reader.expression_owned(b"(lit \"#b2\")"), Err(BadBits));
     assert_eq!(
         reader.bind_owned(b"((x Int) (lit \"#b01\" (BitVec Size1)))"),
@@ -71,7 +72,7 @@ fn numbers_of_the_others() {
         reader.expression_owned(b"(exists ((x Int) (x Int)) x)"),
         Err(RepeatedName)
     );
-    assert_eq!(reader.bind_owned(b"((x Int) (nan))"), Err(Decimal));
+    assert_eq!(reader.bind_owned(b"((x Int) (1.5))"), Err(Decimal));
     assert_eq!(reader.bind_owned(b"((x Int))"), Err(Malformed));
     assert_eq!(reader.count(), 0);
     let mut last = Reader::open(u64::MAX);
@@ -130,6 +131,65 @@ fn numbers_of_a_literal() {
         let literal = answer.map(|(bits, width)| Expr::BitVec { bits, width });
         assert_eq!(read, literal, "{items}");
     }
+}
+
+/// A decimal has a digit: `inf`, `infinity` and `nan` are names, in any case, and a sign belongs to the name.
+#[test]
+fn decimals_have_digits() {
+    let mut reader = Reader::open(0);
+    let whole = |text: &str| Span {
+        start: 0,
+        len: text.len() as u32,
+    };
+    for word in [
+        "inf",
+        "-inf",
+        "+nan",
+        "NaN",
+        "Infinity",
+        "-INFINITY",
+        "--inf",
+        "inf0",
+        "nan.",
+    ] {
+        let read = reader.expression_owned(word.as_bytes());
+        assert_eq!(read, Ok(Expr::Var(whole(word))), "{word}");
+        let (tree, _) = reader.read_one_owned(word.as_bytes()).unwrap();
+        assert_eq!(tree, Tree::Symbol(whole(word)), "{word}");
+        let sort = reader.sort_owned(word.as_bytes()).unwrap();
+        assert_eq!(sort.with_text(word.as_bytes()).to_string(), word);
+    }
+    for decimal in [
+        "1e5",
+        ".5",
+        "5.",
+        "-1E-5",
+        "170141183460469231731687303715884105728",
+    ] {
+        assert_eq!(
+            reader.expression_owned(decimal.as_bytes()),
+            Err(Decimal),
+            "{decimal}"
+        );
+        let (tree, _) = reader.read_one_owned(decimal.as_bytes()).unwrap();
+        assert_eq!(tree, Tree::Decimal(whole(decimal)), "{decimal}");
+        assert_eq!(
+            reader.sort_owned(decimal.as_bytes()),
+            Err(Malformed),
+            "{decimal}"
+        );
+    }
+    // Bound by their spelling, and repeated by it.
+    let bound = reader
+        .solution_owned(b"(lambda ((inf Int)) (< inf 5))")
+        .unwrap();
+    assert!(matches!(&bound.body, Expr::Atom(_, es) if matches!(es[0], Expr::Fresh(_))));
+    let other = reader
+        .solution_owned(b"(lambda ((inf Int)) (< -inf 5))")
+        .unwrap();
+    assert!(matches!(&other.body, Expr::Atom(_, es) if matches!(es[0], Expr::Var(_))));
+    let twice = reader.solution_owned(b"(lambda ((nan Int) (nan Int)) 1)");
+    assert_eq!(twice, Err(RepeatedName));
 }
 
 #[test]

@@ -1,4 +1,4 @@
-//! Which texts are numbers. The paper says "what Rust reads", so Rust reads them here.
+//! Which texts are numbers. The paper says "what Rust reads", so Rust reads them here; request C-14 takes three words out.
 
 /// An optional sign and digits, from -2^127 to 2^127 - 1.
 pub fn integer(text: &str) -> Option<i128> {
@@ -7,7 +7,13 @@ pub fn integer(text: &str) -> Option<i128> {
 
 /// Of a text that is no integer: whether it is a decimal. No value is kept.
 pub fn is_decimal(text: &str) -> bool {
-    text.parse::<f64>().is_ok()
+    text.parse::<f64>().is_ok() && !is_word(text)
+}
+
+/// Request C-14: `inf`, `infinity` and `nan`, in any case and with any sign, are symbols.
+fn is_word(text: &str) -> bool {
+    let letters = text.strip_prefix(['+', '-']).unwrap_or(text);
+    ["inf", "infinity", "nan"].iter().any(|word| letters.eq_ignore_ascii_case(word))
 }
 
 /// The width behind `Size`: an optional `+` and digits, below 2^32.

@@ -6,7 +6,7 @@ impl Grower<'_> {
     pub fn bind(&mut self, depth: usize) {
         self.open("(");
         if self.fault() {
-            self.pick(&["5", "()", "\"x\"", "(x)", "true", "nan"]);
+            self.pick(&["5", "()", "\"x\"", "(x)", "true", "1.5"]);
         } else {
             self.name();
         }
@@ -15,7 +15,7 @@ impl Grower<'_> {
             self.sort(3);
         }
         if self.r.one_in(12) {
-            self.put(" nan");
+            self.put(" 1.5");
         }
         self.put(")");
         if !self.fault() {
@@ -23,14 +23,14 @@ impl Grower<'_> {
             self.predicate(depth);
         }
         if self.r.one_in(12) {
-            self.put(" nan");
+            self.put(" 1.5");
         }
         self.close();
     }
 
     fn predicate(&mut self, depth: usize) {
         if self.fault() {
-            self.pick(&["x", "5", "()", "true", "nan", "($k)", "(($k x))", "($k 5)", "($k (x))", "($k x nan)", "(not ($k x))"]);
+            self.pick(&["x", "5", "()", "true", "nan", "($k)", "(($k x))", "($k 5)", "($k (x))", "($k x 1.5)", "(not ($k x))"]);
             return;
         }
         match self.r.below(8) {

@@ -6,7 +6,7 @@ const BYTES: &[u8] = &[
     b'(', b')', b'"', b'@', b' ', b'-', b'+', b'.', b'0', b'1', b'x', b'$', b'#', 0xc2, 0x85, 0xa0, 0xe2, 0x80, 0xff, 0x00, 0xed, 0xf4, 0x90,
 ];
 const TOKENS: &[&str] = &[
-    "(", ")", "()", "and", "or", "not", "exists", "let", "lit", "as", "apply", "func", "is$", "$k", "x", "1", "nan", "65", "Size2", "Size3", "\"#b11\"", "\"#b101\"",
+    "(", ")", "()", "and", "or", "not", "exists", "let", "lit", "as", "apply", "func", "is$", "$k", "x", "1", "1.5", "inf", "65", "Size2", "Size3", "\"#b11\"", "\"#b101\"",
     "BitVec", "Int", "true",
 ];
 

@@ -11,7 +11,7 @@ const FORMS: &[(&str, usize)] = &[
 ];
 
 const BAD_BINDERS: &[&str] = &[
-    "x", "(x)", "(x Int Int)", "(5 Int)", "(\"x\" Int)", "(nan Int)", "((x) Int)", "()", "(x 5)", "((x Int))", "(x Int)(x Int)",
+    "x", "(x)", "(x Int Int)", "(5 Int)", "(\"x\" Int)", "(1.5 Int)", "((x) Int)", "()", "(x 5)", "((x Int))", "(x Int)(x Int)",
 ];
 
 impl Grower<'_> {
@@ -19,6 +19,8 @@ impl Grower<'_> {
         if self.r.one_in(12) {
             let pool = self.r.pick(&[ODD_NAMES, NEARLY]);
             self.pick(pool);
+        } else if self.r.one_in(24) {
+            self.pick(WORDS);
         } else if self.r.one_in(10) {
             self.theory_name();
         } else {
@@ -193,7 +195,7 @@ impl Grower<'_> {
 
     fn apply(&mut self, depth: usize) {
         self.open("(");
-        self.pick(&["as", "as", "as", "5", "nan", "()", "\"as\"", "(x)"]);
+        self.pick(&["as", "as", "as", "5", "nan", "1.5", "()", "\"as\"", "(x)"]);
         self.put(" apply");
         if !self.fault() {
             self.gap();

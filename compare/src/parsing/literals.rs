@@ -24,7 +24,7 @@ impl Grower<'_> {
             self.pick(&["", "Size3", "(BitVec)", "(Size3)", "(BitVec 3)", "(BitVec Size3 Size3)", "((BitVec Size3))", "(BitVec (Size3))", "()"]);
         } else {
             self.put("(");
-            self.pick(&["BitVec", "BitVec", "BitVec", "BitVec", "5", "x", "()", "nan", "\"\"", "Set_Set"]);
+            self.pick(&["BitVec", "BitVec", "BitVec", "BitVec", "5", "x", "()", "1.5", "\"\"", "Set_Set"]);
             self.gap();
             self.width(digits);
             self.put(")");

@@ -178,7 +178,7 @@ fn grown(op: Operation, faults: Option<usize>, r: &mut Random) -> Vec<u8> {
     }
     // What stands behind the expression is not read.
     if g.r.one_in(8) {
-        g.pick(&[" ", ")", " nan", "(", "\"", "\n;", "(()"]);
+        g.pick(&[" ", ")", " 1.5", "(", "\"", "\n;", "(()"]);
     }
     g.text.into_bytes()
 }

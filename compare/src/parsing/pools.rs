@@ -3,9 +3,11 @@
 
 /// Names for variables: few, so that they meet their binders, and some that mean something elsewhere.
 pub const NAMES: &[&str] = &["x", "y", "z", "x", "y", "z", "a", "f", "v"];
+/// What Rust reads as f64 without a digit: names here, each spelling another one.
+pub const WORDS: &[&str] = &["inf", "nan", "inf", "nan", "-inf", "+nan", "Inf", "NAN", "infinity", "-Infinity", "+INFINITY"];
 pub const ODD_NAMES: &[&str] = &[
     "and", "or", "not", "exists", "let", "lit", "if", "cast", "as", "apply", "is$", "is$Cons", "$k", "$", "-", "+", "--5", "=", "<=>", "Int", "Size3",
-    "func", "lambda", "λx", "é", "\u{feff}", "𝒳", "|a", "lq_karg$x##0", "True", "infinit", "1_0", "0x1", "@(0)", "@ x)", "@)", "a@",
+    "func", "lambda", "λx", "é", "\u{feff}", "𝒳", "|a", "lq_karg$x##0", "True", "infinit", "--inf", "+-nan", "inf0", "nan.", "infx", "1_0", "0x1", "@(0)", "@ x)", "@)", "a@",
 ];
 
 pub const KEYWORDS: &[&str] = &[
@@ -22,9 +24,9 @@ pub const NEARLY: &[&str] = &[
 ];
 
 pub const GOOD_SORTS: &[&str] = &[
-    "Int", "int", "Bool", "bool", "Real", "real", "Str", "str", "A", "List", "x", "é", "Int8", "func", "BitVec", "Set_Set", "a@", "siZe3",
+    "Int", "int", "Bool", "bool", "Real", "real", "Str", "str", "A", "List", "x", "é", "Int8", "func", "BitVec", "Set_Set", "a@", "siZe3", "inf", "-NaN",
 ];
-pub const BAD_SORTS: &[&str] = &["5", "-1", "1.5", "nan", "true", "\"Int\"", "()", "((Int))", "(5)", "(\"a\" Int)", "(() Int)"];
+pub const BAD_SORTS: &[&str] = &["5", "-1", "1.5", "true", "\"Int\"", "()", "((Int))", "(5)", "(\"a\" Int)", "(() Int)"];
 
 pub const SIZES: &[&str] = &[
     "Size0", "Size1", "Size2", "Size3", "Size8", "Size64", "Size128", "Size+3", "Size03", "Size+0", "Size2147483647", "Size2147483648", "Size4294967295",
@@ -60,7 +62,7 @@ pub const INTEGERS: &[&str] = &[
     "0000000000000000000000000000000000000000000000000000000000000007",
 ];
 pub const DECIMALS: &[&str] = &[
-    "nan", "1.5", ".5", "5.", "-NaN", "inf", "+Infinity", "1e5", "1E-5",
+    "1.5", ".5", "5.", "-.5", "+5.", "1e5", "1E-5", "+.5e+05", "1e999999999999999999999",
     "170141183460469231731687303715884105728", "-170141183460469231731687303715884105729",
     "340282366920938463463374607431768211455", "340282366920938463463374607431768211456",
 ];
@@ -68,7 +70,7 @@ pub const STRINGS: &[&str] = &["\"\"", "\"a b\"", "\"(\"", "\")\"", "\"é\"", "\
 
 /// Items that refuse wherever they are read, so that they show which are read at all.
 pub const JUNK: &[&str] = &[
-    "nan", "1.5", "()", "(f x)", "(5)", "(5 x)", "(())", "(not)", "(lit \"#b12\" (BitVec Size2))", "(lit \"#b1\" (BitVec Size2))", "((as apply (func 65 () Int)) f)", "(\"a\" b)",
+    "1.5", "()", "(f x)", "(5)", "(5 x)", "(())", "(not)", "(lit \"#b12\" (BitVec Size2))", "(lit \"#b1\" (BitVec Size2))", "((as apply (func 65 () Int)) f)", "(\"a\" b)",
 ];
 
 /// Behind `#b`.

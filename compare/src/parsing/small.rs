@@ -20,23 +20,23 @@ pub struct Alphabet {
 }
 
 const SORTS: Alphabet = Alphabet {
-    heads: &["func", "function", "Set_Set", "Map_t", "BitVec", "A", "@(0)", "1"],
-    items: &["Int", "Size3", "@(1)", "B", "1", "65", "Sizex"],
+    heads: &["func", "function", "Set_Set", "Map_t", "BitVec", "nan", "@(0)", "1"],
+    items: &["Int", "Size3", "@(1)", "inf", "1", "65", "Sizex"],
 };
 
 const EXPRESSIONS: Alphabet = Alphabet {
-    heads: &["not", "and", "or", "if", "-", "+", "<=", "=>", "<=>", "cast", "is$C", "let", "exists", "lit", "f", "as", "5"],
-    items: &["x", "1", "nan", "apply", "Int", "\"#b11\""],
+    heads: &["not", "and", "or", "if", "-", "+", "<=", "=>", "<=>", "cast", "is$C", "let", "exists", "lit", "inf", "as", "5"],
+    items: &["x", "1", "1.5", "apply", "Int", "\"#b11\""],
 };
 
 const BINDS: Alphabet = Alphabet {
-    heads: &["not", "and", "or", "-", "=", "cast", "let", "exists", "$k", "x", "1"],
-    items: &["x", "1", "nan", "Int", "$k", "and"],
+    heads: &["not", "and", "or", "-", "=", "cast", "let", "exists", "$k", "nan", "1"],
+    items: &["nan", "1", "1.5", "Int", "$k", "and"],
 };
 
 const SOLUTIONS: Alphabet = Alphabet {
     heads: &["lambda", "not", "and", "cast", "exists", "f", "as", "x", "1"],
-    items: &["x", "1", "nan", "apply", "Int", "()"],
+    items: &["x", "1", "1.5", "apply", "Int", "()"],
 };
 
 /// What stands before and behind a tree; the first frame is none.
@@ -70,8 +70,8 @@ const EXPRESSION_FRAMES: &[Frame] = &[
 ];
 
 const BIND_FRAMES: &[Frame] = &[
-    ("", ""), ("((x Int) ", ")"), ("((x ", ") ($k x))"), ("(", " ($k x))"), ("((x Int) (and ($k x) ", "))"), ("((x Int) (", "))"),
-    ("((x Int) (exists ((x Int)) ", "))"), ("((x Int) (exists ((y Int) (y Int)) ", "))"),
+    ("", ""), ("((nan Int) ", ")"), ("((nan ", ") ($k nan))"), ("(", " ($k nan))"), ("((nan Int) (and ($k nan) ", "))"), ("((nan Int) (", "))"),
+    ("((nan Int) (exists ((nan Int)) ", "))"), ("((nan Int) (exists ((y Int) (y Int)) ", "))"),
 ];
 
 const SOLUTION_FRAMES: &[Frame] = &[

@@ -6,11 +6,11 @@ use super::grower::Grower;
 impl Grower<'_> {
     pub fn solution(&mut self, depth: usize) {
         if self.fault() {
-            self.pick(&["x", "()", "5", "(lambda)", "(lambda ())", "(lambda x x)", "(lambda () x x)", "(() x)", "(lambda ((x Int) x) nan)"]);
+            self.pick(&["x", "()", "5", "(lambda)", "(lambda ())", "(lambda x x)", "(lambda () x x)", "(() x)", "(lambda ((x Int) x) 1.5)"]);
             return;
         }
         self.put("(");
-        self.pick(&["lambda", "lambda", "lambda", "λ", "nan", "()", "5", "\"\"", "(f x)"]);
+        self.pick(&["lambda", "lambda", "lambda", "λ", "nan", "1.5", "()", "5", "\"\"", "(f x)"]);
         self.gap();
         self.put("(");
         self.binders();

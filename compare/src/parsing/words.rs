@@ -81,7 +81,7 @@ fn long_digits() -> impl Iterator<Item = String> {
 
 pub fn texts(each: &mut dyn FnMut(&[u8])) {
     let pools = [
-        KEYWORDS, NEARLY, NAMES, ODD_NAMES, GOOD_SORTS, BAD_SORTS, SIZES, BAD_SIZES, INDEXES, FUNC_NUMBERS, BAD_FUNC_NUMBERS, INTEGERS, DECIMALS,
+        KEYWORDS, NEARLY, NAMES, WORDS, ODD_NAMES, GOOD_SORTS, BAD_SORTS, SIZES, BAD_SIZES, INDEXES, FUNC_NUMBERS, BAD_FUNC_NUMBERS, INTEGERS, DECIMALS,
         STRINGS, JUNK, DIGITS, BAD_DIGITS,
     ];
     let words = pools.concat().into_iter().chain(theory::names()).map(str::to_string).chain(long_digits());

@@ -1,4 +1,4 @@
-//! What `sexp.rs` answers, with the limits, refusals and words of document 01.
+//! What `sexp.rs` answers, with the limits, refusals and words of document 01, and with the names of request C-14.
 
 use crate::call::{Answer, Refusal};
 use crate::paper::{MAX_BYTES, MAX_LISTS};
@@ -60,7 +60,12 @@ impl Places<'_> {
         self.words.extend([kind, start as u32, len as u32]);
     }
 
-    fn expression(&mut self, e: &Sexp) {
+    /// Whether the source has read a number that has no digit: `inf`, `infinity` or `nan`, which are symbols (row 35 of docs/DIFFERENCES.md).
+    fn at_word(&self, len: usize) -> bool {
+        !self.rest()[..len].contains(|c: char| c.is_ascii_digit())
+    }
+
+    fn expression(&mut self, e: &mut Sexp) {
         self.skip_space();
         match e {
             Sexp::List(items) => {
@@ -89,6 +94,10 @@ impl Places<'_> {
             Sexp::Atom(atom) => {
                 let len = self.rest().find(|c: char| c.is_whitespace() || matches!(c, '(' | ')' | '"')).unwrap_or(self.rest().len());
                 match atom {
+                    Atom::F(_) if self.at_word(len) => {
+                        *atom = Atom::S(self.rest()[..len].to_string());
+                        self.span(16, self.at, len);
+                    }
                     Atom::I(i) => {
                         let bits = *i as u128;
                         self.words.push(18);
@@ -119,10 +128,22 @@ pub fn answer(all: bool, text: &[u8]) -> Result<Answer, Refusal> {
             Ok(_) => {}
         }
     }
-    let found = parse(all, text).map_err(|error| refusal(&error))?;
-    let mut places = Places { text, at: 0, words: Vec::new() };
-    found.iter().for_each(|e| places.expression(e));
+    let (found, places) = read(all, text).map_err(|error| refusal(&error))?;
     let (n, words) = (places.words.len() as u64, places.words);
     let (a, b) = if all { (found.len() as u64, n) } else { (n, places.at as u64) };
     Ok(Answer { a, b, count: 0, words })
+}
+
+/// The expressions of a text and their words.
+fn read(all: bool, text: &str) -> Result<(Vec<Sexp>, Places<'_>), ParseError> {
+    let mut found = parse(all, text)?;
+    let mut places = Places { text, at: 0, words: Vec::new() };
+    found.iter_mut().for_each(|e| places.expression(e));
+    Ok((found, places))
+}
+
+/// The first expression of a text that is known to have one.
+pub fn first(text: &[u8]) -> Sexp {
+    let text = std::str::from_utf8(text).expect("it was read");
+    read(false, text).expect("it was read").0.remove(0)
 }

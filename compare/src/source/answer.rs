@@ -10,7 +10,7 @@ use crate::ffi;
 use crate::model::Model;
 use crate::reading;
 use std::collections::HashSet;
-use upstream::sexp::{Parser, Sexp};
+use upstream::sexp::Sexp;
 
 /// An accepted text.
 struct Parsed {
@@ -43,7 +43,7 @@ fn words<S: Spans<String>>(spans: S, raised: u64, write: impl FnOnce(&mut Words<
 
 /// The source goes on from where the reader stands. Nothing if the text is excepted.
 fn parsed(op: Operation, text: &[u8], tree: &[u32], by: &mut Reader) -> Option<Result<Parsed, Refusal>> {
-    let mut sexp = Parser::new(std::str::from_utf8(text).expect("it was read")).parse().expect("it was read");
+    let mut sexp = reading::source::first(text);
     func_numbers(&mut sexp);
     if excepted(op, text, &sexp) {
         return None;

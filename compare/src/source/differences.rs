@@ -1,7 +1,7 @@
 //! What documents 01 and 02 answer otherwise than the source, one difference at a time; the numbers are rows of docs/DIFFERENCES.md.
 //!
-//! Rows 1, 2 and 3 (texts too long, not UTF-8, nested too deep) are added where the reader is held against `sexp.rs`. Row 15 (-2^127) needs
-//! nothing: the source is built so that it wraps.
+//! Rows 1, 2, 3 and 35 (texts too long, not UTF-8, nested too deep; `inf`, `infinity` and `nan`) are added where the reader is held against
+//! `sexp.rs`. Row 15 (-2^127) needs nothing: the source is built so that it wraps.
 
 use super::reader;
 use crate::call::{Operation, Refusal};

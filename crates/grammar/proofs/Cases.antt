@@ -52,7 +52,7 @@ unfolding parseComputes
 abs-order = refl
 
 -- 10 comes behind the body; 11 before the size's 8, and that before 17.
-name-late : exprOf "(exists ((x Int) (x Int)) nan)" ≡ (9 ∷ [])
+name-late : exprOf "(exists ((x Int) (x Int)) 1.5)" ≡ (9 ∷ [])
 unfolding parseComputes
 name-late = refl
 

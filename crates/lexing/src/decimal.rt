@@ -1,9 +1,9 @@
-// What Rust reads as f64.
+// Decimals.
 ghost use mathlib.Core.Path.{_≡_};
 ghost use Prim.Native.Nat.{_≤_};
 ghost use lib.ListN.{length, drop};
 ghost use Rattle.reading.specs.Number.{signBytes};
-ghost use Rattle.reading.specs.Decimal.{leadingDigits, someDigits, isExponent, isFraction, lower as lowerOf, sameLetters, isWord, isUnsignedDecimal, isDecimal};
+ghost use Rattle.reading.specs.Decimal.{leadingDigits, someDigits, isExponent, isFraction, isUnsignedDecimal, isDecimal};
 use crate::integer::sign_bytes;
 use crate::number::is_digit;
 use words::number::byte_to_long;
@@ -78,56 +78,10 @@ fn is_fraction(t: &[u8], n: usize) -> bool
     is_exponent(&t[n..])
 }
 
-// A letter as a small letter.
-fn lower(b: u8) -> u8
-    ensures { λ r. ⌜ r ≡ lowerOf b ⌝ }
-{
-    if b < 65 {
-        return b;
-    }
-    if b < 91 {
-        return b + 32;
-    }
-    b
-}
-
-// Whether a, in small letters, is b.
-fn same_letters(a: &[u8], b: &[u8]) -> bool
-    ensures { λ r. ⌜ r ≡ sameLetters (now (a .entry)) (now (b .entry)) ⌝ }
-{
-    if a.len() != b.len() {
-        return false;
-    }
-    let mut i = 0;
-    while i < a.len() {
-        if lower(a[i]) != b[i] {
-            return false;
-        }
-        i += 1;
-    }
-    true
-}
-
-// Whether the bytes are `inf`, `infinity` or `nan`, in any case.
-fn is_word(t: &[u8]) -> bool
-    ensures { λ r. ⌜ r ≡ isWord (now (t .entry)) ⌝ }
-{
-    if same_letters(t, b"inf") {
-        return true;
-    }
-    if same_letters(t, b"infinity") {
-        return true;
-    }
-    same_letters(t, b"nan")
-}
-
 // Whether the bytes are a decimal without a sign.
 fn is_unsigned(t: &[u8]) -> bool
     ensures { λ r. ⌜ r ≡ isUnsignedDecimal (now (t .entry)) ⌝ }
 {
-    if is_word(t) {
-        return true;
-    }
     let n = leading_digits(t);
     is_fraction(t, n)
 }

@@ -21,14 +21,14 @@ value-back n h =
     let k : n / 2 ^ 32 < 2 ^ 96 = div-lt-iff-lt-mul {k = 2 ^ 32} {x = n} {y = 2 ^ 96} (omega arith) .1 h in
     ap (λ (y : ℕ). n % 2 ^ 32 + 2 ^ 32 * y) (three (n / 2 ^ 32) k) ∙ mod-add-div n (2 ^ 32)
 
--- A digit is below its base.
-digit-below : (base b : ℕ) → isDigit base b ≡ true → b - 48 < base
+-- A digit lies between `0` and the last one of its base.
+pub digit-range : (base b : ℕ) → isDigit base b ≡ true → (48 ≤ b) × (b < 48 + base)
 unfolding isDigit pick
-digit-below base b e = go (ltb b 48) refl e
+digit-range base b e = go (ltb b 48) refl e
   where
-    go : (t : Bool) → ltb b 48 ≡ t → pick t false (ltb b (48 + base)) ≡ true → b - 48 < base
+    go : (t : Bool) → ltb b 48 ≡ t → pick t false (ltb b (48 + base)) ≡ true → (48 ≤ b) × (b < 48 + base)
     go true q h = absurd (false≢true h)
-    go false q h = omega (arith, ltb-false b 48 q, ltb-true b (48 + base) h)
+    go false q h = (ltb-false b 48 q, ltb-true b (48 + base) h)
 
 -- One digit more behind a number, and powers of the base behind both.
 one-more : (base v d p : ℕ) → d < base → suc (base * v + d) * p ≤ suc v * (p * base)
@@ -45,7 +45,9 @@ digits-under base v (b ∷ s) e = go (isDigit base b) refl e (digits-under base 
   where
     go : (t : Bool) → isDigit base b ≡ t → pick t (allDigits base s) false ≡ true
         → (allDigits base s ≡ true → valueFrom base (base * v + (b - 48)) s < suc (base * v + (b - 48)) * base ^ length s) → valueFrom base (base * v + (b - 48)) s < suc v * base ^ suc (length s)
-    go true q h k = rw (pow-suc base (length s)) (le-trans (k h) (one-more base v (b - 48) (base ^ length s) (digit-below base b q)))
+    go true q h k =
+        let p : (48 ≤ b) × (b < 48 + base) = digit-range base b q in
+        rw (pow-suc base (length s)) (le-trans (k h) (one-more base v (b - 48) (base ^ length s) (omega arith)))
     go false q h k = absurd (false≢true h)
 
 -- The number that digits give is below the power of the base that has so many digits.

@@ -70,7 +70,7 @@ bounds =
     ∷ asks (2 ^ 64 - 1) (callOn sort (ascii "Int")) (words (1 ∷ []))
     -- 8 to 12 and 7 for the tree come before 13, 7 for draft and output behind it
     ∷ asks (2 ^ 64 - 1) (callOn expression (ascii "(exists ((x Int)) ())")) (refusal 8)
-    ∷ asks (2 ^ 64 - 1) (callOn expression (ascii "(exists ((x Int)) nan)")) (refusal 9)
+    ∷ asks (2 ^ 64 - 1) (callOn expression (ascii "(exists ((x Int)) 1.5)")) (refusal 9)
     ∷ asks (2 ^ 64 - 1) (callOn expression (ascii "(exists ((x Int) (x Int)) x)")) (refusal 10)
     ∷ asks (2 ^ 64 - 1) (callOn solution (ascii "(lambda ((x Int) (x Int)) x)")) (refusal 10)
     ∷ asks (2 ^ 64 - 1) (callOn expression (ascii "(exists ((x Int)) (lit \"#b2\"))")) (refusal 11)

@@ -3,5 +3,6 @@ pub mod Table
 pub mod Readings
 pub mod ReadingsParsed
 pub mod ReadingsLiterals
+pub mod ReadingsInfNan
 pub mod Bounds
 pub mod Slices

@@ -75,7 +75,7 @@ expressions =
     asked expression "(not ((x)))" (words (44 ∷ 37 ∷ 7 ∷ 1 ∷ []))
     ∷ asked expression "(or (and) true)" (words (43 ∷ 2 ∷ 37 ∷ 5 ∷ 3 ∷ 33 ∷ 1 ∷ []))
     ∷ asked expression "(exists ((and Int)) (and))" (words (51 ∷ 1 ∷ 0 ∷ 0 ∷ 1 ∷ 36 ∷ 0 ∷ 0 ∷ []))
-    ∷ asked expression "(not (nan))" (refusal 9)
+    ∷ asked expression "(not (nan))" (words (44 ∷ 37 ∷ 6 ∷ 3 ∷ []))
     ∷ asked expression "(((as apply Int) f) (a))" (words (38 ∷ 0 ∷ 1 ∷ 37 ∷ 21 ∷ 1 ∷ 38 ∷ 1 ∷ 0 ∷ 1 ∷ 37 ∷ 17 ∷ 1 ∷ []))
     ∷ asked expression "(let ((x (1))) (x))" (words (48 ∷ 7 ∷ 1 ∷ 32 ∷ 1 ∷ 0 ∷ 0 ∷ 0 ∷ 37 ∷ 16 ∷ 1 ∷ []))
     ∷ asked expression "(exists () (x))" (words (51 ∷ 0 ∷ 37 ∷ 12 ∷ 1 ∷ []))

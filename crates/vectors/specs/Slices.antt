@@ -45,7 +45,7 @@ rows =
     ∷ row (lends 21 0 9 expression "(exists ((x Int)) x)") (leaves (accepted 8 0) 6 (blank 21) [] (51 ∷ 1 ∷ 5 ∷ 0 ∷ 1 ∷ 36 ∷ 5 ∷ 0 ∷ 7 ∷ []))
     ∷ row (lends 21 0 7 expression "(exists ((x Int)) x)") (leaves (refused 7) 5 (blank 21) [] (blank 7))
     ∷ row (lends 21 0 9 bind "((x Int) (x))") (leaves (accepted 8 0) 5 (blank 21) [] (2 ∷ 1 ∷ 1 ∷ 1 ∷ 65 ∷ 37 ∷ 10 ∷ 1 ∷ 7 ∷ []))
-    ∷ row (lends 21 0 9 bind "((x Int) (nan))") (leaves (refused 9) 5 (blank 21) [] (blank 9))
+    ∷ row (lends 21 0 9 bind "((x Int) (1.5))") (leaves (refused 9) 5 (blank 21) [] (blank 9))
     ∷ row (lends 64 10 15 solution "(lambda ((x Int)) (< x 5))")
     (leaves (accepted 14 0) 6 (blank 64) (blank 10) (1 ∷ 5 ∷ 0 ∷ 1 ∷ 47 ∷ 4 ∷ 36 ∷ 5 ∷ 0 ∷ 32 ∷ 5 ∷ 0 ∷ 0 ∷ 0 ∷ 7 ∷ []))
     ∷ row (lends 64 9 15 solution "(lambda ((x Int)) (< x 5))") (leaves (refused 7) 5 (blank 64) (blank 9) (blank 15))

@@ -1,4 +1,4 @@
--- The bench table of document 01, with the literal of request C-13: every row that is marked P, and one claim about all of them.
+-- The bench table of document 01, with the literal of request C-13 and the `nan` of request C-14: every row that is marked P, and one claim about all of them.
 use mathlib.Core.Path.{_≡_, refl}
 use mathlib.Core.List.{List, [], _∷_}
 use Rattle.session.specs.Session.{readOne, expression, sort, solution}
@@ -13,7 +13,7 @@ table =
     ∷ row readOne "(a)" (words (21 ∷ 1 ∷ 3 ∷ 16 ∷ 1 ∷ 1 ∷ []))
     ∷ row expression "(and)" (words (42 ∷ 0 ∷ []))
     ∷ row expression "(or (and) true)" (words (43 ∷ 2 ∷ 37 ∷ 5 ∷ 3 ∷ 33 ∷ 1 ∷ []))
-    ∷ row expression "nan" (refusal 9)
+    ∷ row expression "nan" (words (37 ∷ 0 ∷ 3 ∷ []))
     ∷ row expression "(lit \"#b101\" (BitVec Size3))" (words (35 ∷ 5 ∷ 0 ∷ 0 ∷ 0 ∷ 3 ∷ []))
     ∷ row sort "(func 1 (Int) Bool)" (words (9 ∷ 0 ∷ 8 ∷ 1 ∷ 2 ∷ []))
     ∷ row sort "(Int)" (words (10 ∷ 2 ∷ 1 ∷ 3 ∷ 0 ∷ []))

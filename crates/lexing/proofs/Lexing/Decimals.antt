@@ -13,7 +13,7 @@ use borrow.Author.Tests.{eqb-true, eqb-false, eq-eqb, ne-eqb}
 use Rattle.reading.specs.Pick.{pick}
 use Rattle.reading.specs.Bytes.{before}
 use Rattle.reading.specs.Number.{isDigit, allDigits, signBytes}
-use Rattle.reading.specs.Decimal.{noDigit, leadingDigits, someDigits, isExponent, isFraction, lower, sameLetters}
+use Rattle.reading.specs.Decimal.{noDigit, leadingDigits, someDigits, isExponent, isFraction}
 use Rattle.reading.proofs.Picks.{pick-eq, pick-ne}
 
 -- A place has a digit, or not.
@@ -99,30 +99,3 @@ module _ (s : List ℕ) (n : ℕ) where
     fraction-whole r e z p =
         let q : isExponent (drop n s) ≡ isExponent (getD s n 0 ∷ drop (n + 1) s) = rw (drop-cons s n 0, add-one) in
         pick-ne _ e (pick-ne _ z (p ∙ q)) ∙ fraction-cons
-
--- Lists of different lengths do not have the same letters.
-pub letters-length : (a b : List ℕ) → (length a ≡ length b → ⊥) → false ≡ sameLetters a b
-unfolding sameLetters pick
-letters-length [] [] h = absurd (h refl)
-letters-length [] (y ∷ ys) h = refl
-letters-length (x ∷ xs) [] h = refl
-letters-length (x ∷ xs) (y ∷ ys) h = rw (← letters-length xs ys (λ e. h (ap suc e))) (go (eqb (lower x) y))
-  where
-    go : (t : Bool) → false ≡ pick t false false
-    go true = refl
-    go false = refl
-
--- From a place on, where the byte is x as a small letter.
-module _ (a b : List ℕ) (i : ℕ) where
-  pub letters-end : length a ≤ i → length b ≤ i → sameLetters (drop i a) (drop i b) ≡ true
-  unfolding sameLetters
-  letters-end h k = rw (drop-of-length-le a h, drop-of-length-le b k)
-
-  module _ (x : ℕ) (e : x ≡ lower (getD a i 0)) (h : i < length a) (k : i < length b) where
-    pub letters-more : x ≡ getD b i 0 → sameLetters (drop i a) (drop i b) ≡ sameLetters (drop (i + 1) a) (drop (i + 1) b)
-    unfolding sameLetters
-    letters-more q = rw (drop-cons a i 0, drop-cons b i 0, add-one) (sym (pick-eq _ (sym e ∙ q) refl))
-
-    pub letters-differ : (x ≡ getD b i 0 → ⊥) → sameLetters (drop i a) (drop i b) ≡ false
-    unfolding sameLetters
-    letters-differ q = rw (drop-cons a i 0, drop-cons b i 0) (sym (pick-ne _ (λ p. q (e ∙ p)) refl))
