@@ -35,7 +35,7 @@ const char *const dictionary[] = {
     "@(18446744073709551616)", "@)", "0", "1", "64", "65", "-1", "+5", "4294967296", "18446744073709551616",
     "170141183460469231731687303715884105727", "170141183460469231731687303715884105728", "-170141183460469231731687303715884105728",
     "-170141183460469231731687303715884105729", "999999999999999999", "1000000000000000000", "1.5", ".5", "5.", "1e5", "1E-5", "inf", "-Infinity",
-    "NaN", "#b", "\"#b101\"", "(lit \"#b101\" (BitVec Size3))", "(lit \"#b1\" (BitVec Size2))", "strLen", "int_to_bv8", "bv8_to_int", "int_to_bv32", "bv32_to_int", "int_to_bv64",
+    "NaN", "-inf", "(inf Int)", "#b", "\"#b101\"", "(lit \"#b101\" (BitVec Size3))", "(lit \"#b1\" (BitVec Size2))", "strLen", "int_to_bv8", "bv8_to_int", "int_to_bv32", "bv32_to_int", "int_to_bv64",
     "bv64_to_int", "int_to_bv128", "bv128_to_int", "bvule", "bvsle", "bvuge", "bvsge", "bvugt", "bvsgt", "bvult", "bvslt", "bvudiv", "bvsdiv",
     "bvurem", "bvsrem", "bvlshr", "bvashr", "bvand", "bvor", "bvxor", "bvnot", "bvadd", "bvneg", "bvsub", "bvmul", "bvshl", "Set_empty", "Set_sng",
     "Set_cup", "Set_cap", "Set_dif", "Set_mem", "Set_sub", "Map_default", "Map_select", "Map_store", "arr_select_m", "arr_store_m", "bvad", "strLe",

@@ -4,10 +4,10 @@ use mathlib.Core.Bool.{Bool, true, false, not, false≢true}
 use mathlib.Core.Path.{_≡_, refl, sym, ap, _∙_, subst}
 use mathlib.Core.List.{List, [], _∷_, _++_, append-assoc, append-nil}
 use native.Mathlib.Omega.{arith}
-use lib.Dec.{ltb, eqb}
+use lib.Dec.{eqb}
 use lib.ListN.{length, getD, take, drop, take-append-drop}
 use lib.Seq.{length-take-le, drop-append-seam}
-use borrow.Author.Tests.{eqb-true, eqb-false, ltb-true, ltb-false, ne-eqb, lt-ltb}
+use borrow.Author.Tests.{eqb-true, eqb-false, ltb-true, ne-eqb, lt-ltb}
 use Rattle.reading.specs.Pick.{pick}
 use Rattle.reading.specs.Bytes.{ascii, before, Maybe, nothing, just}
 use Rattle.reading.specs.Number.{Wide, isDigit, allDigits, valueFrom, digits, plusBytes, signBytes, signed, integerOf}
@@ -132,11 +132,15 @@ module _ (d r : List ℕ) (e : Digits d) (q : noDigit r ≡ true) where
   rest-from = ap (λ (n : ℕ). drop n (d ++ r)) (leading-are d r e q) ∙ drop-append-seam d r
 
 -- What stands behind the first digits: nothing or an exponent, or a point with digits and perhaps an exponent.
+mark-behind : (n b : ℕ) (s : List ℕ) → 1 ≤ n → eqb b 46 ≡ false → isExponent (b ∷ s) ≡ true → isFraction n (b ∷ s) ≡ true
+unfolding isFraction
+mark-behind n b s h e q = sym (pick-false _ e (pick-false _ (ne-eqb n 0 (λ z. omega arith)) (sym q)))
+
 whole-is : (n : ℕ) {x : List ℕ} → 1 ≤ n → Exponent x → isFraction n x ≡ true
 unfolding isFraction
 whole-is n h noExponent = lt-ltb 0 n h
-whole-is n h (exponent d small g e k) = sym (pick-false _ refl (pick-false _ (ne-eqb n 0 (λ z. omega arith)) (sym (exponent-is (exponent d small g e k)))))
-whole-is n h (exponent d large g e k) = sym (pick-false _ refl (pick-false _ (ne-eqb n 0 (λ z. omega arith)) (sym (exponent-is (exponent d large g e k)))))
+whole-is n h (exponent d small g e k) = mark-behind n _ _ h refl (exponent-is (exponent d small g e k))
+whole-is n h (exponent d large g e k) = mark-behind n _ _ h refl (exponent-is (exponent d large g e k))
 
 point-first : (s : List ℕ) → noDigit (46 ∷ s) ≡ true
 unfolding noDigit isDigit pick
