@@ -27,6 +27,7 @@ mod extreme;
 mod ffi;
 mod flattening;
 mod lengths;
+mod letters;
 mod model;
 mod paper;
 mod parsing;

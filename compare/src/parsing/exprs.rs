@@ -2,6 +2,7 @@
 
 use super::grower::Grower;
 use super::pools::*;
+use crate::letters;
 use crate::paper::theory;
 
 /// Forms with a fixed number of operands.
@@ -20,7 +21,8 @@ impl Grower<'_> {
             let pool = self.r.pick(&[ODD_NAMES, NEARLY]);
             self.pick(pool);
         } else if self.r.one_in(24) {
-            self.pick(WORDS);
+            let word = letters::spelled(self.r);
+            self.put(&word);
         } else if self.r.one_in(10) {
             self.theory_name();
         } else {

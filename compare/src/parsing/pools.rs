@@ -3,8 +3,6 @@
 
 /// Names for variables: few, so that they meet their binders, and some that mean something elsewhere.
 pub const NAMES: &[&str] = &["x", "y", "z", "x", "y", "z", "a", "f", "v"];
-/// What Rust reads as f64 without a digit: names here, each spelling another one.
-pub const WORDS: &[&str] = &["inf", "nan", "inf", "nan", "-inf", "+nan", "Inf", "NAN", "infinity", "-Infinity", "+INFINITY"];
 pub const ODD_NAMES: &[&str] = &[
     "and", "or", "not", "exists", "let", "lit", "if", "cast", "as", "apply", "is$", "is$Cons", "$k", "$", "-", "+", "--5", "=", "<=>", "Int", "Size3",
     "func", "lambda", "λx", "é", "\u{feff}", "𝒳", "|a", "lq_karg$x##0", "True", "infinit", "--inf", "+-nan", "inf0", "nan.", "infx", "1_0", "0x1", "@(0)", "@ x)", "@)", "a@",

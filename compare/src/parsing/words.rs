@@ -1,6 +1,7 @@
 //! Every keyword, theory name and boundary value in every place where one may stand.
 
 use super::pools::*;
+use crate::letters;
 use crate::paper::theory;
 
 /// The word stands for each `~`, how many bytes it has for `{n}`, and one more for `{m}`.
@@ -81,10 +82,10 @@ fn long_digits() -> impl Iterator<Item = String> {
 
 pub fn texts(each: &mut dyn FnMut(&[u8])) {
     let pools = [
-        KEYWORDS, NEARLY, NAMES, WORDS, ODD_NAMES, GOOD_SORTS, BAD_SORTS, SIZES, BAD_SIZES, INDEXES, FUNC_NUMBERS, BAD_FUNC_NUMBERS, INTEGERS, DECIMALS,
+        KEYWORDS, NEARLY, NAMES, ODD_NAMES, GOOD_SORTS, BAD_SORTS, SIZES, BAD_SIZES, INDEXES, FUNC_NUMBERS, BAD_FUNC_NUMBERS, INTEGERS, DECIMALS,
         STRINGS, JUNK, DIGITS, BAD_DIGITS,
     ];
-    let words = pools.concat().into_iter().chain(theory::names()).map(str::to_string).chain(long_digits());
+    let words = pools.concat().into_iter().chain(theory::names()).map(str::to_string).chain(letters::all()).chain(long_digits());
     for word in words {
         let [n, m] = [word.len(), word.len() + 1].map(|n| n.to_string());
         FRAMES.iter().for_each(|frame| each(frame.replace("{n}", &n).replace("{m}", &m).replace('~', &word).as_bytes()));

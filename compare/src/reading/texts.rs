@@ -1,5 +1,6 @@
 //! Texts to read: grown from the grammar, damaged, and built around each limit.
 
+use crate::letters;
 use crate::paper::{MAX_BYTES, MAX_LISTS};
 use crate::random::Random;
 
@@ -41,6 +42,8 @@ fn expression(r: &mut Random, s: &mut String, depth: usize, size: &mut usize) {
     if depth == 0 || *size == 0 || r.one_in(3) {
         if r.one_in(4) {
             digits(r, s);
+        } else if r.one_in(12) {
+            s.push_str(&letters::spelled(r));
         } else {
             s.push_str(r.pick(ATOMS));
         }
