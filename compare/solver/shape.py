@@ -1,7 +1,10 @@
 """The shape of a solution: names as they are, and C-11's foldings and no others.
 
-A let stands for its binding in its body, since a solver takes it so; what an exists binds is told by how many bind outside it.
+A let stands for its binding in its body, since a solver takes it so; what an exists binds is told by how many bind outside it, which in a
+binding is counted where it is used.
 """
+
+from functools import cache
 
 OPERATORS = ["Add", "Sub", "Mul", "Div", "Mod"]
 RELATIONS = ["Eq", "Ne", "Gt", "Ge", "Lt", "Le"]
@@ -11,8 +14,13 @@ FUNCTIONS = (
 ).split()
 
 
+def constant(bound):
+    """What an exists binds is the same wherever it is used."""
+    return lambda used: bound
+
+
 def shape(expr, scope, depth):
-    """Of an expression inside so many that bind; the scope has the shapes of variables that are bound."""
+    """Of an expression inside so many that bind; the scope has the shape of each bound variable, by how many bind where it is used."""
     kind, *parts = expr
 
     def inside(*exprs):
@@ -21,7 +29,7 @@ def shape(expr, scope, depth):
     if kind in ("Numeral", "Boolean", "String", "BitVec"):
         return expr
     if kind in ("Fresh", "Named"):
-        return scope.get(expr, ("Free", *expr))
+        return scope[expr](depth) if expr in scope else ("Free", *expr)
     if kind == "App":
         arguments, _, head = parts
         if not arguments:
@@ -42,14 +50,14 @@ def shape(expr, scope, depth):
         return operands[0] if len(operands) == 1 else (kind, *operands)
     if kind == "Let":
         name, binding, body = parts
-        return shape(body, {**scope, ("Named", name): shape(binding, scope, depth)}, depth)
+        return shape(body, {**scope, ("Named", name): cache(lambda used: shape(binding, scope, used))}, depth)
     if kind == "IsCtor":
         return ("IsCtor", parts[0], *inside(parts[1]))
     if kind == "Exists":
         binders, body = parts
         if not binders:
             return shape(body, scope, depth)
-        bound = {("Fresh", number): ("Bound", depth, i) for i, (number, _) in enumerate(binders)}
+        bound = {("Fresh", number): constant(("Bound", depth, i)) for i, (number, _) in enumerate(binders)}
         return ("Exists", tuple(binders), shape(body, {**scope, **bound}, depth + 1))
     return (kind, *inside(*parts))
 

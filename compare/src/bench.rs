@@ -26,7 +26,7 @@ const LONG: [usize; 3] = [5 * 32_768, 15 * 32_768, 15 * 32_768];
 const BUILD: [(usize, usize); 4] = [(200, 240), (2048, 120), (8192, 36), (32_768, 4)];
 const BUILD_ROUNDS: usize = 20;
 /// How often a text of a file is read in a turn.
-const READINGS: usize = 400;
+pub const READINGS: usize = 400;
 
 /// Tree, draft and output.
 pub type Slices<'a> = [&'a mut [u32]; 3];
@@ -44,9 +44,9 @@ pub trait Way {
 }
 
 /// The time of one reading by an archive that replies so.
-pub fn time(reply: impl FnOnce(&Call, &mut [u32], &mut [u32], &mut [u32]) -> Reply, text: &str, [tree, draft, out]: Slices) -> Duration {
+pub fn time(reply: impl FnOnce(&Call, &mut [u32], &mut [u32], &mut [u32]) -> Reply, op: Operation, text: &str, [tree, draft, out]: Slices) -> Duration {
     out.fill(0);
-    let call = Call::roomy(Operation::Solution, black_box(text.as_bytes()));
+    let call = Call::roomy(op, black_box(text.as_bytes()));
     let began = Instant::now();
     black_box(reply(&call, tree, draft, out));
     began.elapsed()
@@ -77,7 +77,7 @@ impl Case {
     }
 
     fn ours(&mut self) -> Duration {
-        time(ffi::reply, &self.text, lent(&mut self.slices))
+        time(ffi::reply, Operation::Solution, &self.text, lent(&mut self.slices))
     }
 
     fn by(&mut self, way: &impl Way) -> Duration {
@@ -93,13 +93,13 @@ fn times(cases: &mut [Case], rounds: usize, way: &impl Way) -> (Duration, Durati
 fn times_in_long_slices(cases: &mut [Case], rounds: usize, way: &impl Way) -> (Duration, Duration) {
     let mut slices = LONG.map(|words| vec![0; words]);
     turns(|| {
-        let ours = round_by_round(cases, rounds, |case| time(ffi::reply, &case.text, lent(&mut slices)));
+        let ours = round_by_round(cases, rounds, |case| time(ffi::reply, Operation::Solution, &case.text, lent(&mut slices)));
         let other = round_by_round(cases, rounds, |case| way.time(&case.text, lent(&mut slices)));
         (ours, other)
     })
 }
 
-fn row(name: &str, bytes: usize, (ours, other): (Duration, Duration), texts: usize) {
+pub fn row(name: &str, bytes: usize, (ours, other): (Duration, Duration), texts: usize) {
     let each = |d: Duration| micros(d) / texts as f64;
     println!("| {name} | {bytes} | {:.1} µs | {:.1} µs | {:.2} |", each(ours), each(other), ours.as_secs_f64() / other.as_secs_f64());
 }

@@ -10,7 +10,7 @@
 //!     compare bench-smtlib          the time of writing solutions as SMT-LIB terms, beside that of reading them
 //!     compare beside SHARED SEED MILLIONS [WORD ..]  so many million random calls of all functions against another archive, of which SHARED
 //!                                   is a shared object, behind all small texts; texts that contain one of the words are passed over
-//!     compare bench-beside SHARED [TEXT ..]  the time of solution against another archive, of made texts or of these
+//!     compare bench-beside SHARED [TEXT ..]  the time of solution against another archive, of made texts or of these; of these also that of read one
 //!     compare reading SEED MILLIONS so many million for read one and read all against sexp.rs, behind all short texts
 //!     compare source SEED MILLIONS  so many million for all operations against parser.rs and constraint.rs, behind all small texts
 //!     compare bench TEXT ..         the time of read one against sexp.rs
@@ -184,7 +184,12 @@ fn run(words: &[&str]) -> Result<(), String> {
         ["beside", path, seed, millions, words @ ..] => {
             against_other(&other(path)?, words, number(millions)? * 1_000_000, &mut Random::new(number(seed)?))
         }
-        ["bench-beside", path, paths @ ..] => bench::run(&other(path)?, paths),
+        ["bench-beside", path] => bench::run(&other(path)?, &[]),
+        ["bench-beside", path, paths @ ..] => {
+            let other = other(path)?;
+            bench::run(&other, paths)?;
+            beside::bench::read_one(&other, paths)
+        }
         #[cfg(flux_source)]
         ["reading", seed, millions] => reading_long(seed, millions),
         #[cfg(flux_source)]

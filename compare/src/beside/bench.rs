@@ -1,8 +1,10 @@
-//! Another archive of the library, as what the time of solution is taken against.
+//! Another archive of the library, as what the time of solution and of read one is taken against.
 
-use crate::bench::{self, Slices, Way};
-use crate::call::{Answer, Call, Refusal};
-use crate::ffi::Archive;
+use crate::bench::{self, Slices, Way, READINGS};
+use crate::call::{Answer, Call, Operation, Refusal};
+use crate::ffi::{Archive, LINKED};
+use crate::timing::{round_by_round, turns};
+use std::fs;
 use std::time::Duration;
 
 impl Way for Archive {
@@ -15,6 +17,25 @@ impl Way for Archive {
     }
 
     fn time(&self, text: &str, slices: Slices) -> Duration {
-        bench::time(|call, tree, draft, out| self.reply(call, tree, draft, out), text, slices)
+        timed(self, Operation::Solution, text, slices)
     }
+}
+
+fn timed(archive: &Archive, op: Operation, text: &str, slices: Slices) -> Duration {
+    bench::time(|call, tree, draft, out| archive.reply(call, tree, draft, out), op, text, slices)
+}
+
+/// The time of read one on the texts in these files, by both archives, with an output just long enough.
+pub fn read_one(other: &Archive, paths: &[&str]) -> Result<(), String> {
+    println!("| text | bytes | read one | before | ratio |");
+    println!("|---|---|---|---|---|");
+    for path in paths {
+        let text = fs::read_to_string(path).map_err(|e| format!("{path}: {e}"))?;
+        let mut out = vec![0; 5 * text.len()];
+        let words = LINKED.reply(&Call::roomy(Operation::ReadOne, text.as_bytes()), &mut [], &mut [], &mut out).a;
+        let out = &mut out[..words as usize];
+        let mut readings = |archive: &Archive| round_by_round(&mut [()], READINGS, |_| timed(archive, Operation::ReadOne, &text, [&mut [], &mut [], &mut *out]));
+        bench::row(path.rsplit('/').next().unwrap_or(path), text.len(), turns(|| (readings(&LINKED), readings(other))), 1);
+    }
+    Ok(())
 }

@@ -1,6 +1,6 @@
 //! Another archive of the library, held against the one that is linked: every answer should be the same.
 
-mod bench;
+pub mod bench;
 mod both;
 
 use crate::call::Operation;
