@@ -1,4 +1,4 @@
-//! The time of solution against that of another way from the text to the flattened term.
+//! The time of solution, by an archive of the library, against that of another way from the text to the flattened term.
 //!
 //! Both on one computer in one run. The slices are just long enough, but for one row, which is read in slices that are long enough for every
 //! text; tree and draft are as the call before left them, cleared, and the output is cleared beforehand. A figure is the median of five turns;
@@ -7,7 +7,7 @@
 
 use crate::call::{Answer, Call, Operation, Refusal};
 use crate::check;
-use crate::ffi::{self, Reply};
+use crate::ffi::Archive;
 use crate::model::Model;
 use crate::paper::Paper;
 use crate::random::Random;
@@ -43,12 +43,12 @@ pub trait Way {
     fn time(&self, text: &str, slices: Slices) -> Duration;
 }
 
-/// The time of one reading by an archive that replies so.
-pub fn time(reply: impl FnOnce(&Call, &mut [u32], &mut [u32], &mut [u32]) -> Reply, op: Operation, text: &str, [tree, draft, out]: Slices) -> Duration {
+/// The time of one reading by an archive.
+pub fn time(archive: &Archive, op: Operation, text: &str, [tree, draft, out]: Slices) -> Duration {
     out.fill(0);
     let call = Call::roomy(op, black_box(text.as_bytes()));
     let began = Instant::now();
-    black_box(reply(&call, tree, draft, out));
+    black_box(archive.reply(&call, tree, draft, out));
     began.elapsed()
 }
 
@@ -76,8 +76,8 @@ impl Case {
         accepted.then(|| Case { text, slices: [tree, draft, out].map(|n| vec![0; n]) })
     }
 
-    fn ours(&mut self) -> Duration {
-        time(ffi::reply, Operation::Solution, &self.text, lent(&mut self.slices))
+    fn ours(&mut self, archive: &Archive) -> Duration {
+        time(archive, Operation::Solution, &self.text, lent(&mut self.slices))
     }
 
     fn by(&mut self, way: &impl Way) -> Duration {
@@ -85,15 +85,15 @@ impl Case {
     }
 }
 
-fn times(cases: &mut [Case], rounds: usize, way: &impl Way) -> (Duration, Duration) {
-    turns(|| (round_by_round(cases, rounds, Case::ours), round_by_round(cases, rounds, |case| case.by(way))))
+fn times(cases: &mut [Case], rounds: usize, ours: &Archive, way: &impl Way) -> (Duration, Duration) {
+    turns(|| (round_by_round(cases, rounds, |case| case.ours(ours)), round_by_round(cases, rounds, |case| case.by(way))))
 }
 
 /// The same where each text is read in slices for the longest one: tree and draft are cleared to their ends.
-fn times_in_long_slices(cases: &mut [Case], rounds: usize, way: &impl Way) -> (Duration, Duration) {
+fn times_in_long_slices(cases: &mut [Case], rounds: usize, archive: &Archive, way: &impl Way) -> (Duration, Duration) {
     let mut slices = LONG.map(|words| vec![0; words]);
     turns(|| {
-        let ours = round_by_round(cases, rounds, |case| time(ffi::reply, Operation::Solution, &case.text, lent(&mut slices)));
+        let ours = round_by_round(cases, rounds, |case| time(archive, Operation::Solution, &case.text, lent(&mut slices)));
         let other = round_by_round(cases, rounds, |case| way.time(&case.text, lent(&mut slices)));
         (ours, other)
     })
@@ -113,11 +113,11 @@ fn bytes_of(cases: &[Case]) -> usize {
     cases.iter().map(|c| c.text.len()).sum()
 }
 
-/// The solutions in these files, or, without one, made ones of several sizes.
-pub fn run<W: Way>(way: &W, paths: &[&str]) -> Result<(), String> {
+/// The solutions in these files, or, without one, made ones of several sizes, by this archive and by the other way.
+pub fn run<W: Way>(ours: &Archive, way: &W, paths: &[&str]) -> Result<(), String> {
     println!("| text | bytes | solution | {} | ratio |", W::NAME);
     println!("|---|---|---|---|---|");
-    let left_out = if paths.is_empty() { made(way) } else { given(paths, way)? };
+    let left_out = if paths.is_empty() { made(ours, way) } else { given(paths, ours, way)? };
     if left_out > 0 {
         println!("compare: texts left out, since the other way refuses them: {left_out}");
     }
@@ -125,12 +125,12 @@ pub fn run<W: Way>(way: &W, paths: &[&str]) -> Result<(), String> {
 }
 
 /// How many texts were left out.
-fn given(paths: &[&str], way: &impl Way) -> Result<usize, String> {
+fn given(paths: &[&str], ours: &Archive, way: &impl Way) -> Result<usize, String> {
     let mut left_out = 0;
     for path in paths {
         let text = fs::read_to_string(path).map_err(|e| format!("{path}: {e}"))?;
         match Case::new(text, way) {
-            Some(case) => row(path.rsplit('/').next().unwrap_or(path), case.text.len(), times(&mut [case], READINGS, way), 1),
+            Some(case) => row(path.rsplit('/').next().unwrap_or(path), case.text.len(), times(&mut [case], READINGS, ours, way), 1),
             None => left_out += 1,
         }
     }
@@ -138,21 +138,21 @@ fn given(paths: &[&str], way: &impl Way) -> Result<usize, String> {
 }
 
 /// How many texts were left out.
-fn made(way: &impl Way) -> usize {
+fn made(ours: &Archive, way: &impl Way) -> usize {
     let mut r = Random::new(SEED);
     let mut left_out = 0;
     for (bytes, n, rounds) in SIZES {
         let mut cases = cases(bytes, n, &mut r, way);
         left_out += n - cases.len();
         let texts = cases.len().max(1);
-        row("a solution", bytes_of(&cases) / texts, times(&mut cases, rounds, way), texts);
+        row("a solution", bytes_of(&cases) / texts, times(&mut cases, rounds, ours, way), texts);
         if bytes == SIZES[0].0 {
-            row("in slices for 32,768 bytes", bytes_of(&cases) / texts, times_in_long_slices(&mut cases, rounds, way), texts);
+            row("in slices for 32,768 bytes", bytes_of(&cases) / texts, times_in_long_slices(&mut cases, rounds, ours, way), texts);
         }
     }
     let mut build: Vec<Case> = BUILD.iter().flat_map(|&(bytes, n)| cases(bytes, n, &mut r, way)).collect();
     left_out += BUILD.iter().map(|(_, n)| n).sum::<usize>() - build.len();
     (1..build.len()).for_each(|i| build.swap(i, r.below(i + 1)));
-    row(&format!("a build: {} solutions", build.len()), bytes_of(&build), times(&mut build, BUILD_ROUNDS, way), 1);
+    row(&format!("a build: {} solutions", build.len()), bytes_of(&build), times(&mut build, BUILD_ROUNDS, ours, way), 1);
     left_out
 }

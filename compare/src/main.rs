@@ -10,7 +10,8 @@
 //!     compare bench-smtlib          the time of writing solutions as SMT-LIB terms, beside that of reading them
 //!     compare beside SHARED SEED MILLIONS [WORD ..]  so many million random calls of all functions against another archive, of which SHARED
 //!                                   is a shared object, behind all small texts; texts that contain one of the words are passed over
-//!     compare bench-beside SHARED [TEXT ..]  the time of solution against another archive, of made texts or of these; of these also that of read one
+//!     compare bench-beside SHARED SHARED [TEXT ..]  the time of solution by the first against that by the second, of made texts or of these;
+//!                                   of these also that of read one
 //!     compare reading SEED MILLIONS so many million for read one and read all against sexp.rs, behind all short texts
 //!     compare source SEED MILLIONS  so many million for all operations against parser.rs and constraint.rs, behind all small texts
 //!     compare bench TEXT ..         the time of read one against sexp.rs
@@ -184,11 +185,10 @@ fn run(words: &[&str]) -> Result<(), String> {
         ["beside", path, seed, millions, words @ ..] => {
             against_other(&other(path)?, words, number(millions)? * 1_000_000, &mut Random::new(number(seed)?))
         }
-        ["bench-beside", path] => bench::run(&other(path)?, &[]),
-        ["bench-beside", path, paths @ ..] => {
-            let other = other(path)?;
-            bench::run(&other, paths)?;
-            beside::bench::read_one(&other, paths)
+        ["bench-beside", ours, path, paths @ ..] => {
+            let (ours, other) = (other(ours)?, other(path)?);
+            bench::run(&ours, &other, paths)?;
+            if paths.is_empty() { Ok(()) } else { beside::bench::read_one(&ours, &other, paths) }
         }
         #[cfg(flux_source)]
         ["reading", seed, millions] => reading_long(seed, millions),
@@ -206,7 +206,7 @@ fn run(words: &[&str]) -> Result<(), String> {
         }
         #[cfg(not(flux_source))]
         ["reading" | "source" | "bench" | "bench-solution", ..] => Err("built without the source; FLUX_SOURCE names its folder".to_string()),
-        _ => Err("compare gate ANSWERS TERMS | long SEED MILLIONS | smtlib SEED MILLIONS | write | script | reading SEED MILLIONS | source SEED MILLIONS | bench TEXT .. | bench-solution [TEXT ..] | bench-flatten | bench-smtlib | beside SHARED SEED MILLIONS [WORD ..] | bench-beside SHARED [TEXT ..]".to_string()),
+        _ => Err("compare gate ANSWERS TERMS | long SEED MILLIONS | smtlib SEED MILLIONS | write | script | reading SEED MILLIONS | source SEED MILLIONS | bench TEXT .. | bench-solution [TEXT ..] | bench-flatten | bench-smtlib | beside SHARED SEED MILLIONS [WORD ..] | bench-beside SHARED SHARED [TEXT ..]".to_string()),
     }
 }
 

@@ -1,8 +1,9 @@
-//! Another archive of the library, as what the time of solution and of read one is taken against.
+//! Another archive of the library, as what the time of solution and of read one is taken against. Both are loaded as shared objects: where code
+//! lies makes a difference of some percent, and one that is linked lies elsewhere.
 
 use crate::bench::{self, Slices, Way, READINGS};
 use crate::call::{Answer, Call, Operation, Refusal};
-use crate::ffi::{Archive, LINKED};
+use crate::ffi::Archive;
 use crate::timing::{round_by_round, turns};
 use std::fs;
 use std::time::Duration;
@@ -17,25 +18,21 @@ impl Way for Archive {
     }
 
     fn time(&self, text: &str, slices: Slices) -> Duration {
-        timed(self, Operation::Solution, text, slices)
+        bench::time(self, Operation::Solution, text, slices)
     }
 }
 
-fn timed(archive: &Archive, op: Operation, text: &str, slices: Slices) -> Duration {
-    bench::time(|call, tree, draft, out| archive.reply(call, tree, draft, out), op, text, slices)
-}
-
 /// The time of read one on the texts in these files, by both archives, with an output just long enough.
-pub fn read_one(other: &Archive, paths: &[&str]) -> Result<(), String> {
+pub fn read_one(ours: &Archive, other: &Archive, paths: &[&str]) -> Result<(), String> {
     println!("| text | bytes | read one | before | ratio |");
     println!("|---|---|---|---|---|");
     for path in paths {
         let text = fs::read_to_string(path).map_err(|e| format!("{path}: {e}"))?;
         let mut out = vec![0; 5 * text.len()];
-        let words = LINKED.reply(&Call::roomy(Operation::ReadOne, text.as_bytes()), &mut [], &mut [], &mut out).a;
+        let words = ours.reply(&Call::roomy(Operation::ReadOne, text.as_bytes()), &mut [], &mut [], &mut out).a;
         let out = &mut out[..words as usize];
-        let mut readings = |archive: &Archive| round_by_round(&mut [()], READINGS, |_| timed(archive, Operation::ReadOne, &text, [&mut [], &mut [], &mut *out]));
-        bench::row(path.rsplit('/').next().unwrap_or(path), text.len(), turns(|| (readings(&LINKED), readings(other))), 1);
+        let mut readings = |archive: &Archive| round_by_round(&mut [()], READINGS, |_| bench::time(archive, Operation::ReadOne, &text, [&mut [], &mut [], &mut *out]));
+        bench::row(path.rsplit('/').next().unwrap_or(path), text.len(), turns(|| (readings(ours), readings(other))), 1);
     }
     Ok(())
 }

@@ -6,6 +6,7 @@ use super::answer::Source;
 use super::reader;
 use crate::bench::{self, Slices, Way};
 use crate::call::{Answer, Call, Refusal};
+use crate::ffi::LINKED;
 use crate::model::Model;
 use std::hint::black_box;
 use std::time::{Duration, Instant};
@@ -36,5 +37,5 @@ impl Way for Upstream {
 
 /// The solutions in these files, or, without one, made ones of several sizes.
 pub fn run(paths: &[&str]) -> Result<(), String> {
-    bench::run(&Upstream, paths)
+    bench::run(&LINKED, &Upstream, paths)
 }
