@@ -1,4 +1,4 @@
-// Decimals.
+// Which bytes are a decimal.
 ghost use mathlib.Core.Path.{_≡_};
 ghost use Prim.Native.Nat.{_≤_};
 ghost use lib.ListN.{length, drop};

@@ -152,8 +152,17 @@ words-are-symbols g w s k e t f =
     go nothing p true q = absurd (none (is-figured (g ++ w) q))
     go nothing p false q = refl
 
+-- The names of booleans have no digit.
+true-letters : hasDigit (ascii "true") ≡ false
+unfolding hasDigit isDigit pick
+true-letters = refl
+
+false-letters : hasDigit (ascii "false") ≡ false
+unfolding hasDigit isDigit pick
+false-letters = refl
+
 module _ (bytes : List ℕ) (s : Span) where
-  -- A word without a digit is no figure.
+  -- What the grammar writes is no word without a digit.
   other-word : (w : List ℕ) → hasDigit w ≡ false → Figured bytes → sameBytes bytes w ≡ false
   other-word w h f = go (sameBytes bytes w) refl
     where
@@ -161,15 +170,7 @@ module _ (bytes : List ℕ) (s : Span) where
       go true e = absurd (unfigured w h (subst Figured (same-equal bytes w e) f))
       go false e = e
 
-  -- The names of booleans are such words.
-  true-letters : hasDigit (ascii "true") ≡ false
-  unfolding hasDigit isDigit pick
-  true-letters = refl
-
-  false-letters : hasDigit (ascii "false") ≡ false
-  unfolding hasDigit isDigit pick
-  false-letters = refl
-
+  -- Where the atom is a decimal, the test for one held, and the bytes are no integer.
   decimal-parts : atomOf bytes s ≡ decimal s → Figured bytes × (integerOf bytes ≡ nothing)
   unfolding atomOf orDecimal pick
   decimal-parts h = go (sameBytes bytes (ascii "true")) (sameBytes bytes (ascii "false")) (integerOf bytes) refl (isDecimal bytes) refl h
@@ -182,6 +183,7 @@ module _ (bytes : List ℕ) (s : Span) where
       go false false nothing p true q h = (is-figured bytes q, p)
       go false false nothing p false q h = let z : _≡_ {A = ℕ} 0 1 = cc in absurd (omega arith)
 
+  -- So it is no boolean, and a decimal where it is no integer.
   figured-decimal : Figured bytes → integerOf bytes ≡ nothing → atomOf bytes s ≡ decimal s
   unfolding atomOf orDecimal
   figured-decimal f e =

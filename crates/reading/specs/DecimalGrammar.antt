@@ -66,11 +66,12 @@ pub data AtMostOneMark : List ℕ → Type 0 where
   noMark : AtMostOneMark []
   oneMark : {e : List ℕ} → Mark e → AtMostOneMark e
 
--- What every decimal has.
+-- A digit, and at most that letter.
 pub record DecimalHas (bytes : List ℕ) : Type 0 where
   pub digit : hasDigit bytes ≡ true
   pub letters : AtMostOneMark (lettersOf bytes)
 
+-- Every atom that is a decimal has these.
 abbrev pub DecimalsHave : Type 0
 DecimalsHave = (bytes : List ℕ) (s : Span) → atomOf bytes s ≡ decimal s → DecimalHas bytes
 

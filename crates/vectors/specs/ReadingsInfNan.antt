@@ -59,7 +59,7 @@ infAndNan =
     ∷ asked expression "(((as apply Int) f) -inf)" (words (38 ∷ 0 ∷ 1 ∷ 37 ∷ 20 ∷ 4 ∷ 38 ∷ 1 ∷ 0 ∷ 1 ∷ 37 ∷ 17 ∷ 1 ∷ []))
     ∷ asked expression "((nan apply inf) f)" (words (38 ∷ 1 ∷ 0 ∷ 10 ∷ 2 ∷ 12 ∷ 3 ∷ 0 ∷ 37 ∷ 17 ∷ 1 ∷ []))
     ∷ asked solution "(nan () inf)" (words (0 ∷ 37 ∷ 8 ∷ 3 ∷ []))
-    -- they nest in lists as any symbol does, and a literal is no place for one
+    -- operands of `and` and `or`; in a literal only where nothing is looked at
     ∷ asked expression "(and inf (or nan))" (words (42 ∷ 2 ∷ 37 ∷ 5 ∷ 3 ∷ 43 ∷ 1 ∷ 37 ∷ 13 ∷ 3 ∷ []))
     ∷ asked expression "(lit \"#b1\" inf)" (refusal 8)
     ∷ asked expression "(lit \"#b1\" (nan Size1))" (words (35 ∷ 1 ∷ 0 ∷ 0 ∷ 0 ∷ 1 ∷ []))
