@@ -8,7 +8,8 @@
  * A slice passes as a pointer and a length in elements. A pointer is never NULL, not even for a length of 0, is aligned
  * for its elements, and nothing that is written overlaps anything else that is passed. Nothing more is asked: every
  * text, every word and every length has its answer. Nothing is allocated and nothing is kept from call to call, so that
- * calls may be made from several threads. A call needs at most 128 KiB of stack, which is tested and not proved.
+ * calls may be made from several threads. A call needs at most 128 KiB of stack, which is tested and not proved; in
+ * pinhkray_read_one and pinhkray_read_all no function calls itself, and at most 3 call frames are open at once.
  *
  * A reader is its count, the next fresh number: 0 for a new one, then the `count_after` of its last call.
  */

@@ -23,14 +23,14 @@ static u64 tables[64];
 static size_t table_count;
 volatile u64 blocks_seen;
 u64 blocks_all;
-u64 blocks_jumps[4096];
-size_t blocks_jump_count;
+u64 blocks_jumps[4096], blocks_turns[4096];
+size_t blocks_jump_count, blocks_turn_count;
 
 static volatile int side;
 static u64 met_aside[8192];
 static volatile size_t aside;
 
-static int inside(u64 address)
+int blocks_inside(u64 address)
 {
     return address >= low && address < high;
 }
@@ -41,7 +41,7 @@ static void on_trap(int number, siginfo_t *info, void *context)
     (void)info;
     ucontext_t *u = context;
     u64 at = (u64)u->uc_mcontext.gregs[REG_RIP] - 1;
-    if (!inside(at) || !armed[at - low])
+    if (!blocks_inside(at) || !armed[at - low])
         abort();
     *(volatile u8 *)at = bytes[at - low];
     armed[at - low] = 0;
@@ -54,11 +54,16 @@ static void on_trap(int number, siginfo_t *info, void *context)
     blocks_seen++;
 }
 
-static void arm(u64 at)
+void blocks_stop(u64 at)
 {
     bytes[at - low] = *(volatile u8 *)at;
     armed[at - low] = 1;
     *(volatile u8 *)at = 0xcc;
+}
+
+u8 blocks_byte(u64 at)
+{
+    return blocks_inside(at) && armed[at - low] ? bytes[at - low] : 0;
 }
 
 void side_calls(int on)
@@ -66,7 +71,7 @@ void side_calls(int on)
     side = on;
     if (!on)
         while (aside > 0)
-            arm(met_aside[--aside]);
+            blocks_stop(met_aside[--aside]);
 }
 
 // A line of `objdump -d --no-show-raw-insn` that holds an instruction: "  address:\tinstruction  operands".
@@ -101,23 +106,25 @@ static void flow(u64 at, const char *text, int *opens)
     if (*opens && strncmp(text, "nop", 3) != 0)
         leads[at - low] = 1;
     *opens = 0;
+    if ((strncmp(text, "call", 4) == 0 || strncmp(text, "ret", 3) == 0) && blocks_turn_count < 4096)
+        blocks_turns[blocks_turn_count++] = at;
     if (text[0] == 'j') {
         u64 to = target(text);
         *opens = strncmp(text, "jmp", 3) != 0;
         if (*opens && blocks_jump_count < 4096)
             blocks_jumps[blocks_jump_count++] = at;
-        if (to && inside(to)) {
+        if (to && blocks_inside(to)) {
             leads[to - low] = 1;
             calls[here][of[to - low]] = 1;
         }
     } else if (strncmp(text, "call", 4) == 0) {
         u64 to = target(text);
-        if (to && inside(to))
+        if (to && blocks_inside(to))
             calls[here][of[to - low]] = 1;
     } else if (strncmp(text, "lea", 3) == 0 && strstr(text, "(%rip)")) {
         const char *hash = strstr(text, "# ");
         u64 table = hash ? strtoull(hash + 2, 0, 16) : 0;
-        if (table && !inside(table) && table_count < 64)
+        if (table && !blocks_inside(table) && table_count < 64)
             tables[table_count++] = table;
     }
 }
@@ -133,7 +140,7 @@ static void read_table(u64 table)
         int32_t distance;
         memcpy(&distance, (const void *)(table + 4 * i), 4);
         u64 to = table + (u64)(int64_t)distance;
-        if (!inside(to) || !starts[to - low] || (owner >= 0 && of[to - low] != owner))
+        if (!blocks_inside(to) || !starts[to - low] || (owner >= 0 && of[to - low] != owner))
             return;
         owner = of[to - low];
         leads[to - low] = 1;
@@ -222,7 +229,7 @@ void blocks_arm(enum op op)
             reach(f);
     for (u64 at = low; at < high; at++)
         if (leads[at - low] && reached[of[at - low]]) {
-            arm(at);
+            blocks_stop(at);
             blocks_all++;
         }
 }

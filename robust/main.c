@@ -51,7 +51,7 @@ static void watch(void)
 static int usage(void)
 {
     printf("robust CASES replay | memory CALLS | fuzz OPERATION SECONDS SEED DISASSEMBLY"
-           " | soak TEXTS | stack TRIES | teeth CHANGES SEED DISASSEMBLY\n");
+           " | soak TEXTS | stack TRIES | frames TRIES DISASSEMBLY | teeth CHANGES SEED DISASSEMBLY\n");
     return 2;
 }
 
@@ -67,6 +67,10 @@ int main(int argc, char **argv)
     }
     if (strcmp(mode, "stack") == 0 && argc == 4) {
         mode_stack(strtoull(argv[3], 0, 10));
+        return 0;
+    }
+    if (strcmp(mode, "frames") == 0 && argc == 5) {
+        mode_frames(strtoull(argv[3], 0, 10), argv[4]);
         return 0;
     }
     watch();

@@ -107,8 +107,11 @@ void blocks_show(enum op op);
 void side_calls(int on); // calls for checks only: their blocks are not counted
 extern volatile u64 blocks_seen;
 extern u64 blocks_all;
-extern u64 blocks_jumps[]; // the conditional jumps
-extern size_t blocks_jump_count;
+extern u64 blocks_jumps[], blocks_turns[]; // the conditional jumps; the calls and returns
+extern size_t blocks_jump_count, blocks_turn_count;
+int blocks_inside(u64 address);
+void blocks_stop(u64 at); // sets a breakpoint
+u8 blocks_byte(u64 at); // what stood where a breakpoint stands; 0 if there is none
 
 // extreme.c: the deepest and longest texts and words.
 struct extreme {
@@ -122,12 +125,17 @@ extern struct extreme extremes[];
 extern size_t extreme_count;
 void make_extremes(void);
 
+// deepest.c: prints for each operation the input on which a measure is largest, made or found by so many changes.
+typedef size_t measure(const struct call *c, u32 *refusal);
+void deepest(u64 tries, measure *measure, const char *mode, const char *unit);
+
 // The modes.
 void mode_replay(void);
 void mode_memory(u64 random_calls);
 void mode_fuzz(enum op op, u64 seconds, u64 seed, const char *disassembly);
 void mode_soak(u64 texts);
 void mode_stack(u64 tries);
+void mode_frames(u64 tries, const char *disassembly);
 void mode_teeth(u64 changes, u64 seed, const char *disassembly);
 
 #endif

@@ -11,8 +11,8 @@
 //!
 //! What each operation answers, which words it writes and when it refuses is proved of the library that this crate
 //! links, for every text and for slices of any length. The decoding of words into terms, their encoding and their
-//! printing is plain Rust with tests. A call needs at most 128 KiB of stack, which is tested and not proved. The library
-//! keeps nothing from call to call.
+//! printing is plain Rust with tests. A call needs at most 128 KiB of stack, which is tested and not proved; when a
+//! tree is read, no function of the library calls itself. The library keeps nothing from call to call.
 //!
 //! ```
 //! use pinhkray::Reader;
