@@ -1,29 +1,31 @@
-// The input on which a measure of an operation is largest: the extremes, and changes of the short ones of them, going on from what is larger.
+// The input on which a measure of an operation is largest: the extremes, the recorded cases, and changes of the short extremes, going on from what
+// is larger.
 #include "robust.h"
 #include <stdio.h>
 #include <string.h>
 
 struct largest {
-    size_t of_all, of_accepted;
+    size_t of_all, of_accepted, least, accepted;
     const char *all_on, *accepted_on;
-    u32 refusal;
 };
 
-static size_t note(struct largest *l, measure *measure, const struct call *c, const char *on)
+static void note(struct largest *l, measure *by, const struct call *c, const char *on)
 {
-    size_t found = measure(c, &l->refusal);
+    u32 refusal;
+    size_t found = by(c, &refusal);
     if (found > l->of_all) {
         l->of_all = found;
         l->all_on = on;
     }
-    if (l->refusal == 0 && found > l->of_accepted) {
+    if (refusal == 0 && found > l->of_accepted) {
         l->of_accepted = found;
         l->accepted_on = on;
     }
-    return found;
+    l->least = found < l->least ? found : l->least;
+    l->accepted += refusal == 0;
 }
 
-static void change(enum op op, u64 tries, measure *measure, struct largest *l)
+static void change(enum op op, u64 tries, measure *by, struct largest *l)
 {
     static u8 input[8192], best[8192];
     size_t best_len = 0;
@@ -41,7 +43,7 @@ static void change(enum op op, u64 tries, measure *measure, struct largest *l)
             len = mutate_text(input, len, sizeof input, other->bytes, other->len);
         struct call c = roomy(op, input, len);
         size_t before = l->of_all;
-        note(l, measure, &c, "found by changes");
+        note(l, by, &c, "found by changes");
         if (l->of_all > before) {
             memcpy(best, input, len);
             best_len = len;
@@ -49,26 +51,27 @@ static void change(enum op op, u64 tries, measure *measure, struct largest *l)
     }
 }
 
-void deepest(u64 tries, measure *measure, const char *mode, const char *unit)
+void deepest(u64 tries, measure *by, const char *mode, const char *unit)
 {
     make_extremes();
     seed_random(3);
     for (int op = 0; op < OPS; op++) {
-        struct largest l = {0, 0, "", "", 0};
-        size_t runs = 0, accepted = 0, least = SIZE_MAX;
-        for (size_t i = 0; i < extreme_count; i++) {
-            const struct extreme *e = &extremes[i];
-            if (!extreme_for(e, (enum op)op))
-                continue;
-            struct call c = roomy((enum op)op, e->bytes, e->len);
-            size_t found = note(&l, measure, &c, e->name);
-            runs++;
-            accepted += l.refusal == 0;
-            least = found < least ? found : least;
-        }
-        size_t made = l.of_all;
-        change((enum op)op, tries, measure, &l);
-        printf("robust: %s %s: %zu %s at most (%s), %zu when accepted (%s), %zu at least; %zu made inputs, %zu accepted, at most %zu\n", mode, op_names[op],
-               l.of_all, unit, l.all_on, l.of_accepted, l.accepted_on, least, runs, accepted, made);
+        struct largest l = {0, 0, SIZE_MAX, 0, "", ""};
+        size_t made = 0, recorded = 0;
+        for (size_t i = 0; i < extreme_count; i++)
+            if (extreme_for(&extremes[i], (enum op)op)) {
+                struct call c = roomy((enum op)op, extremes[i].bytes, extremes[i].len);
+                note(&l, by, &c, extremes[i].name);
+                made++;
+            }
+        for (size_t i = 0; i < seed_count; i++)
+            if (seeds[i].call.op == (enum op)op) {
+                note(&l, by, &seeds[i].call, "a recorded case");
+                recorded++;
+            }
+        size_t before = l.of_all, accepted = l.accepted;
+        change((enum op)op, tries, by, &l);
+        printf("robust: %s %s: %zu %s at most (%s), %zu when accepted (%s), %zu at least; %zu made inputs and %zu recorded ones, %zu accepted, at most %zu\n", mode,
+               op_names[op], l.of_all, unit, l.all_on, l.of_accepted, l.accepted_on, l.least, made, recorded, accepted, before);
     }
 }

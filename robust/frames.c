@@ -96,7 +96,4 @@ void mode_frames(u64 tries, const char *disassembly)
     draft = malloc(WORDS_ROOM * 4);
     out = malloc(WORDS_ROOM * 4);
     deepest(tries, count, "frames", "frames");
-    u32 refusal;
-    for (size_t i = 0; i < seed_count; i++)
-        count(&seeds[i].call, &refusal);
 }

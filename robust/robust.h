@@ -125,9 +125,9 @@ extern struct extreme extremes[];
 extern size_t extreme_count;
 void make_extremes(void);
 
-// deepest.c: prints for each operation the input on which a measure is largest, made or found by so many changes.
+// deepest.c: prints for each operation the input on which a measure is largest: a made one, a recorded one, or one found by so many changes.
 typedef size_t measure(const struct call *c, u32 *refusal);
-void deepest(u64 tries, measure *measure, const char *mode, const char *unit);
+void deepest(u64 tries, measure *by, const char *mode, const char *unit);
 
 // The modes.
 void mode_replay(void);

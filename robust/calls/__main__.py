@@ -1,7 +1,7 @@
 """Shows from the machine code of the built library how its functions call one another, and holds the text reader to C-15 of document 02.
 
     python3 robust/calls ARCHIVE           what each C function of the archive calls; fails if the text reader's functions break a rule
-    python3 robust/calls planted ARCHIVE   whether each rule finds what is planted against it, in the archive and in made objects
+    python3 robust/calls planted ARCHIVE   whether each rule finds what is planted against it, in made objects and sources and in the archive
 
 The rules: below a function of the text reader there is no cycle of calls, no call or jump to a place that is computed, nothing from outside but
 what may be needed, and no more frames than its bound. In the sources, no cycle is in the text reader's crates, the cycles are those that
@@ -72,8 +72,9 @@ def main(words):
         wrong = list(complaints(archive)) + list(sources.complaints(TOP, calls_of(archive)))
         lines = list(report(archive)) + list(sources.report(TOP)) + wrong
     elif len(words) == 2 and words[0] == "planted":
-        wrong, number = planted.missed(words[1], lambda made: list(complaints(Archive(made))), lambda top, calls: list(sources.complaints(top, calls)))
-        lines = wrong + [f"planted: {number - len(wrong)} of {number} answered as they should be"]
+        answers = list(planted.answers(words[1], lambda made: complaints(Archive(made)), sources.complaints))
+        wrong = [f"planted: {name}: the answer is {answer}" for name, answer, right in answers if answer != right]
+        lines = wrong + [f"planted: {len(answers) - len(wrong)} of {len(answers)} answered as they should be"]
     else:
         print(__doc__)
         return 2
