@@ -100,7 +100,9 @@ class Archive:
             elif found := RELOCATION.match(line):
                 last.names.append(found[1])
             elif found := INSTRUCTION.match(line):
-                last = Instruction(int(found[1], 16), found[3], found[4].strip())
+                # Older versions print `callq` and `jmpq`.
+                verb = re.sub(r"^(call|jmp)q$", r"\1", found[3])
+                last = Instruction(int(found[1], 16), verb, found[4].strip())
                 self.at(member, section, last.at).code.append(last)
 
     def at(self, member, section, offset):
