@@ -13,7 +13,7 @@ def cycles(top):
     crates = top / "crates"
     for folder in sorted(crates.glob("*/proofs/**/+*")):
         crate, _, *modules, cycle = folder.relative_to(crates).parts
-        yield crate, {"::".join([crate, *modules, name]) for name in cycle.removeprefix("+").split("+")}
+        yield crate, {"::".join([crate, *modules, name]) for name in cycle[1:].split("+")}
 
 
 def text_reader(top):
