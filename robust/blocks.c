@@ -106,8 +106,11 @@ static void flow(u64 at, const char *text, int *opens)
     if (*opens && strncmp(text, "nop", 3) != 0)
         leads[at - low] = 1;
     *opens = 0;
-    if ((strncmp(text, "call", 4) == 0 || strncmp(text, "ret", 3) == 0) && blocks_turn_count < 4096)
+    if (strncmp(text, "call", 4) == 0 || strncmp(text, "ret", 3) == 0) {
+        if (blocks_turn_count == sizeof blocks_turns / sizeof blocks_turns[0])
+            exit(2);
         blocks_turns[blocks_turn_count++] = at;
+    }
     if (text[0] == 'j') {
         u64 to = target(text);
         *opens = strncmp(text, "jmp", 3) != 0;

@@ -16,17 +16,18 @@ class Step:
 
 def below(calls, name):
     """The functions that run when one is called; this one only if it is called again."""
-    found, next = set(), [name]
-    while next:
-        new = set(calls.get(next.pop(), ())) - found
+    found, waiting = set(), [name]
+    while waiting:
+        new = set(calls.get(waiting.pop(), ())) - found
         found |= new
-        next += new
+        waiting += new
     return found
 
 
 def step(calls, name):
-    round = {other for other in below(calls, name) if name in below(calls, other)}
-    return Step(tuple(sorted(round)), True) if round else Step((name,), False)
+    """The step that a function belongs to: its cycle, if it calls itself."""
+    cycle = {other for other in below(calls, name) if name in below(calls, other)}
+    return Step(tuple(sorted(cycle)), True) if cycle else Step((name,), False)
 
 
 def cycles(calls, name):
