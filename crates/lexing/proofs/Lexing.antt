@@ -6,4 +6,5 @@ pub mod Digits
 pub mod Mags
 pub mod Signs
 pub mod Decimals
+pub mod Letters
 pub mod Leaves

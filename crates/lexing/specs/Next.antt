@@ -1,14 +1,19 @@
--- What may follow a byte, and how many bytes a character takes, as the code has them.
+-- ASCII characters; what may follow a byte, and how many bytes a character takes, as the code has them.
 use Prim.Native.Nat.{ℕ, _+_, _≤_}
-use mathlib.Core.Bool.{false}
+use mathlib.Core.Bool.{Bool, true, false, _&&_}
 use mathlib.Core.Path.{_≡_}
-use mathlib.Core.List.{List}
-use lib.Dec.{eqb}
+use mathlib.Core.List.{List, [], _∷_}
+use lib.Dec.{ltb, eqb}
 use lib.ListN.{length, drop}
 use Rattle.reading.specs.Pick.{pick}
 use Rattle.reading.specs.Utf8.{Expected, first, inside, wrong, wellFormed}
 use Rattle.lexing.specs.declared.utf8.Next.{Next}
 use Rattle.lexing.specs.declared.utf8.Next.the-variants.{First, Inside, Wrong}
+
+-- Every character is an ASCII one.
+unfoldable pub allAscii : List ℕ → Bool
+allAscii [] = true
+allAscii (b ∷ s) = ltb b 0x80 && allAscii s
 
 abbrev pub expected : Next → Expected
 expected First = first

@@ -143,6 +143,12 @@ pub fn space_bytes(text: &[u8], at: usize) -> usize
     ensures { λ r. ⌜ r ≡ spaceBytes (drop at (now (text .entry))) ⌝ }
 {
     let b = text[at];
+    if b == b' ' {
+        return 1;
+    }
+    if (b' ' < b) & (b < 0x80) {
+        return 0;
+    }
     if b < 0x80 {
         if white_byte(b) {
             return 1;
@@ -173,15 +179,11 @@ fn ends_atom(text: &[u8], at: usize) -> bool
     ensures { λ r. ⌜ r ≡ endsAtom (drop at (now (text .entry))) ⌝ }
 {
     let b = text[at];
-    if 0x80 <= b {
-        let n = space_bytes(text, at);
-        if n == 0 {
-            return false;
-        }
-        return true;
-    }
-    if b')' < b {
+    if (b')' < b) & (b < 0x80) {
         return false;
+    }
+    if b == b' ' {
+        return true;
     }
     if b == b'(' {
         return true;
@@ -192,7 +194,7 @@ fn ends_atom(text: &[u8], at: usize) -> bool
     if b == b'"' {
         return true;
     }
-    white_byte(b)
+    space_bytes(text, at) != 0
 }
 
 // The place where the atom ends that stands from `from` on.

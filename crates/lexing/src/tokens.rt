@@ -17,6 +17,7 @@ use crate::number::Mag;
 use crate::space::atom_end;
 use crate::space::space_bytes;
 use words::output::put;
+use words::output::put_three;
 use words::tree_kinds::BOOLEAN;
 use words::tree_kinds::DECIMAL;
 use words::tree_kinds::INTEGER;
@@ -65,12 +66,17 @@ fn spanned(kind: u32, start: usize, len: usize) -> Coded
     }
 }
 
-// An integer, a decimal or a symbol.
+// An integer, a decimal or a symbol. No number begins with a byte behind `9`.
 fn number_or_symbol(t: &[u8], start: usize) -> Coded
     requires { ⌜ (start ≤ maxBytes) × (length (now t) ≤ maxBytes) ⌝ }
     ensures { λ r. ⌜ r ≡ asCoded (orDecimal (integerOf (now (t .entry))) (isDecimal (now (t .entry)))
         (record { start = start; len = length (now (t .entry)) })) ⌝ }
 {
+    if t.len() != 0 {
+        if b'9' < t[0] {
+            return spanned(SYMBOL, start, t.len());
+        }
+    }
     let m = integer(t);
     match m {
         Mag::Is(q) => Coded {
@@ -183,12 +189,12 @@ pub fn put_words(out: &mut [u32], at: usize, n: usize, w: Words)
     requires { ⌜ (at < 2 ^ 32) × (2 ≤ n) × (n ≤ 5) ⌝ }
     ensures { λ _. ⌜ now (out .exit) ≡ sets (now (out .entry)) at (take n (w .a ∷ w .b ∷ w .c ∷ w .d ∷ w .e ∷ [])) ⌝ }
 {
-    put(out, at, w.a);
-    put(out, at + 1, w.b);
     if n <= 2 {
+        put(out, at, w.a);
+        put(out, at + 1, w.b);
         return;
     }
-    put(out, at + 2, w.c);
+    put_three(out, at, w.a, w.b, w.c);
     if n <= 3 {
         return;
     }

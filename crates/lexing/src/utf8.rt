@@ -3,7 +3,7 @@ ghost use mathlib.Core.Path.{_≡_};
 ghost use Prim.Native.Nat.{_≤_, _<_};
 ghost use lib.ListN.{length, drop};
 ghost use Rattle.reading.specs.Utf8.{first, inside, afterFirst, wellFormed, utf8};
-ghost use Rattle.lexing.specs.Next.{expected, CharacterEnds};
+ghost use Rattle.lexing.specs.Next.{allAscii, expected, CharacterEnds};
 
 // What may follow a byte: a character's first byte; a byte from the first number to the second, and
 // so many more behind it; or the byte was wrong.
@@ -111,10 +111,26 @@ fn ascii_end(text: &[u8], from: usize) -> usize
     i
 }
 
+// Whether all characters are ASCII ones. No byte ends the loop, so that the compiled one takes many bytes at a time.
+fn is_ascii(text: &[u8]) -> bool
+    ensures { λ r. ⌜ r ≡ allAscii (now (text .entry)) ⌝ }
+{
+    let mut all = true;
+    let mut i = 0;
+    while i < text.len() {
+        all = all & (text[i] < 0x80);
+        i += 1;
+    }
+    all
+}
+
 // Whether the bytes are UTF-8.
 pub fn is_utf8(text: &[u8]) -> bool
     ensures { λ r. ⌜ r ≡ utf8 (now (text .entry)) ⌝ }
 {
+    if is_ascii(text) {
+        return true;
+    }
     let mut i = ascii_end(text, 0);
     while i < text.len() {
         let n = character(text, i);

@@ -11,7 +11,7 @@ use lexing::tokens::Token;
 use lexing::tokens::put_words;
 use lexing::tokens::token_at;
 use words::limits::MAX_LISTS;
-use words::output::put;
+use words::output::put_three;
 use words::tree_kinds::LIST;
 
 // How many expressions and how many words were found, and the byte behind them; or a refusal's number.
@@ -32,9 +32,7 @@ fn put_list(out: &mut [u32], at: usize, children: usize, words: usize)
     requires { ⌜ (at < 2 ^ 32) × (children < 2 ^ 32) × (words < 2 ^ 32) ⌝ }
     ensures { λ _. ⌜ now (out .exit) ≡ sets (now (out .entry)) at (21 ∷ children ∷ words ∷ []) ⌝ }
 {
-    put(out, at, LIST);
-    put(out, at + 1, children as u32);
-    put(out, at + 2, words as u32);
+    put_three(out, at, LIST, children as u32, words as u32);
 }
 
 // Finds one expression, or all of them, and writes their words. Inside d lists, counts[d] expressions

@@ -1,14 +1,16 @@
 -- The laws of well-formed UTF-8.
 use Prim.Native.Nat.{ℕ, zero, suc, _+_, _-_, _<_, _≤_}
-use mathlib.Core.Bool.{false}
+use mathlib.Core.Bool.{true, false, _&&_, and-eq-true-iff}
 use mathlib.Core.Path.{_≡_, refl, sym, ap, _∙_}
 use mathlib.Core.List.{List, [], _∷_}
 use native.Mathlib.Numerals.{add-one}
 use native.Mathlib.Omega.{arith}
+use lib.Dec.{ltb}
 use lib.ListN.{length, getD, drop, drop-of-length-le}
 use lib.Seq.{drop-cons}
+use borrow.Author.Tests.{ltb-true}
 use Rattle.reading.specs.Utf8.{Expected, first, inside, wrong, afterFirst, stillToCome, afterByte, atEnd, wellFormed}
-use Rattle.lexing.specs.Next.{CharacterEnds}
+use Rattle.lexing.specs.Next.{allAscii, CharacterEnds}
 use Rattle.reading.proofs.Picks.{pick-le, pick-gt, pick-eq, pick-ne}
 
 -- After a wrong byte nothing is right.
@@ -51,6 +53,25 @@ module _ (s : List ℕ) (i : ℕ) where
     pub formed-within : lo ≤ getD s i 0 → getD s i 0 ≤ hi → wellFormed (inside lo hi n) (drop i s) ≡ wellFormed (stillToCome n) (drop (i + 1) s)
     unfolding afterByte
     formed-within k l = formed-more (inside lo hi n) h ∙ ap (λ (x : Expected). wellFormed x (drop (i + 1) s)) (sym (pick-le _ k (pick-le _ l refl)))
+
+-- ASCII characters, from a place on.
+module _ (s : List ℕ) (i : ℕ) where
+  pub ascii-end : length s ≤ i → allAscii (drop i s) ≡ true
+  unfolding allAscii
+  ascii-end h = rw drop-of-length-le
+
+  pub ascii-more : i < length s → allAscii (drop i s) ≡ (ltb (getD s i 0) 0x80 && allAscii (drop (i + 1) s))
+  unfolding allAscii
+  ascii-more h = rw (drop-cons s i 0, add-one)
+
+-- They are UTF-8.
+pub ascii-formed : (s : List ℕ) → allAscii s ≡ true → true ≡ wellFormed first s
+unfolding allAscii wellFormed afterByte afterFirst
+ascii-formed [] e = refl
+ascii-formed (b ∷ s) e =
+    let both = and-eq-true-iff (ltb b 0x80) (allAscii s) .0 e in
+    let low : b ≤ 0x7f = omega (arith, ltb-true b 0x80 (both .0)) in
+    ascii-formed s (both .1) ∙ ap (λ (x : Expected). wellFormed x s) (pick-le _ low refl)
 
 -- Bytes still to come.
 pub come-none : (n : ℕ) → n ≡ 0 → stillToCome n ≡ first

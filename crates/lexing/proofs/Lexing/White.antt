@@ -1,17 +1,23 @@
 -- Laws of white space and of the ends of atoms.
 use Prim.Native.Nat.{ℕ, _+_, _-_, _*_, _%_, _<_, _≤_}
-use mathlib.Core.Bool.{Bool, true, false}
+use mathlib.Core.Bool.{Bool, true, false, not, _&&_, and-eq-true-iff}
 use mathlib.Core.Path.{_≡_, refl, sym, _∙_}
 use mathlib.Core.List.{List}
 use native.Mathlib.Nat.{add-zero}
 use native.Mathlib.Omega.{arith}
-use lib.Dec.{leb}
+use lib.Dec.{leb, ltb, eqb}
 use lib.ListN.{length, getD, drop, length-drop}
 use lib.Seq.{getD-drop}
-use borrow.Author.Tests.{ne-eqb}
+use borrow.Author.Tests.{ltb-true, ne-eqb}
 use Rattle.reading.specs.Pick.{pick}
 use Rattle.reading.specs.Space.{isWhite, charBytes, charAt, spaceBytes, endsAtom}
 use Rattle.reading.proofs.Picks.{picks, pick-true, pick-le, pick-gt, pick-lt, pick-ge, pick-eq, pick-ne}
+
+-- Two tests in one: a number between two others.
+pub between : (m c n : ℕ) → (ltb m c && ltb c n) ≡ true → (m < c) × (c < n)
+between m c n e =
+    let both = and-eq-true-iff (ltb m c) (ltb c n) .0 e in
+    (ltb-true m c (both .0), ltb-true c n (both .1))
 
 -- What a number below U+1680 must not be, to be no white space.
 pub white-low : (c : ℕ) → 13 < c → (c ≡ 32 → ⊥) → (c ≡ 0x85 → ⊥) → (c ≡ 0xa0 → ⊥) → c < 0x1680 → false ≡ isWhite c
@@ -108,6 +114,10 @@ module _ (s : List ℕ) (at a : ℕ) (ea : a ≡ getD s at 0) (h : at < length s
       let n : 1 ≤ length s - at = omega arith in
       space-white s at 1 (rw (← ea) (pick-lt _ k refl)) n (t ∙ rw (← char-one s at a ea k))
 
+  pub space-blank : a ≡ 32 → 1 ≡ spaceBytes (drop at s)
+  unfolding isWhite pick
+  space-blank e = space-ascii (omega arith) (rw e)
+
   pub space-graphic : a < 0x80 → false ≡ isWhite a → 0 ≡ spaceBytes (drop at s)
   space-graphic k t = space-other (drop at s) (t ∙ rw (← char-one s at a ea k))
 
@@ -144,20 +154,18 @@ module _ (s : List ℕ) (at a : ℕ) (ea : a ≡ getD s at 0) where
       unfolding endsAtom
       ends-quote h = simp (getD-drop, add-zero, ← ea) (pick-ne _ n₁ (pick-ne _ n₂ (pick-eq _ h refl)))
 
-      module _ (n₃ : a ≡ 34 → ⊥) (n : ℕ) (en : n ≡ spaceBytes (drop at s)) where
-        pub ends-space : (n ≡ 0 → ⊥) → true ≡ endsAtom (drop at s)
-        unfolding endsAtom
-        ends-space z = simp (getD-drop, add-zero, ← ea, ← en) (pick-ne _ n₁ (pick-ne _ n₂ (pick-ne _ n₃ (pick-ne _ z refl))))
+      pub ends-other : (a ≡ 34 → ⊥) → (n : ℕ) → n ≡ spaceBytes (drop at s) → not (eqb n 0) ≡ endsAtom (drop at s)
+      unfolding endsAtom pick
+      ends-other n₃ n en = simp (getD-drop, add-zero, ← ea, ← en) (pick-ne _ n₁ (pick-ne _ n₂ (pick-ne _ n₃ (go (eqb n 0)))))
+        where
+          go : (t : Bool) → not t ≡ pick t false true
+          go true = refl
+          go false = refl
 
-        pub ends-none : n ≡ 0 → false ≡ endsAtom (drop at s)
-        unfolding endsAtom
-        ends-none z = simp (getD-drop, add-zero, ← ea, ← en) (pick-ne _ n₁ (pick-ne _ n₂ (pick-ne _ n₃ (pick-eq _ z refl))))
+-- The same of a blank, and of an ASCII character behind `)`.
+module _ (s : List ℕ) (at a : ℕ) (ea : a ≡ getD s at 0) (h : at < length s) where
+  pub ends-blank : a ≡ 32 → true ≡ endsAtom (drop at s)
+  ends-blank e = ends-other s at a ea (λ q. omega arith) (λ q. omega arith) (λ q. omega arith) 1 (space-blank s at a ea h e)
 
--- The same of an ASCII character.
-module _ (s : List ℕ) (at a : ℕ) (ea : a ≡ getD s at 0) (h : at < length s) (k : a < 0x80) where
-  pub ends-graphic : 41 < a → false ≡ endsAtom (drop at s)
-  ends-graphic l = ends-none s at a ea (λ q. omega arith) (λ q. omega arith) (λ q. omega arith) 0 (space-graphic s at a ea h k (white-ascii a (omega arith) k)) refl
-
-  pub ends-white : (a ≡ 40 → ⊥) → (a ≡ 41 → ⊥) → (a ≡ 34 → ⊥) → (t : Bool) → t ≡ isWhite a → t ≡ endsAtom (drop at s)
-  ends-white n₁ n₂ n₃ true t = ends-space s at a ea n₁ n₂ n₃ 1 (space-ascii s at a ea h k t) (λ q. omega arith)
-  ends-white n₁ n₂ n₃ false t = ends-none s at a ea n₁ n₂ n₃ 0 (space-graphic s at a ea h k t) refl
+  pub ends-graphic : 41 < a → a < 0x80 → false ≡ endsAtom (drop at s)
+  ends-graphic l k = ends-other s at a ea (λ q. omega arith) (λ q. omega arith) (λ q. omega arith) 0 (space-graphic s at a ea h k (white-ascii a (omega arith) k))
