@@ -9,6 +9,7 @@ use crate::call::{Answer, Call, Operation, Refusal};
 use crate::check;
 use crate::ffi::Archive;
 use crate::model::Model;
+use crate::nested;
 use crate::paper::Paper;
 use crate::random::Random;
 use crate::solutions::{self, SOLVED};
@@ -113,28 +114,33 @@ fn bytes_of(cases: &[Case]) -> usize {
     cases.iter().map(|c| c.text.len()).sum()
 }
 
-/// The solutions in these files, or, without one, made ones of several sizes, by this archive and by the other way.
+/// Made solutions of several sizes, one of nested lists, and those in these files, by this archive and by the other way. With a file, no others of
+/// several sizes.
 pub fn run<W: Way>(ours: &Archive, way: &W, paths: &[&str]) -> Result<(), String> {
     println!("| text | bytes | solution | {} | ratio |", W::NAME);
     println!("|---|---|---|---|---|");
-    let left_out = if paths.is_empty() { made(ours, way) } else { given(paths, ours, way)? };
+    let mut left_out = if paths.is_empty() { made(ours, way) } else { 0 };
+    let nested = nested::solution(nested::BYTES, nested::SEED);
+    left_out += one(nested::NAME, nested, ours, way);
+    for path in paths {
+        let text = fs::read_to_string(path).map_err(|e| format!("{path}: {e}"))?;
+        left_out += one(path.rsplit('/').next().unwrap_or(path), text, ours, way);
+    }
     if left_out > 0 {
         println!("compare: texts left out, since the other way refuses them: {left_out}");
     }
     Ok(())
 }
 
-/// How many texts were left out.
-fn given(paths: &[&str], ours: &Archive, way: &impl Way) -> Result<usize, String> {
-    let mut left_out = 0;
-    for path in paths {
-        let text = fs::read_to_string(path).map_err(|e| format!("{path}: {e}"))?;
-        match Case::new(text, way) {
-            Some(case) => row(path.rsplit('/').next().unwrap_or(path), case.text.len(), times(&mut [case], READINGS, ours, way), 1),
-            None => left_out += 1,
+/// A row of one text; how many texts were left out.
+fn one(name: &str, text: String, ours: &Archive, way: &impl Way) -> usize {
+    match Case::new(text, way) {
+        Some(case) => {
+            row(name, case.text.len(), times(&mut [case], READINGS, ours, way), 1);
+            0
         }
+        None => 1,
     }
-    Ok(left_out)
 }
 
 /// How many texts were left out.

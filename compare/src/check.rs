@@ -1,7 +1,7 @@
 //! One call: the library's reply, and every element of the lent slices after it, against what should be.
 
 use crate::call::{Answer, Call, Refusal};
-use crate::ffi::{self, Reply};
+use crate::ffi::{self, Archive, Reply, LINKED};
 use std::fmt::LowerHex;
 
 /// So many elements behind each slice are not lent, and must stay as they are.
@@ -59,9 +59,14 @@ fn expected(count: u64, out: usize, should: &Result<Answer, Refusal>) -> (Reply,
 
 /// Calls the library, with slices that are filled with a pattern first; the count of the reader that comes back.
 pub fn call(call: &Call, should: &Result<Answer, Refusal>) -> Result<u64, String> {
+    call_by(&LINKED, call, should)
+}
+
+/// The same of any archive.
+pub fn call_by(archive: &Archive, call: &Call, should: &Result<Answer, Refusal>) -> Result<u64, String> {
     let [tree_len, draft_len, out_len] = call.lent();
     let (mut tree, mut draft, mut out) = (filled(tree_len), filled(draft_len), filled(out_len));
-    let reply = ffi::reply(call, &mut tree[..tree_len], &mut draft[..draft_len], &mut out[..out_len]);
+    let reply = archive.reply(call, &mut tree[..tree_len], &mut draft[..draft_len], &mut out[..out_len]);
     let (good, out_after) = expected(call.count, out_len, should);
     let held = || {
         replied(reply, good)?;

@@ -1,4 +1,5 @@
-//! The library's functions, of the archive that is linked or of another one. A slice passes as a pointer and a length in elements.
+//! The library's functions, of the archive that is linked or of another one, and read one as limit.c has it. A slice passes as a pointer and a
+//! length in elements.
 
 use crate::call::{Call, Operation, Refusal};
 use crate::shared::Shared;
@@ -26,6 +27,8 @@ mod raw {
         pub fn pinhkray_smtlib(
             words: *const u32, words_len: usize, text: *const u8, text_len: usize, out: *mut u8, out_len: usize, bytes: *mut u64,
         ) -> u32;
+        #[cfg(flux_source)]
+        pub fn limit_read_one(text: *const u8, text_len: usize, out: *mut u32, out_len: usize, words: *mut u64, next: *mut u64) -> u32;
     }
 }
 
@@ -60,6 +63,10 @@ pub const LINKED: Archive = Archive {
     flatten: raw::pinhkray_flatten,
     smtlib: raw::pinhkray_smtlib,
 };
+
+/// The same, but for read one, which is the loop of limit.c. It is beside the source in all that is measured.
+#[cfg(flux_source)]
+pub const BY_HAND: Archive = Archive { read_one: raw::limit_read_one, ..LINKED };
 
 /// The refusal, 0 if accepted, the two numbers reported, and the count after the call.
 #[derive(Clone, Copy, Debug, PartialEq, Eq)]

@@ -6,18 +6,22 @@
 //!     compare smtlib SEED MILLIONS  so many million random calls for solutions as SMT-LIB terms, behind all small ones
 //!     compare write                 for each line of standard input, words and a text, what the library writes
 //!     compare script                what `solsmt` should print for standard input
+//!     compare nested BYTES SEED     a solution of nested lists, of so many bytes
 //!     compare bench-flatten         the time of flattening
 //!     compare bench-smtlib          the time of writing solutions as SMT-LIB terms, beside that of reading them
 //!     compare beside SHARED SEED MILLIONS [WORD ..]  so many million random calls of all functions against another archive, of which SHARED
 //!                                   is a shared object, behind all small texts; texts that contain one of the words are passed over
-//!     compare bench-beside SHARED SHARED [TEXT ..]  the time of solution by the first against that by the second, of made texts or of these;
+//!     compare bench-beside SHARED SHARED [TEXT ..]  the time of solution by the first against that by the second, of made texts and of these;
 //!                                   of these also that of read one
 //!     compare reading SEED MILLIONS so many million for read one and read all against sexp.rs, behind all short texts
 //!     compare source SEED MILLIONS  so many million for all operations against parser.rs and constraint.rs, behind all small texts
-//!     compare bench TEXT ..         the time of read one against sexp.rs
-//!     compare bench-solution [TEXT ..]  the time of solution against sexp.rs, parser.rs and constraint.rs, of made texts or of these
+//!     compare bench [TEXT ..]       read one against sexp.rs and limit.c on a solution of nested lists and on these: times, and instructions by
+//!                                   valgrind
+//!     compare once READER FROM      one reading by `read one`, `sexp.rs` or `limit.c`, for its instructions to be counted: of a file, or of a
+//!                                   solution of nested lists of so many bytes
+//!     compare bench-solution [TEXT ..]  the time of solution against sexp.rs, parser.rs and constraint.rs, of made texts and of these
 //!
-//! The last four need the source when the program is built.
+//! The last five need the source when the program is built.
 
 mod answers;
 mod bench;
@@ -30,6 +34,7 @@ mod flattening;
 mod lengths;
 mod letters;
 mod model;
+mod nested;
 mod paper;
 mod parsing;
 mod random;
@@ -127,7 +132,8 @@ fn against_source(answers: Option<&str>) -> Result<(), String> {
         let (given, excepted) = source::recorded(path)?;
         println!("compare: parser.rs and constraint.rs: {given} recorded answers: they give them all; {excepted} with literals excepted");
     }
-    source_held(&SOURCE, &mut r)
+    source_held(&SOURCE, &mut r)?;
+    reading::bench::bounded()
 }
 
 #[cfg(flux_source)]
@@ -174,6 +180,10 @@ fn run(words: &[&str]) -> Result<(), String> {
             print!("{}", paper::script(&text));
             Ok(())
         }
+        ["nested", bytes, seed] => {
+            print!("{}", nested::solution(number(bytes)? as usize, number(seed)?));
+            Ok(())
+        }
         ["bench-flatten"] => {
             flattening::bench::run();
             Ok(())
@@ -200,13 +210,12 @@ fn run(words: &[&str]) -> Result<(), String> {
         #[cfg(flux_source)]
         ["bench-solution", paths @ ..] => source::bench::run(paths),
         #[cfg(flux_source)]
-        ["bench", paths @ ..] => {
-            reading::bench::run(paths);
-            Ok(())
-        }
+        ["bench", paths @ ..] => reading::bench::run(paths),
+        #[cfg(flux_source)]
+        ["once", reader, from] => reading::bench::once(reader, from),
         #[cfg(not(flux_source))]
-        ["reading" | "source" | "bench" | "bench-solution", ..] => Err("built without the source; FLUX_SOURCE names its folder".to_string()),
-        _ => Err("compare gate ANSWERS TERMS | long SEED MILLIONS | smtlib SEED MILLIONS | write | script | reading SEED MILLIONS | source SEED MILLIONS | bench TEXT .. | bench-solution [TEXT ..] | bench-flatten | bench-smtlib | beside SHARED SEED MILLIONS [WORD ..] | bench-beside SHARED SHARED [TEXT ..]".to_string()),
+        ["reading" | "source" | "bench" | "once" | "bench-solution", ..] => Err("built without the source; FLUX_SOURCE names its folder".to_string()),
+        _ => Err("compare gate ANSWERS TERMS | long SEED MILLIONS | smtlib SEED MILLIONS | write | script | reading SEED MILLIONS | source SEED MILLIONS | bench [TEXT ..] | once READER FROM | bench-solution [TEXT ..] | nested BYTES SEED | bench-flatten | bench-smtlib | beside SHARED SEED MILLIONS [WORD ..] | bench-beside SHARED SHARED [TEXT ..]".to_string()),
     }
 }
 

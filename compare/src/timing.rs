@@ -2,7 +2,7 @@
 
 use std::time::Duration;
 
-const TURNS: usize = 5;
+pub const TURNS: usize = 5;
 
 pub fn median(mut times: Vec<Duration>) -> Duration {
     times.sort();

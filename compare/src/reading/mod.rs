@@ -1,12 +1,15 @@
-//! Read one and read all held against `sexp.rs`, by running both.
+//! Read one and read all held against `sexp.rs`, by running both; and the read one of limit.c, so that its time may stand beside theirs.
 
 pub mod bench;
+mod counting;
+mod figure;
 pub mod source;
 mod texts;
 
 use crate::answers;
 use crate::call::{Answer, Call, Operation, Refusal};
 use crate::check;
+use crate::ffi::BY_HAND;
 use crate::random::Random;
 
 /// The source knows no slices: its answer to a call with an output of so many words.
@@ -15,6 +18,15 @@ fn fitting(answer: &Result<Answer, Refusal>, out: usize) -> Result<Answer, Refus
         Ok(a) if a.words.len() > out => Err(7),
         _ => answer.clone(),
     }
+}
+
+/// The library's answer to a call, and that of limit.c where it has one.
+fn held(call: &Call, should: &Result<Answer, Refusal>) -> Result<(), String> {
+    check::call(call, should)?;
+    if call.op == Operation::ReadOne {
+        check::call_by(&BY_HAND, call, should).map_err(|e| format!("limit.c: {e}"))?;
+    }
+    Ok(())
 }
 
 /// Both operations on one text, with outputs of several lengths; how many calls that were.
@@ -26,7 +38,7 @@ fn both(text: &[u8], r: &mut Random) -> Result<u64, String> {
         let lens = [need, need.saturating_sub(1), need + 1 + r.below(8), r.below(need + 2)];
         for &out in &lens[..if text.len() > 1000 { 2 } else { 4 }] {
             calls += 1;
-            check::call(&Call { op, text, tree: 0, draft: 0, out, count: 0 }, &fitting(&answer, out))?;
+            held(&Call { op, text, tree: 0, draft: 0, out, count: 0 }, &fitting(&answer, out))?;
         }
     }
     Ok(calls)
@@ -67,6 +79,7 @@ pub fn recorded(path: &str) -> Result<u64, String> {
         if answer != case.answer {
             return Err(format!("line {}, {}: sexp.rs says {answer:?}, and not {:?}", case.line, check::shown(&call), case.answer));
         }
+        held(&call, &answer).map_err(|e| format!("line {}, {e}", case.line))?;
         n += 1;
     }
     Ok(n)

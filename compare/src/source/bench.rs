@@ -35,7 +35,7 @@ impl Way for Upstream {
     }
 }
 
-/// The solutions in these files, or, without one, made ones of several sizes.
+/// Made solutions, and those in these files.
 pub fn run(paths: &[&str]) -> Result<(), String> {
     bench::run(&LINKED, &Upstream, paths)
 }

@@ -1,0 +1,25 @@
+//! Instructions counted by valgrind's callgrind. They do not depend on the machine's load.
+
+use std::process::Command;
+
+/// Whether valgrind is at hand.
+pub fn at_hand() -> bool {
+    Command::new("valgrind").arg("--version").output().is_ok_and(|output| output.status.success())
+}
+
+/// The instructions of one call of this function, and of what it calls, in this program with these arguments.
+pub fn instructions(function: &str, arguments: &[&str]) -> Result<u64, String> {
+    let program = std::env::current_exe().map_err(|e| e.to_string())?;
+    let output = Command::new("valgrind")
+        .args(["--tool=callgrind", "--callgrind-out-file=/dev/null", &format!("--toggle-collect={function}")])
+        .arg(program)
+        .args(arguments)
+        .output()
+        .map_err(|e| format!("valgrind: {e}"))?;
+    let said = String::from_utf8_lossy(&output.stderr);
+    let counted = said.lines().find_map(|line| line.split_once("Collected : ")?.1.trim().parse().ok());
+    match counted {
+        Some(n) if output.status.success() && n > 0 => Ok(n),
+        _ => Err(format!("valgrind counts no instructions of {function}: {said}")),
+    }
+}
