@@ -20,14 +20,15 @@ use std::time::{Duration, Instant};
 
 const SEED: u64 = 2026;
 /// Bytes of a text, how many such texts are read in turn, so that the computer does not know one by heart, and how often each.
-const SIZES: [(usize, usize, usize); 4] = [(200, 400, 40), (2048, 40, 40), (8192, 10, 40), (32_768, 4, 40)];
+const SIZES: [(usize, usize, usize); 4] = [(200, 400, TURN), (2048, 40, TURN), (8192, 10, TURN), (32_768, 4, TURN)];
 /// Words of tree, draft and output that are enough for every text.
 const LONG: [usize; 3] = [5 * 32_768, 15 * 32_768, 15 * 32_768];
 /// Texts of a build: bytes, and how many.
 const BUILD: [(usize, usize); 4] = [(200, 240), (2048, 120), (8192, 36), (32_768, 4)];
 const BUILD_ROUNDS: usize = 20;
-/// How often a text of a file is read in a turn.
+/// How often a text of a file is read in a turn, and each of several texts.
 pub const READINGS: usize = 400;
+pub const TURN: usize = 40;
 
 /// Tree, draft and output.
 pub type Slices<'a> = [&'a mut [u32]; 3];
@@ -114,17 +115,16 @@ fn bytes_of(cases: &[Case]) -> usize {
     cases.iter().map(|c| c.text.len()).sum()
 }
 
-/// Made solutions of several sizes, one of nested lists, and those in these files, by this archive and by the other way. With a file, no others of
+/// Made solutions of several sizes, those of nested lists, and those in these files, by this archive and by the other way. With a file, none of
 /// several sizes.
 pub fn run<W: Way>(ours: &Archive, way: &W, paths: &[&str]) -> Result<(), String> {
     println!("| text | bytes | solution | {} | ratio |", W::NAME);
     println!("|---|---|---|---|---|");
     let mut left_out = if paths.is_empty() { made(ours, way) } else { 0 };
-    let nested = nested::solution(nested::BYTES, nested::SEED);
-    left_out += one(nested::NAME, nested, ours, way);
+    left_out += texts_row("a solution of nested lists", nested::in_turn(nested::BYTES), TURN, ours, way);
     for path in paths {
         let text = fs::read_to_string(path).map_err(|e| format!("{path}: {e}"))?;
-        left_out += one(path.rsplit('/').next().unwrap_or(path), text, ours, way);
+        left_out += texts_row(path.rsplit('/').next().unwrap_or(path), vec![text], READINGS, ours, way);
     }
     if left_out > 0 {
         println!("compare: texts left out, since the other way refuses them: {left_out}");
@@ -132,15 +132,15 @@ pub fn run<W: Way>(ours: &Archive, way: &W, paths: &[&str]) -> Result<(), String
     Ok(())
 }
 
-/// A row of one text; how many texts were left out.
-fn one(name: &str, text: String, ours: &Archive, way: &impl Way) -> usize {
-    match Case::new(text, way) {
-        Some(case) => {
-            row(name, case.text.len(), times(&mut [case], READINGS, ours, way), 1);
-            0
-        }
-        None => 1,
+/// A row of some texts that are read in turn; how many were left out.
+fn texts_row(name: &str, texts: Vec<String>, rounds: usize, ours: &Archive, way: &impl Way) -> usize {
+    let all = texts.len();
+    let mut cases: Vec<Case> = texts.into_iter().filter_map(|text| Case::new(text, way)).collect();
+    let read = cases.len();
+    if read > 0 {
+        row(name, bytes_of(&cases) / read, times(&mut cases, rounds, ours, way), read);
     }
+    all - read
 }
 
 /// How many texts were left out.

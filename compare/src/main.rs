@@ -198,7 +198,7 @@ fn run(words: &[&str]) -> Result<(), String> {
         ["bench-beside", ours, path, paths @ ..] => {
             let (ours, other) = (other(ours)?, other(path)?);
             bench::run(&ours, &other, paths)?;
-            if paths.is_empty() { Ok(()) } else { beside::bench::read_one(&ours, &other, paths) }
+            beside::bench::read_one(&ours, &other, paths)
         }
         #[cfg(flux_source)]
         ["reading", seed, millions] => reading_long(seed, millions),

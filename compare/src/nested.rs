@@ -3,8 +3,7 @@
 use crate::paper::MAX_LISTS;
 use crate::random::Random;
 
-/// The one that is measured.
-pub const NAME: &str = "a solution of nested lists";
+/// Those that are measured: their bytes, and the seed of the first; the others have the next ones.
 pub const BYTES: usize = 8192;
 pub const SEED: u64 = 2026;
 
@@ -92,4 +91,10 @@ pub fn solution(bytes: usize, seed: u64) -> String {
     let head = format!("(lambda ({}) ", parameters.join(" "));
     let body = Grower { r: &mut Random::new(seed) }.claim(bytes - head.len() - 1, 1);
     format!("{head}{body})")
+}
+
+/// Solutions of so many bytes to be read in turn, so many that the computer does not know them by heart.
+pub fn in_turn(bytes: usize) -> Vec<String> {
+    let texts = (10 * BYTES / bytes).max(4) as u64;
+    (SEED..SEED + texts).map(|seed| solution(bytes, seed)).collect()
 }

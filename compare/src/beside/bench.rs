@@ -1,9 +1,10 @@
 //! Another archive of the library, as what the time of solution and of read one is taken against. Both are loaded as shared objects: where code
 //! lies makes a difference of some percent, and one that is linked lies elsewhere.
 
-use crate::bench::{self, Slices, Way, READINGS};
+use crate::bench::{self, Slices, Way, READINGS, TURN};
 use crate::call::{Answer, Call, Operation, Refusal};
 use crate::ffi::Archive;
+use crate::nested;
 use crate::timing::{round_by_round, turns};
 use std::fs;
 use std::time::Duration;
@@ -22,17 +23,26 @@ impl Way for Archive {
     }
 }
 
-/// The time of read one on the texts in these files, by both archives, with an output just long enough.
+/// A row of texts that are read in turn by read one of both archives, each with an output just long enough.
+fn row(name: &str, texts: &[String], rounds: usize, ours: &Archive, other: &Archive) {
+    let mut cases: Vec<(&str, Vec<u32>)> = texts.iter().map(|text| (&text[..], vec![0; 5 * text.len()])).collect();
+    for (text, out) in &mut cases {
+        let words = ours.reply(&Call::roomy(Operation::ReadOne, text.as_bytes()), &mut [], &mut [], out).a;
+        out.truncate(words as usize);
+    }
+    let mut readings = |archive: &Archive| round_by_round(&mut cases, rounds, |(text, out)| bench::time(archive, Operation::ReadOne, text, [&mut [], &mut [], out]));
+    let times = turns(|| (readings(ours), readings(other)));
+    bench::row(name, texts.iter().map(String::len).sum::<usize>() / texts.len(), times, texts.len());
+}
+
+/// The time of read one on solutions of nested lists, and on the texts in these files, by both archives.
 pub fn read_one(ours: &Archive, other: &Archive, paths: &[&str]) -> Result<(), String> {
     println!("| text | bytes | read one | before | ratio |");
     println!("|---|---|---|---|---|");
+    row("a solution of nested lists", &nested::in_turn(nested::BYTES), TURN, ours, other);
     for path in paths {
         let text = fs::read_to_string(path).map_err(|e| format!("{path}: {e}"))?;
-        let mut out = vec![0; 5 * text.len()];
-        let words = ours.reply(&Call::roomy(Operation::ReadOne, text.as_bytes()), &mut [], &mut [], &mut out).a;
-        let out = &mut out[..words as usize];
-        let mut readings = |archive: &Archive| round_by_round(&mut [()], READINGS, |_| bench::time(archive, Operation::ReadOne, &text, [&mut [], &mut [], &mut *out]));
-        bench::row(path.rsplit('/').next().unwrap_or(path), text.len(), turns(|| (readings(ours), readings(other))), 1);
+        row(path.rsplit('/').next().unwrap_or(path), &[text], READINGS, ours, other);
     }
     Ok(())
 }
