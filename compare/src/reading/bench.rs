@@ -1,6 +1,6 @@
 //! Read one against `sexp.rs`, and against the loop that limit.c has: times, and instructions, which do not depend on the machine's load.
 //!
-//! All on one computer in one run, each optimised. The output is just long enough and cleared beforehand, and the source's result is kept until
+//! All on one computer in one run, each optimised, `sexp.rs` compiled alone. The output is just long enough and cleared beforehand, and the source's result is kept until
 //! the time is taken. A time is the median of five turns, and behind it the least. Solutions of nested lists are read ten in turn, forty times
 //! each in a turn of one reader; a text of a file is read 400 times. Instructions are those of one reading, of the first of the solutions. The
 //! tables are as docs/PERFORMANCE.md has its own.
@@ -15,10 +15,10 @@ use crate::model::Model;
 use crate::nested::{self, BYTES};
 use crate::paper::Paper;
 use crate::timing::micros;
+use alone::sexp::{ParseError, Parser, Sexp};
 use std::fs;
 use std::hint::black_box;
 use std::time::{Duration, Instant};
-use upstream::sexp::{ParseError, Parser, Sexp};
 
 /// Solutions of nested lists by which time is seen to grow.
 const SIZES: [usize; 4] = [512, 2048, BYTES, 32_768];
