@@ -8,6 +8,7 @@
 use crate::call::{Answer, Call, Operation, Refusal};
 use crate::check;
 use crate::ffi::Archive;
+use crate::many_names;
 use crate::model::Model;
 use crate::nested;
 use crate::paper::Paper;
@@ -26,6 +27,8 @@ const LONG: [usize; 3] = [5 * 32_768, 15 * 32_768, 15 * 32_768];
 /// Texts of a build: bytes, and how many.
 const BUILD: [(usize, usize); 4] = [(200, 240), (2048, 120), (8192, 36), (32_768, 4)];
 const BUILD_ROUNDS: usize = 20;
+/// Bytes of texts with as many names as they have room for.
+const MANY_NAMES: [usize; 3] = [2048, 8192, 32_700];
 /// How often a text of a file is read in a turn, and each of several texts.
 pub const READINGS: usize = 400;
 pub const TURN: usize = 40;
@@ -160,5 +163,9 @@ fn made(ours: &Archive, way: &impl Way) -> usize {
     left_out += BUILD.iter().map(|(_, n)| n).sum::<usize>() - build.len();
     (1..build.len()).for_each(|i| build.swap(i, r.below(i + 1)));
     row(&format!("a build: {} solutions", build.len()), bytes_of(&build), times(&mut build, BUILD_ROUNDS, ours, way), 1);
+    for bytes in MANY_NAMES {
+        let (text, names) = many_names::solution(bytes);
+        left_out += texts_row(&format!("an exists of {names} names"), vec![text], TURN, ours, way);
+    }
     left_out
 }

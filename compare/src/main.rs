@@ -33,6 +33,7 @@ mod ffi;
 mod flattening;
 mod lengths;
 mod letters;
+mod many_names;
 mod model;
 mod nested;
 mod paper;

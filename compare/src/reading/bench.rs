@@ -22,6 +22,13 @@ use std::time::{Duration, Instant};
 
 /// Solutions of nested lists by which time is seen to grow.
 const SIZES: [usize; 4] = [512, 2048, BYTES, 32_768];
+/// What a text may be full of.
+const THINGS: [(&str, &str); 14] = [
+    ("blanks", " "), ("white space of three bytes", "\u{2003}"), ("lists of nothing", "()"), ("names of one letter", "a "),
+    ("names of 38 letters", "abcdefghijklmnopqrstuvwxyzabcdefghijkl "), ("names outside ASCII", "éλ𝒳 "), ("minus signs", "- "), ("numbers of one digit", "1 "),
+    ("numbers of 18 digits", "123456789012345678 "), ("numbers of 38 digits", "12345678901234567890123456789012345678 "),
+    ("integers that are too large", "999999999999999999999999999999999999999 "), ("decimals", "1e+1 "), ("strings of nothing", "\"\""), ("`@)`", "@)"),
+];
 /// The most instructions that the gate allows read one: of those of `sexp.rs`, and for a byte.
 const MOST_OF_SOURCE: f64 = 0.5;
 const MOST_A_BYTE: f64 = 35.0;
@@ -41,11 +48,17 @@ impl Case {
         Ok(Case { text, out: vec![0; words] })
     }
 
-    /// That all three read it with the same words, and that it is a solution.
-    fn held(self) -> Result<Self, String> {
+    /// That all three read it with the same words.
+    fn same(self) -> Result<Self, String> {
         let text = self.text.as_bytes();
         let call = Call { op: Operation::ReadOne, text, tree: 0, draft: 0, out: self.out.len(), count: 0 };
         held(&call, &super::source::answer(false, text))?;
+        Ok(self)
+    }
+
+    /// That it is a solution.
+    fn solution(self) -> Result<Self, String> {
+        let text = self.text.as_bytes();
         match Paper::new(Operation::Solution, text).answer(&Call::roomy(Operation::Solution, text)) {
             Ok(_) => Ok(self),
             Err(n) => Err(format!("a text is refused with {n} as a solution")),
@@ -99,7 +112,7 @@ impl Row {
     }
 
     fn new(from: &str) -> Result<Self, String> {
-        let cases = Row::texts(from)?.into_iter().map(|text| Case::new(text)?.held()).collect::<Result<_, String>>();
+        let cases = Row::texts(from)?.into_iter().map(|text| Case::new(text)?.same()?.solution()).collect::<Result<_, String>>();
         Ok(Row { from: from.to_string(), cases: cases.map_err(|e| format!("{from}: {e}"))? })
     }
 
@@ -172,6 +185,27 @@ fn growth(counted: bool) -> Result<(), String> {
     Ok(())
 }
 
+/// A list of one thing again and again, as long as that.
+fn list_of(thing: &str, bytes: usize) -> String {
+    let inside = thing.repeat((bytes - 2) / thing.len());
+    let rest = " ".repeat(bytes - 2 - inside.len());
+    format!("({inside}{rest})")
+}
+
+/// The time of read one on texts of one thing only: none of them takes a byte of a longer text longer.
+fn things() -> Result<(), String> {
+    head("| a list of nothing but | 8,192 bytes, a byte | 32,768 bytes, a byte |");
+    for (name, thing) in THINGS {
+        let a_byte = |bytes: usize| {
+            let case = Case::new(list_of(thing, bytes))?.same()?;
+            let [ours] = Row { from: name.to_string(), cases: vec![case] }.figures();
+            Ok::<_, String>(1e3 * micros(ours.median) / bytes as f64)
+        };
+        println!("| {name} | {:.2} ns | {:.2} ns |", a_byte(8192)?, a_byte(32_768)?);
+    }
+    Ok(())
+}
+
 /// Solutions of nested lists, and those in these files.
 pub fn run(paths: &[&str]) -> Result<(), String> {
     let made = BYTES.to_string();
@@ -183,7 +217,8 @@ pub fn run(paths: &[&str]) -> Result<(), String> {
     } else {
         println!("compare: instructions skipped, for want of valgrind");
     }
-    growth(counted)
+    growth(counted)?;
+    things()
 }
 
 /// That read one takes no more instructions than it may, on a solution of nested lists.
