@@ -2,16 +2,23 @@
 
 use std::process::Command;
 
+/// Valgrind, set to count.
+fn callgrind() -> Command {
+    let mut valgrind = Command::new("valgrind");
+    valgrind.args(["--tool=callgrind", "--callgrind-out-file=/dev/null"]);
+    valgrind
+}
+
 /// Whether valgrind is at hand.
 pub fn at_hand() -> bool {
-    Command::new("valgrind").arg("--version").output().is_ok_and(|output| output.status.success())
+    callgrind().arg("true").output().is_ok_and(|output| output.status.success())
 }
 
 /// The instructions of one call of this function, and of what it calls, in this program with these arguments.
 pub fn instructions(function: &str, arguments: &[&str]) -> Result<u64, String> {
     let program = std::env::current_exe().map_err(|e| e.to_string())?;
-    let output = Command::new("valgrind")
-        .args(["--tool=callgrind", "--callgrind-out-file=/dev/null", &format!("--toggle-collect={function}")])
+    let output = callgrind()
+        .arg(format!("--toggle-collect={function}"))
         .arg(program)
         .args(arguments)
         .output()
