@@ -173,7 +173,7 @@ pub fn space_bytes(text: &[u8], at: usize) -> usize
     decoded_space(text, at)
 }
 
-// Whether an atom ends before a place.
+// Whether an atom ends before a place. The bytes that most often go on inside one, and the blank that most often ends one, are told first.
 fn ends_atom(text: &[u8], at: usize) -> bool
     requires { ⌜ at < length (now text) ⌝ }
     ensures { λ r. ⌜ r ≡ endsAtom (drop at (now (text .entry))) ⌝ }
