@@ -8,8 +8,8 @@ fn limit(here: &Path) {
     let source = here.join("limit.c");
     let object = PathBuf::from(std::env::var("OUT_DIR").unwrap()).join("limit.o");
     let cc = std::env::var("CC").unwrap_or_else(|_| "cc".to_string());
-    let compiled = Command::new(&cc).args(["-std=gnu11", "-O3", "-fno-jump-tables", "-Wall", "-Wextra", "-c"]).arg(&source).arg("-o").arg(&object).status();
-    assert!(compiled.is_ok_and(|status| status.success()), "{cc} compiles {}", source.display());
+    let compiled = Command::new(&cc).args(["-std=gnu11", "-O3", "-fPIE", "-fno-jump-tables", "-Wall", "-Wextra", "-c"]).arg(&source).arg("-o").arg(&object).status();
+    assert!(compiled.is_ok_and(|status| status.success()), "{cc} does not compile {}", source.display());
     println!("cargo:rustc-link-arg={}", object.display());
     println!("cargo:rerun-if-changed={}", source.display());
     println!("cargo:rerun-if-env-changed=CC");

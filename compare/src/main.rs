@@ -6,13 +6,13 @@
 //!     compare smtlib SEED MILLIONS  so many million random calls for solutions as SMT-LIB terms, behind all small ones
 //!     compare write                 for each line of standard input, words and a text, what the library writes
 //!     compare script                what `solsmt` should print for standard input
-//!     compare nested BYTES SEED     a solution of nested lists, of so many bytes
+//!     compare nested BYTES SEED     a solution of nested lists, of so many bytes, 200 or more
 //!     compare bench-flatten         the time of flattening
 //!     compare bench-smtlib          the time of writing solutions as SMT-LIB terms, beside that of reading them
 //!     compare beside SHARED SEED MILLIONS [WORD ..]  so many million random calls of all functions against another archive, of which SHARED
 //!                                   is a shared object, behind all small texts; texts that contain one of the words are passed over
 //!     compare bench-beside SHARED SHARED [TEXT ..]  the time of solution by the first against that by the second, of made texts and of these;
-//!                                   of these also that of read one
+//!                                   and that of read one, of solutions of nested lists and of these
 //!     compare reading SEED MILLIONS so many million for read one and read all against sexp.rs, behind all short texts
 //!     compare source SEED MILLIONS  so many million for all operations against parser.rs and constraint.rs, behind all small texts
 //!     compare bench [TEXT ..]       read one against sexp.rs and limit.c on a solution of nested lists and on these: times, and instructions by
@@ -181,10 +181,13 @@ fn run(words: &[&str]) -> Result<(), String> {
             print!("{}", paper::script(&text));
             Ok(())
         }
-        ["nested", bytes, seed] => {
-            print!("{}", nested::solution(number(bytes)? as usize, number(seed)?));
-            Ok(())
-        }
+        ["nested", bytes, seed] => match number(bytes)? as usize {
+            bytes if bytes < nested::LEAST => Err(format!("{} bytes or more, and not {bytes}", nested::LEAST)),
+            bytes => {
+                print!("{}", nested::solution(bytes, number(seed)?));
+                Ok(())
+            }
+        },
         ["bench-flatten"] => {
             flattening::bench::run();
             Ok(())

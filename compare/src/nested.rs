@@ -7,6 +7,9 @@ use crate::random::Random;
 pub const BYTES: usize = 8192;
 pub const SEED: u64 = 2026;
 
+/// So many bytes have room for the parameters, and for a body.
+pub const LEAST: usize = 200;
+
 /// The parameters: a name of each length up to eight bytes, so that an atom can have any.
 const NAMES: [&str; 8] = ["x", "i0", "len", "k##1", "index", "karg$0", "fix$n_2", "lq_kvar3"];
 const RELATIONS: &[&str] = &["<", "<=", ">", ">=", "=", "!="];
@@ -85,7 +88,7 @@ impl Grower<'_> {
     }
 }
 
-/// A solution of so many bytes.
+/// A solution of so many bytes, at least `LEAST`.
 pub fn solution(bytes: usize, seed: u64) -> String {
     let parameters: Vec<String> = NAMES.iter().map(|name| format!("({name} Int)")).collect();
     let head = format!("(lambda ({}) ", parameters.join(" "));

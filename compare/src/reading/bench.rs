@@ -1,9 +1,9 @@
 //! Read one against `sexp.rs`, and against the loop that limit.c has: times, and instructions, which do not depend on the machine's load.
 //!
-//! All on one computer in one run, each optimised, `sexp.rs` compiled alone. The output is just long enough and cleared beforehand, and the source's result is kept until
-//! the time is taken. A time is the median of five turns, and behind it the least. Solutions of nested lists are read ten in turn, forty times
-//! each in a turn of one reader; a text of a file is read 400 times. Instructions are those of one reading, of the first of the solutions. The
-//! tables are as docs/PERFORMANCE.md has its own.
+//! All on one computer in one run, each optimised, `sexp.rs` compiled alone. The output is just long enough and cleared beforehand, and the
+//! source's result is kept until the time is taken. A time is the median of five turns, and behind it the least. Solutions of nested lists are
+//! read ten in turn, forty times each in a turn of one reader; a text of a file is read 400 times. Instructions are those of one reading, of the
+//! first of the solutions.
 
 use super::counting::{self, instructions};
 use super::figure::{figures, Figure};
@@ -192,7 +192,7 @@ fn list_of(thing: &str, bytes: usize) -> String {
     format!("({inside}{rest})")
 }
 
-/// The time of read one on texts of one thing only: none of them takes a byte of a longer text longer.
+/// The time of read one on texts of one thing only, short and long.
 fn things() -> Result<(), String> {
     head("| a list of nothing but | 8,192 bytes, a byte | 32,768 bytes, a byte |");
     for (name, thing) in THINGS {
