@@ -28,7 +28,7 @@ const LONG: [usize; 3] = [5 * 32_768, 15 * 32_768, 15 * 32_768];
 const BUILD: [(usize, usize); 4] = [(200, 240), (2048, 120), (8192, 36), (32_768, 4)];
 const BUILD_ROUNDS: usize = 20;
 /// Bytes of texts with as many names as they have room for.
-const MANY_NAMES: [usize; 3] = [2048, 8192, 32_700];
+const MANY_NAMES: [usize; 3] = [2048, 8192, 32_768];
 /// How often a text of a file is read in a turn, and each of several texts.
 pub const READINGS: usize = 400;
 pub const TURN: usize = 40;
