@@ -1,7 +1,7 @@
 #!/usr/bin/env python3
-"""Computes the definitions on recorded answers: compare/definitions.py [short] [ANSWERS [TERMS]]
+"""Computes the definitions on recorded answers: compare/definitions.py [short] [ANSWERS [TERMS ..]]
 
-ANSWERS is crates/replay/stdin and TERMS compare/smtlib.txt unless other files are named. With `short`, as the gate runs it, texts of more than 1,000 bytes are left out
+ANSWERS is crates/replay/stdin and TERMS compare/smtlib.txt and compare/smtlib-let.txt unless other files are named. With `short`, as the gate runs it, texts of more than 1,000 bytes are left out
 unless they are too long to be read at all, and words and terms of more than 1,000: each takes the prover some seconds. The prover evaluates `final`, of which `outcome` is made
 (crates/session/specs/Session.antt), `flattenFinal` (crates/flattening/specs/Operations.antt) and `smtlibFinal` (crates/smt/specs/Operation.antt) on each case, and
 has to find the recorded refusal or numbers, the count and the words or bytes; no code of the library runs. The cases go into crates of their own, beside links to the
@@ -284,7 +284,8 @@ def main():
     arguments = sys.argv[1:]
     short = arguments[:1] == ["short"]
     named = [Path(name) for name in (arguments[1:] if short else arguments)]
-    answers, terms = named + [TOP / "crates/replay/stdin", TOP / "compare/smtlib.txt"][len(named):]
+    answers = named[0] if named else TOP / "crates/replay/stdin"
+    terms = named[1:] or [TOP / "compare/smtlib.txt", TOP / "compare/smtlib-let.txt"]
     folder = TOP / "target/definitions"
     subprocess.run(["rm", "-rf", str(folder)], check=True)
     (folder / "crates").mkdir(parents=True)
@@ -296,7 +297,7 @@ def main():
     rows = [made for made in (row(line, short) for line in lines) if made]
     made = [module for kind in "TF" for module in modules(kind, HEAD, [(size, text) for of, size, text in rows if of == kind])]
     crate(folder, "computed", CASE, made)
-    term_lines = [line for line in terms.read_text().splitlines() if line and not line.startswith("#")]
+    term_lines = [line for file in terms for line in file.read_text().splitlines() if line and not line.startswith("#")]
     term_rows = [made for made in (term_row(line, short) for line in term_lines) if made]
     crate(folder, "termed", TERMS_CASE, modules("W", TERMS_HEAD, term_rows))
     done = subprocess.run(["rt", "check", "computed", "termed"], cwd=folder, capture_output=True, text=True)

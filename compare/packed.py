@@ -1,8 +1,9 @@
 #!/usr/bin/env python3
-"""Shortens recorded answers of C-11: compare/packed.py ANSWERS > compare/smtlib.txt
+"""Shortens recorded answers of C-11: compare/packed.py ANSWERS > compare/smtlib.txt, and the same for smtlib-let.txt
 
 A case is a line, `WORDS TEXT ROOM = REFUSAL BYTES`; the file's own notes say how these are written. None is changed, dropped or doubled:
-numbers that come again and again are written once, `(10,2,0)*50`, and bytes as `6e20*50`.
+numbers that come again and again are written once, `(10,2,0)*50`, and bytes as `6e20*50`. But a section that holds until one of these requests
+lands is left out, since they have landed: the file of that request has its cases.
 """
 
 import re
@@ -10,6 +11,8 @@ import sys
 
 # A part that comes again has at most so many numbers or bytes, and saves at least so many.
 LONGEST, LEAST = 24, 16
+# The requests that have landed, and how a section begins that holds until one does.
+LANDED, UNTIL = {"C-17"}, "# == until "
 # How the notes say it.
 NOTE = "# - WORDS: the solution's words, `-` for none, else hexadecimal numbers joined by `,`, each perhaps `*N`: N times."
 PACKED = NOTE + "\n#   `(A,B)*N` is A and B, N times."
@@ -61,8 +64,19 @@ def bytes_field(items):
     return ".".join("".join(part) + (f"*{n}" if n > 1 else "") for part, n in packed(items)) or "-"
 
 
+def landed(section):
+    """Whether a section's cases are answered otherwise by now."""
+    until = section.removeprefix(UNTIL).partition(" lands")[0]
+    return section.startswith(UNTIL) and not LANDED.isdisjoint(until.split(" or "))
+
+
 def main():
+    left_out = False
     for line in open(sys.argv[1]).read().splitlines():
+        if line.startswith("# == "):
+            left_out = landed(line)
+        if left_out:
+            continue
         if line == "" or line.startswith("#"):
             print(PACKED if line == NOTE else line)
             continue

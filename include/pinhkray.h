@@ -11,7 +11,8 @@
  * calls may be made from several threads. A call needs at most 128 KiB of stack, which is tested and not proved; in
  * pinhkray_read_one and pinhkray_read_all no function calls itself, and at most 3 call frames are open at once.
  *
- * A reader is its count, the next fresh number: 0 for a new one, then the `count_after` of its last call.
+ * A reader is its count, the next fresh number: 0 for a new one, then the `count_after` of its last call. An accepted
+ * call takes one number for each parameter of a solution, each variable of an exists and each let.
  */
 #ifndef PINHKRAY_H
 #define PINHKRAY_H
@@ -25,7 +26,7 @@ extern "C" {
 
 /* The version of this header. It rises by 1 with every landing that changes what is declared here or what a function
  * answers. Compare it with pinhkray_version(): an archive of another version belongs to another header. */
-#define PINHKRAY_VERSION 4
+#define PINHKRAY_VERSION 5
 
 /* The limits: bytes of a text, lists of a text inside one another, expressions in words inside one another. */
 #define PINHKRAY_MAX_BYTES 32768
@@ -67,7 +68,8 @@ enum pinhkray_refusal {
  * words, low then high. A boolean is 0 or 1, and n is a count.
  *
  * A tree, a sort and an expression are nodes. A bind is a span, a sort, n, and n predicates. A solution is n, n times a
- * fresh number and a sort, and an expression. */
+ * fresh number and a sort, and an expression. The fresh numbers of a solution and of an exists are bound in the
+ * expression behind them, and that of a let in the second one, not in what it stands for. */
 
 enum pinhkray_tree_kind {
     PINHKRAY_TREE_SYMBOL = 16,  /* span */
@@ -102,7 +104,7 @@ enum pinhkray_expression_kind {
     PINHKRAY_EXPR_BOOLEAN = 33,      /* boolean */
     PINHKRAY_EXPR_STRING = 34,       /* span, without the quotes */
     PINHKRAY_EXPR_BITVEC = 35,       /* the value, four words, lowest first; the width, a word */
-    PINHKRAY_EXPR_FRESH = 36,        /* fresh number, of a variable that an exists or a solution binds */
+    PINHKRAY_EXPR_FRESH = 36,        /* fresh number, of a variable that a solution, an exists or a let binds */
     PINHKRAY_EXPR_VAR = 37,          /* span, of a variable that nothing binds */
     PINHKRAY_EXPR_APP = 38,          /* 1 if it gives an output sort, else 0; n, n arguments, that sort, the head */
     PINHKRAY_EXPR_NEG = 39,          /* expression */
@@ -114,10 +116,11 @@ enum pinhkray_expression_kind {
     PINHKRAY_EXPR_IMP = 45,          /* two expressions */
     PINHKRAY_EXPR_IFF = 46,          /* two expressions */
     PINHKRAY_EXPR_ATOM = 47,         /* relation, two expressions */
-    PINHKRAY_EXPR_LET = 48,          /* span, what it stands for, the expression where it does */
+    PINHKRAY_EXPR_LET = 48,          /* span, what it stands for, the expression where it does; no text is read as one */
     PINHKRAY_EXPR_THY_FUNC = 49,     /* theory function */
     PINHKRAY_EXPR_IS_CTOR = 50,      /* span, of the constructor; expression */
-    PINHKRAY_EXPR_EXISTS = 51        /* n, n times a fresh number and a sort; expression */
+    PINHKRAY_EXPR_EXISTS = 51,       /* n, n times a fresh number and a sort; expression */
+    PINHKRAY_EXPR_LET_FRESH = 52     /* fresh number, what it stands for, the expression where it does */
 };
 
 enum pinhkray_operator {

@@ -65,12 +65,19 @@ static void solutions(void) {
     const uint32_t minus_inf[] = {1, 0, 0, 1, 47, 4, 37, 23, 4, 36, 0, 0};
     const uint32_t first[] = {1, 0, 0, 1, 47, 4, 36, 0, 0, 32, 5, 0, 0, 0};
     const uint32_t second[] = {1, 1, 0, 1, 47, 4, 36, 1, 0, 32, 5, 0, 0, 0};
+    const uint32_t let[] = {1, 0, 0, 1, 52, 1, 0, 32, 1, 0, 0, 0, 47, 4, 36, 1, 0, 32, 2, 0, 0, 0};
+    const uint32_t own[] = {1, 0, 0, 1, 52, 1, 0, 36, 0, 0, 36, 1, 0};
     CHECK(solution(text, 0) == PINHKRAY_ACCEPTED);
     CHECK(wrote(first, LENGTH(first)) && after == 1);
     CHECK(solution(text, after) == PINHKRAY_ACCEPTED);
     CHECK(wrote(second, LENGTH(second)) && after == 2);
     CHECK(solution("(lambda ((inf Int)) (< -inf inf))", 0) == PINHKRAY_ACCEPTED);
     CHECK(wrote(minus_inf, LENGTH(minus_inf)) && after == 1);
+    CHECK(solution("(lambda ((x Int)) (let (x 1) (< x 2)))", 0) == PINHKRAY_ACCEPTED);
+    CHECK(wrote(let, LENGTH(let)) && after == 2);
+    CHECK(solution("(lambda ((x Int)) (let (x x) x))", 0) == PINHKRAY_ACCEPTED);
+    CHECK(wrote(own, LENGTH(own)) && after == 2);
+    CHECK(solution("(lambda () (let (x 1) x))", UINT64_MAX) == PINHKRAY_NUMBERS_SPENT);
     CHECK(solution("(lambda ((nan Int) (nan Int)) nan)", 2) == PINHKRAY_REPEATED_NAME);
     CHECK(solution("(lambda ((x Int) (x Int)) x)", 2) == PINHKRAY_REPEATED_NAME);
     CHECK(solution("(lambda ((x Int) (x Int)) ())", 2) == PINHKRAY_MALFORMED);
@@ -138,6 +145,9 @@ static void parts(void) {
 static void flattening(void) {
     const uint32_t curried[] = {38, 0, 1, 37, 6, 1, 38, 1, 1, 37, 3, 1, 2, 37, 1, 1};
     const uint32_t flat[] = {38, 0, 2, 37, 3, 1, 37, 6, 1, 37, 1, 1};
+    /* A let as a head ends a chain of applications. */
+    const uint32_t let[] = {38, 0, 1, 37, 1, 1, 52, 0, 0, 37, 2, 1, 38, 0, 1, 37, 3, 1, 37, 4, 1};
+    const uint32_t named[] = {PINHKRAY_EXPR_LET, 0, 1, 33, 1, 37, 0, 1};
     age();
     CHECK(pinhkray_flatten(curried, LENGTH(curried), out, LENGTH(out), &words) == PINHKRAY_ACCEPTED);
     CHECK(wrote(flat, LENGTH(flat)));
@@ -145,6 +155,13 @@ static void flattening(void) {
     CHECK(words == 0 && all(out, 11, 0));
     CHECK(pinhkray_flatten(curried, 15, out, LENGTH(out), &words) == PINHKRAY_BAD_WORDS);
     CHECK(all(out, LENGTH(out), 0));
+    age();
+    CHECK(pinhkray_flatten(named, LENGTH(named), out, LENGTH(out), &words) == PINHKRAY_ACCEPTED);
+    CHECK(wrote(named, LENGTH(named)));
+    age();
+    CHECK(pinhkray_flatten(let, LENGTH(let), out, LENGTH(out), &words) == PINHKRAY_ACCEPTED);
+    CHECK(wrote(let, LENGTH(let)));
+    CHECK(pinhkray_flatten(let, LENGTH(let) - 1, out, LENGTH(out), &words) == PINHKRAY_BAD_WORDS);
 }
 
 static uint8_t term[64];
@@ -180,6 +197,8 @@ static void terms(void) {
     const uint32_t named[] = {0, 37, 0, 1};
     const uint32_t function[] = {0, 49, PINHKRAY_THY_BVADD};
     const uint32_t left_over[] = {0, 33, 1, 33};
+    const uint32_t let[] = {0, PINHKRAY_EXPR_LET_FRESH, 3, 0, 32, 1, 0, 0, 0, 36, 3, 0};
+    const uint32_t named_let[] = {0, PINHKRAY_EXPR_LET, 0, 1, 32, 1, 0, 0, 0, 37, 0, 1};
     uint32_t deep[1 + PINHKRAY_MAX_EXPRESSIONS + 2];
     CHECK(solution(text, 0) == PINHKRAY_ACCEPTED);
     CHECK(smtlib(out, (size_t)words, text, strlen(written)) == PINHKRAY_ACCEPTED);
@@ -190,6 +209,10 @@ static void terms(void) {
     CHECK(smtlib(out, (size_t)words, text, 0) == PINHKRAY_NO_ROOM);
     CHECK(smtlib(named, LENGTH(named), "x", sizeof term) == PINHKRAY_ACCEPTED);
     CHECK(wrote_term("() |n x|"));
+    CHECK(smtlib(let, LENGTH(let), "", sizeof term) == PINHKRAY_ACCEPTED);
+    CHECK(wrote_term("() (let ((|v 3| 1)) |v 3|)"));
+    CHECK(smtlib(named_let, LENGTH(named_let), "x", sizeof term) == PINHKRAY_ACCEPTED);
+    CHECK(wrote_term("() (let ((|n x| 1)) |n x|)"));
     CHECK(smtlib(named, LENGTH(named), "|", sizeof term) == PINHKRAY_UNPRINTABLE);
     CHECK(smtlib(named, LENGTH(named), "", sizeof term) == PINHKRAY_BAD_WORDS);
     CHECK(smtlib(named, 0, "x", sizeof term) == PINHKRAY_BAD_WORDS);
@@ -257,9 +280,9 @@ static const struct answer expressions[] = {
     {"(>= a b)", PINHKRAY_EXPR_ATOM, PINHKRAY_REL_GE},
     {"(< a b)", PINHKRAY_EXPR_ATOM, PINHKRAY_REL_LT},
     {"(<= a b)", PINHKRAY_EXPR_ATOM, PINHKRAY_REL_LE},
-    {"(let (a b) c)", PINHKRAY_EXPR_LET, 6},
     {"(is$a b)", PINHKRAY_EXPR_IS_CTOR, 4},
     {"(exists ((a Int)) a)", PINHKRAY_EXPR_EXISTS, 1},
+    {"(let (a (let (b 1) b)) a)", PINHKRAY_EXPR_LET_FRESH, 1},
     {"strLen", PINHKRAY_EXPR_THY_FUNC, PINHKRAY_THY_STR_LEN},
     {"int_to_bv8", PINHKRAY_EXPR_THY_FUNC, PINHKRAY_THY_INT_TO_BV8},
     {"bv8_to_int", PINHKRAY_EXPR_THY_FUNC, PINHKRAY_THY_BV8_TO_INT},

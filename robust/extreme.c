@@ -73,6 +73,11 @@ static const struct nested nests[] = {
     {"is$", "", "(is$C ", LISTS, "x", ")", ""},
     {"let, bindings", "", "(let (x ", LISTS / 2, "x", ") x)", ""},
     {"let, bodies", "", "(let (x 1) ", LISTS - 1, "x", ")", ""},
+    {"let, one too deep", "", "(let (x 1) ", LISTS, "x", ")", ""},
+    {"let, a name that hides itself", "", "(let (x x) ", LISTS - 1, "x", ")", ""},
+    {"let, the outermost name", "(let (x 1) ", "(let (y x) ", LISTS - 2, "x", ")", ")"},
+    {"let, heads", "", "(", LISTS - 2, "(let (f f) f)", " f)", ""},
+    {"let and exists", "", "(let (x x) (exists ((y Int)) ", LISTS / 2 - 1, "(= x y)", "))", ""},
     {"let, pairs seen through", "(let ", "(", LISTS - 1, "x 1", ")", " x)"},
     {"exists", "", "(exists ((x Int)) ", LISTS - 2, "(not (not x))", ")", ""},
     {"exists, no binders", "", "(exists () ", LISTS - 1, "x", ")", ""},
@@ -90,6 +95,7 @@ static const struct nested nests[] = {
     {"a bind's nots", "((x Int) ", "(not ", LISTS - 1, "x", ")", ")"},
     {"a bind's exists", "((x Int) ", "(exists ((y Int)) ", LISTS - 3, "(not (not y))", ")", ")"},
     {"a bind's lists", "((x Int) ", "(", LISTS - 1, "x", ")", ")"},
+    {"a bind's lets", "((x Int) ", "(let (x x) ", LISTS - 2, "x", ")", ")"},
     {"a solution's sort", "(lambda ((x ", "(Set_Set ", LISTS - 3, "Int", ")", ")) x)"},
     {"a solution's func", "(lambda ((x ", "(func 64 () ", LISTS - 4, "(A Size8)", ")", ")) x)"},
     {"a solution's nots", "(lambda ((x Int)) ", "(not ", LISTS - 1, "x", ")", ")"},
@@ -115,6 +121,9 @@ static const struct row rows[] = {
     {"surplus", "(not a", " a", ")"},
     {"exists, a name repeated", "(exists(", "(a a)", ")a)"},
     {"exists, one inside each", "(and", "(exists((a a))a)", ")"},
+    {"lets", "(and", "(let(a a)a)", ")"},
+    {"let, the body's uses", "(let(a 1)(and", " a", "))"},
+    {"let, the binding's uses", "(let(a 1)(let(b(and", " a", "))b))"},
     {"arguments of a sort", "(A a", " a", ")"},
     {"arguments of a sort, lists", "(A", "(A)", ")"},
     {"inputs", "(func 64(a", " a", ")a)"},
@@ -123,9 +132,11 @@ static const struct row rows[] = {
     {"kvar arguments", "((x Int)($k a", " a", "))"},
     {"predicates", "((x Int)(and", "(a)", "))"},
     {"kvars", "((x Int)(and", "($ a)", "))"},
+    {"a bind's lets, side by side", "((x Int)(and", "(let(x x)x)", "))"},
     {"a bind's sort", "((x(A a", " a", "))(x))"},
     {"a parameter repeated", "(lambda(", "(a a)", ")a)"},
     {"a parameter's uses", "(lambda((a a))(and", " a", "))"},
+    {"a solution's lets, side by side", "(lambda((a a))(and", "(let(a a)a)", "))"},
     {"a solution's arguments", "(lambda()((not f)a", " a", "))"},
     {"a solution's joined arguments", "(lambda()(((((not f)a a)b b)c c)d", " d", "))"},
     {"a solution's applications", "(lambda()(and", "(((not f)a)b)", "))"},
@@ -255,6 +266,11 @@ void make_extremes(void)
     words("Or", LIST(43, 1), most, LIST(33, 0), 1);
     words("Let, bodies", LIST(48, 1, 1, 33, 0), most, LIST(33, 0), 1);
     words("Let, bindings", LIST(48, 1, 1), most, LIST(33, 0), most + 1);
+    words("Let of a number, bodies", LIST(52, 1, 1, 33, 0), most, LIST(33, 0), 1);
+    words("Let of a number, bodies, one too deep", LIST(52, 1, 1, 33, 0), most + 1, LIST(33, 0), 1);
+    words("Let of a number, bindings", LIST(52, 1, 1), most, LIST(33, 0), most + 1);
+    words("lets as heads", LIST(38, 0, 1, 33, 1, 38, 0, 1, 33, 0, 52, 7, 9, 33, 1), most / 3, LIST(37, 3, 1), 1);
+    words("lets, long", LIST(42, LONG / 10), 1, LIST(52, UINT32_MAX, UINT32_MAX, 33, 1, 36, UINT32_MAX, UINT32_MAX), LONG / 10);
     words("Exists", LIST(51, 1, 7, 0, 1), most, LIST(33, 0), 1);
     words("heads", LIST(38, 0, 1, 33, 1), most, LIST(33, 0), 1);
     words("heads with sorts", LIST(38, 1, 1, 33, 1, 2), most, LIST(33, 0), 1);

@@ -64,7 +64,7 @@ static size_t item(const u8 *text, size_t len, size_t *at)
 // Wraps an item in lists of one form, up to past the limit of nesting.
 static size_t wrap(u8 *text, size_t len, size_t room)
 {
-    static const char *const forms[] = {"(", "(not ", "(and x ", "(Set_Set ", "(exists ((x Int)) ", "(let (x 1) ", "((as apply Int) ", "(- ", "(A "};
+    static const char *const forms[] = {"(", "(not ", "(and x ", "(Set_Set ", "(exists ((x Int)) ", "(let (x 1) ", "(let (x x) ", "((as apply Int) ", "(- ", "(A "};
     const char *form = forms[below(sizeof forms / sizeof forms[0])];
     size_t at, n = item(text, len, &at), times = below(4) ? 1 : 1 + below(66);
     for (; n > 0 && times > 0 && len + strlen(form) + 1 <= room; times--) {
@@ -147,8 +147,8 @@ static size_t move_words(u32 *words, size_t n, size_t room, size_t at, size_t go
 static size_t one_words(u32 *words, size_t n, size_t room, const u32 *other, size_t other_n)
 {
     static const u32 links[][6] = {{39}, {44}, {42, 1}, {43, 2, 33, 1}, {38, 0, 0}, {38, 0, 1, 33, 1},
-                                   {38, 1, 1, 33, 1, 2}, {51, 0}, {5}, {9, 0}, {10, 0, 1}};
-    static const size_t sizes[] = {1, 1, 2, 4, 3, 5, 6, 2, 1, 2, 3};
+                                   {38, 1, 1, 33, 1, 2}, {51, 0}, {52, 3, 0, 33, 1}, {5}, {9, 0}, {10, 0, 1}};
+    static const size_t sizes[] = {1, 1, 2, 4, 3, 5, 6, 2, 5, 1, 2, 3};
     size_t at = below(n + 1), from, many, i;
     u32 copy[64];
     switch (below(9)) {

@@ -16,6 +16,8 @@ static u64 text_len;
 static u8 met[1 << 21];
 static int answer; // whether the words are an answer
 static int from_text; // whether they are that to a text
+static u64 scope[MOST_FRESH]; // the numbers that are bound where the walk is
+static size_t in_scope;
 int walk_learning;
 
 // Three kinds, one inside the other, were met in an answer.
@@ -56,13 +58,33 @@ static void skip(int n)
         take();
 }
 
-static void fresh(u32 binds)
+static u64 fresh(u32 binds)
 {
     if (walk_freshes < MOST_FRESH) {
         walk_fresh[walk_freshes].at = (u32)at;
         walk_fresh[walk_freshes++].binds = binds;
     }
-    skip(2);
+    u64 low = take();
+    return low | (u64)take() << 32;
+}
+
+// A number is bound from here on, until what binds it ends.
+static void bound(u64 number)
+{
+    if (in_scope < MOST_FRESH)
+        scope[in_scope++] = number;
+}
+
+// In the answer to a text a number is used inside what binds it.
+static void used(u64 number)
+{
+    size_t i = in_scope;
+    if (why || !from_text)
+        return;
+    while (i > 0 && scope[i - 1] != number)
+        i--;
+    if (i == 0)
+        why = 14;
 }
 
 static void sort(u32 outer, u32 middle)
@@ -91,7 +113,7 @@ static void sort(u32 outer, u32 middle)
 static void binders(u32 outer, u32 middle)
 {
     for (u32 n = take(); n > 0 && why == 0; n--) {
-        fresh(1);
+        bound(fresh(1));
         sort(outer, middle);
     }
 }
@@ -115,7 +137,7 @@ static void literal(void)
 static void expr(int inside, u32 outer, u32 middle)
 {
     u32 kind = take();
-    if (why == 0 && (kind < 32 || kind > 51))
+    if (why == 0 && (kind < 32 || kind > 52))
         why = 14;
     if (why == 0 && inside >= DEEPEST)
         why = 6;
@@ -123,12 +145,14 @@ static void expr(int inside, u32 outer, u32 middle)
         return;
     shape(outer, middle, kind);
     u32 children = 0, flag;
+    size_t before = in_scope;
+    u64 number;
     switch (kind) {
     case 32: skip(4); break;
     case 33: take_below(2); break;
     case 34: case 37: span(); break;
     case 35: literal(); break;
-    case 36: fresh(0); break;
+    case 36: used(fresh(0)); break;
     case 38:
         flag = take_below(2);
         for (u32 n = take(); n > 0 && why == 0; n--)
@@ -143,13 +167,24 @@ static void expr(int inside, u32 outer, u32 middle)
     case 42: case 43: children = take(); break;
     case 45: case 46: children = 2; break;
     case 47: take_below(6); children = 2; break;
-    case 48: span(); children = 2; break;
+    case 48: // a let of a name, which no text is read as
+        if (from_text)
+            why = 14;
+        span();
+        children = 2;
+        break;
     case 49: take_below(42); break;
     case 50: span(); children = 1; break;
-    default: binders(middle, kind); children = 1;
+    case 51: binders(middle, kind); children = 1; break;
+    default: // a let binds its number in its body, and not in its binding
+        number = fresh(1);
+        expr(inside + 1, middle, kind);
+        bound(number);
+        children = 1;
     }
     for (; children > 0 && why == 0; children--)
         expr(inside + 1, middle, kind);
+    in_scope = before;
 }
 
 static void tree(int inside)
@@ -196,6 +231,7 @@ static void begin(const u32 *from, size_t n, u64 text)
     why = 0;
     text_len = text;
     walk_freshes = 0;
+    in_scope = 0;
     answer = from_text = 0;
 }
 

@@ -2,7 +2,8 @@
 
 A sort is a tuple: ("Int",), ("Bool",), ("Real",), ("Str",), ("BitVec", width), ("Map", key, value), ("Data", name, sorts).
 An expression is a tuple that begins with its kind, as document 01 names it; names are strings, fresh numbers are numbers:
-("Fresh", 3), ("Named", "x"), ("App", arguments, output sort or None, head), ("Exists", [(number, sort)], body) and so on.
+("Fresh", 3), ("Named", "x"), ("App", arguments, output sort or None, head), ("Exists", [(number, sort)], body) and so on. A let has its variable,
+("Let", ("Fresh", 3) or ("Named", "x"), binding, body).
 """
 
 INT, BOOL, REAL, STR = ("Int",), ("Bool",), ("Real",), ("Str",)
@@ -173,7 +174,9 @@ class Grower:
         return self.applied(head, self.functions[head][0], depth)
 
     def let(self, sort, depth):
-        name = ("Named", self.name())
+        name = ("Named", self.name()) if self.one_in(3) else ("Fresh", self.number())
+        if self.bound and self.one_in(3):
+            name = self.random.choice(self.bound)[0]
         if self.taken(name):
             return self.leaf(sort)
         of = self.sort(1)
@@ -183,7 +186,7 @@ class Grower:
         self.bound.append((name, of))
         body = self.expr(sort, depth)
         self.bound.pop()
-        return ("Let", name[1], binding, body)
+        return ("Let", name, binding, body)
 
     def bit_vector(self, claim, sort, depth):
         function, operands, _ = self.random.choice([f for f in BIT_VECTOR if f[2] == claim])

@@ -50,7 +50,7 @@ def shape(expr, scope, depth):
         return operands[0] if len(operands) == 1 else (kind, *operands)
     if kind == "Let":
         name, binding, body = parts
-        return shape(body, {**scope, ("Named", name): cache(lambda used: shape(binding, scope, used))}, depth)
+        return shape(body, {**scope, name: cache(lambda used: shape(binding, scope, used))}, depth)
     if kind == "IsCtor":
         return ("IsCtor", parts[0], *inside(parts[1]))
     if kind == "Exists":

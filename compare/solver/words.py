@@ -81,9 +81,14 @@ class Words:
             self.put({"And": 42, "Or": 43}[kind], len(parts[0]))
             self.exprs(parts[0])
         elif kind == "Let":
-            self.put(48)
-            self.span(parts[0])
-            self.exprs(parts[1:])
+            (of, name), *inside = parts
+            if of == "Named":
+                self.put(48)
+                self.span(name)
+            else:
+                self.put(52)
+                self.number(name, 2)
+            self.exprs(inside)
         elif kind == "ThyFunc":
             self.put(49, parts[0])
         elif kind == "IsCtor":

@@ -50,6 +50,9 @@ impl<'t> Call<'t> {
 /// A refusal's number, from 1 on.
 pub type Refusal = u32;
 
+/// No refusal's number: what is asked is excepted, so that there is no answer to hold another against.
+pub const EXCEPTED: Refusal = Refusal::MAX;
+
 /// What an accepted call reports and writes.
 #[derive(Clone, Debug, PartialEq, Eq)]
 pub struct Answer {

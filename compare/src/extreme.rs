@@ -62,6 +62,15 @@ fn deepest() -> Vec<(&'static str, String)> {
         ("is$", nest("(is$C ", max, "x", ")")),
         ("let, bindings", nest("(let (x ", max / 2, "x", ") x)")),
         ("let, bodies", nest("(let (x 1) ", max - 1, "x", ")")),
+        ("let, one too deep", nest("(let (x 1) ", max, "x", ")")),
+        ("let, a name that hides itself", nest("(let (x x) ", max - 1, "x", ")")),
+        ("let, bindings and bodies", nest("(let (x (let (y x) ", max / 3, "y", ")) x)")),
+        ("let, heads", nest("(", max - 2, "(let (f f) f)", " f)")),
+        ("let and exists", nest("(let (x x) (exists ((y Int)) ", max / 2 - 1, "(= x y)", "))")),
+        ("let, the outermost name", {
+            let lets: String = (0..max - 2).map(|i| format!("(let (x{i} x) ")).collect();
+            format!("(let (x 1) {lets}x{})", ")".repeat(max - 2))
+        }),
         ("let, pairs seen through", format!("(let {} x)", nest("(", max - 1, "x 1", ")"))),
         ("exists", nest("(exists ((x Int)) ", max - 2, "(not (not x))", ")")),
         ("exists, no binders", nest("(exists () ", max - 1, "x", ")")),
@@ -78,9 +87,11 @@ fn deepest() -> Vec<(&'static str, String)> {
         ("a bind's nots", bind("Int", &nest("(not ", max - 1, "x", ")"))),
         ("a bind's exists", bind("Int", &nest("(exists ((y Int)) ", max - 3, "(not (not y))", ")"))),
         ("a bind's lists", bind("Int", &nest("(", max - 1, "x", ")"))),
+        ("a bind's lets", bind("Int", &nest("(let (x x) ", max - 2, "x", ")"))),
         ("a solution's sort", lambda(&nest("(Set_Set ", max - 3, "Int", ")"), "x")),
         ("a solution's nots", lambda("Int", &nest("(not ", max - 1, "x", ")"))),
         ("a solution's exists", lambda("Int", &nest("(exists ((y Int)) ", max - 3, "(not (not y))", ")"))),
+        ("a solution's lets", lambda("Int", &nest("(let (x x) ", max - 2, "x", ")"))),
         ("a solution's heads", lambda("Int", &nest("(", max - 3, "((as apply Int) f)", " x)"))),
         ("a solution's sorted heads", lambda("Int", &nest("((as apply Int) ", max - 2, "f", ")"))),
         ("a solution's arguments", lambda("Int", &nest("((not f) ", max - 2, "x", ")"))),
@@ -105,6 +116,15 @@ fn longest() -> Vec<(&'static str, String)> {
         ("exists, binders and uses", fill(&fill("(exists(", binders().take(2500), ")(and"), same(" ;a"), "))")),
         ("exists, a name repeated", fill("(exists(", same("(a a)"), ")a)")),
         ("exists, one inside each", fill("(and", same("(exists((a a))a)"), ")")),
+        ("lets", fill("(and", same("(let(a a)a)"), ")")),
+        ("let, the body's uses", fill("(let(a 1)(and", same(" a"), "))")),
+        ("let, the binding's uses", fill("(let(a 1)(let(b(and", same(" a"), "))b))")),
+        ("let, uses of the outermost name", {
+            let lets: String = (0..MAX_LISTS - 3).map(|i| format!("(let(b{i} 1)")).collect();
+            fill(&format!("(let(a 1){lets}(and"), same(" a"), &")".repeat(MAX_LISTS - 1))
+        }),
+        ("a solution's lets", fill("(lambda((a a))(and", same("(let(a a)a)"), "))")),
+        ("a bind's lets", fill("((x Int)(and", same("(let(x x)x)"), "))")),
         ("a list at the deepest place", {
             let room = MAX_BYTES - deep("(or)").len();
             deep(&format!("(or{})", " a".repeat(room / 2)))

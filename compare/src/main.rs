@@ -1,6 +1,6 @@
 //! Holds the proved library against documents 01 and 02, against the source and against another archive of it, by running.
 //!
-//!     compare gate ANSWERS TERMS    the recorded answers of documents 01 and 02, the small stack, and some hundred thousand calls;
+//!     compare gate ANSWERS TERMS .. the recorded answers of documents 01 and 02, the small stack, and some hundred thousand calls;
 //!                                   a name that is empty stands for no file
 //!     compare long SEED MILLIONS    so many million random calls for parsing, flattening and sessions together, behind all small texts
 //!     compare smtlib SEED MILLIONS  so many million random calls for solutions as SMT-LIB terms, behind all small ones
@@ -10,7 +10,8 @@
 //!     compare bench-flatten         the time of flattening
 //!     compare bench-smtlib          the time of writing solutions as SMT-LIB terms, beside that of reading them
 //!     compare beside SHARED SEED MILLIONS [WORD ..]  so many million random calls of all functions against another archive, of which SHARED
-//!                                   is a shared object, behind all small texts; texts that contain one of the words are passed over
+//!                                   is a shared object, behind all small texts; texts that contain one of the words are passed over, and
+//!                                   lists that contain the number 52 where one of the words is `kind:52`
 //!     compare bench-beside SHARED SHARED [TEXT ..]  the time of solution by the first against that by the second, of made texts and of these;
 //!                                   and that of read one, of solutions of nested lists and of these
 //!     compare reading SEED MILLIONS so many million for read one and read all against sexp.rs, behind all short texts
@@ -74,7 +75,7 @@ const LONG: Small = Small { alone: 6, framed: 5, row: 5 };
 #[cfg(flux_source)]
 const SOURCE: Size = Size { small: Small { alone: 4, framed: 3, row: 2 }, words: 4, random: 80_000 };
 
-fn gate(answers: Option<&str>, terms: Option<&str>) -> Result<(), String> {
+fn gate(answers: Option<&str>, terms: &[&str]) -> Result<(), String> {
     match answers {
         Some(path) => {
             let all = recorded::run(path)?;
@@ -82,12 +83,9 @@ fn gate(answers: Option<&str>, terms: Option<&str>) -> Result<(), String> {
         }
         None => println!("compare: recorded answers skipped, for want of them"),
     }
-    match terms {
-        Some(path) => {
-            let all = smtlib::recorded(path)?;
-            println!("compare: {all} recorded answers of C-11: the paper gives them all, and so does the library");
-        }
-        None => println!("compare: recorded answers of C-11 skipped, for want of them"),
+    match terms.iter().map(|path| smtlib::recorded(path)).sum::<Result<usize, String>>()? {
+        0 => println!("compare: recorded answers of C-11 skipped, for want of them"),
+        all => println!("compare: {all} recorded answers of C-11: the paper gives them all, and so does the library"),
     }
     let (calls, accepted) = stack::run()?;
     println!("compare: {calls} calls on the deepest and longest texts and words, {accepted} accepted, in a stack of {} KiB: no difference", stack::BYTES / 1024);
@@ -96,11 +94,15 @@ fn gate(answers: Option<&str>, terms: Option<&str>) -> Result<(), String> {
     against_source(answers)
 }
 
+/// How a let of a number begins; its binding and its body are behind it.
+const LET: [u32; 3] = [52, 7, 0];
+
 fn against_paper(size: &Size, r: &mut Random) -> Result<(), String> {
     let parsed = parsing::run::<Paper>("the paper", size.small, size.random / 2, r)?;
-    let flattened = flattening::run("the paper", paper::flatten, size.words, size.random / 4, r)?;
+    let flattened = flattening::run("the paper", paper::flatten, &[&[], &LET], size.words, size.random / 4, r)?;
     let sessions = sessions::run(size.random / 4, r)?;
-    let all = parsed + flattened + sessions;
+    let extremes = parsing::extremes_held::<Paper>("the paper", r)? + flattening::extremes_held("the paper", paper::flatten, r)?;
+    let all = parsed + flattened + sessions + extremes;
     println!("compare: the paper, these together: {all}: no difference");
     all.meets(&[1, 2, 3, 4, 5, 6, 7, 8, 9, 10, 11, 12, 13, 14, 17])
 }
@@ -131,7 +133,7 @@ fn against_source(answers: Option<&str>) -> Result<(), String> {
     println!("compare: sexp.rs: {recorded} recorded answers, {short} calls on all short texts, {random} on random ones: no difference");
     if let Some(path) = answers {
         let (given, excepted) = source::recorded(path)?;
-        println!("compare: parser.rs and constraint.rs: {given} recorded answers: they give them all; {excepted} with literals excepted");
+        println!("compare: parser.rs and constraint.rs: {given} recorded answers: they give them all; {excepted} with literals or lets excepted");
     }
     source_held(&SOURCE, &mut r)?;
     reading::bench::bounded()
@@ -165,9 +167,9 @@ fn number(text: &str) -> Result<u64, String> {
 
 fn run(words: &[&str]) -> Result<(), String> {
     match words {
-        ["gate", answers, terms] => {
-            let [answers, terms] = [answers, terms].map(|path| Some(*path).filter(|path| !path.is_empty()));
-            gate(answers, terms)
+        ["gate", answers, terms @ ..] => {
+            let named = |path: &&str| !path.is_empty();
+            gate(Some(*answers).filter(named), &terms.iter().copied().filter(named).collect::<Vec<_>>())
         }
         ["long", seed, millions] => {
             let size = Size { small: LONG, words: 6, random: number(millions)? * 1_000_000 };
@@ -219,7 +221,7 @@ fn run(words: &[&str]) -> Result<(), String> {
         ["once", reader, from] => reading::bench::once(reader, from),
         #[cfg(not(flux_source))]
         ["reading" | "source" | "bench" | "once" | "bench-solution", ..] => Err("built without the source; FLUX_SOURCE names its folder".to_string()),
-        _ => Err("compare gate ANSWERS TERMS | long SEED MILLIONS | smtlib SEED MILLIONS | write | script | reading SEED MILLIONS | source SEED MILLIONS | bench [TEXT ..] | once READER FROM | bench-solution [TEXT ..] | nested BYTES SEED | bench-flatten | bench-smtlib | beside SHARED SEED MILLIONS [WORD ..] | bench-beside SHARED SHARED [TEXT ..]".to_string()),
+        _ => Err("compare gate ANSWERS TERMS .. | long SEED MILLIONS | smtlib SEED MILLIONS | write | script | reading SEED MILLIONS | source SEED MILLIONS | bench [TEXT ..] | once READER FROM | bench-solution [TEXT ..] | nested BYTES SEED | bench-flatten | bench-smtlib | beside SHARED SEED MILLIONS [WORD ..] | bench-beside SHARED SHARED [TEXT ..]".to_string()),
     }
 }
 

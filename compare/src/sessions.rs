@@ -94,7 +94,7 @@ fn alike(call: &Call, old: &Result<Answer, Refusal>, new: &Result<Answer, Refusa
             told((old.a, old.b, old.count) == (new.a, new.b, after) && new.count == n, "what is reported is not that of a new reader")?;
             told(old.words == raised(new, &fresh, call.count), "words differ from a new reader's in more than the fresh numbers")?;
             told(bound(old, &fresh) == (call.count..after).collect::<Vec<_>>(), "the numbers bound are not those from the count on, each once")?;
-            told(fresh.iter().all(|f| (call.count..after).contains(&number(old, f))), "a number is used that is not bound")
+            told(paper::scoped(call.op, &old.words), "a number is used where it is not bound")
         }
         _ => Err("one reader accepts, and one refuses".to_string()),
     }

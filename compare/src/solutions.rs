@@ -72,9 +72,17 @@ impl Grower<'_> {
             14 | 15 => format!("({} {} {})", self.r.pick(&["and", "or"]), self.claim(depth - 1), self.claim(depth - 1)),
             16 => self.application(depth - 1),
             17 => format!("(is$Cons {})", self.application(depth - 1)),
-            18 => format!("(let (v{depth} {}) {})", self.value(depth - 1), self.claim(depth - 1)),
+            18 => self.let_in(depth - 1),
             _ => self.exists(depth - 1),
         }
+    }
+
+    fn let_in(&mut self, depth: usize) -> String {
+        let (name, binding) = (format!("v{depth}"), self.value(depth));
+        self.names.push(name.clone());
+        let body = self.claim(depth);
+        self.names.pop();
+        format!("(let ({name} {binding}) {body})")
     }
 
     fn exists(&mut self, depth: usize) -> String {

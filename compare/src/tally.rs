@@ -11,7 +11,7 @@ const LAST: usize = 17;
 pub struct Tally {
     accepted: u64,
     refused: [u64; LAST + 1],
-    /// Texts on which no call was made, since the model has no answer to them or they are to be passed over.
+    /// Texts and lists of words on which no call was made, since the model has no answer to them or they are to be passed over.
     excepted: u64,
 }
 
@@ -59,7 +59,7 @@ impl fmt::Display for Tally {
         let met = self.refused.iter().enumerate().filter(|(_, n)| **n > 0);
         met.enumerate().try_for_each(|(i, (refusal, n))| write!(f, "{} {refusal}: {n}", if i > 0 { "," } else { "" }))?;
         if self.excepted > 0 {
-            write!(f, "; {} texts excepted", self.excepted)?;
+            write!(f, "; {} excepted", self.excepted)?;
         }
         Ok(())
     }

@@ -237,6 +237,15 @@ impl Encode for Expr {
                 counted(binders, out);
                 body.put(out);
             }
+            Expr::LetFresh {
+                number,
+                binding,
+                body,
+            } => {
+                node(&[52], number, out);
+                binding.put(out);
+                body.put(out);
+            }
         }
     }
 }

@@ -22,7 +22,7 @@ pub enum Expr {
         /// How many bits it has.
         width: u32,
     },
-    /// A variable that an exists or a solution binds.
+    /// A variable that a solution, an exists or a let binds.
     Fresh(Fresh),
     /// A variable that nothing binds, by its name.
     Var(Span),
@@ -53,7 +53,8 @@ pub enum Expr {
     Iff(Box<[Expr; 2]>),
     /// A relation between two expressions.
     Atom(Relation, Box<[Expr; 2]>),
-    /// A name for an expression, in another; the name is a `Var` there.
+    /// A name for an expression, in another; the name is a `Var` there. Stored words may have it: a text has none, since
+    /// its lets are each a `LetFresh`.
     Let {
         /// The name.
         name: Span,
@@ -68,6 +69,30 @@ pub enum Expr {
     IsCtor(Span, Box<Expr>),
     /// Some values of these sorts make the body true.
     Exists(Vec<Binder>, Box<Expr>),
+    /// A variable that stands for an expression in another, and nowhere else: it is not bound in its own binding.
+    ///
+    /// ```
+    /// use pinhkray::{Expr, Fresh, Reader};
+    ///
+    /// let mut reader = Reader::open(0);
+    /// let read = reader.expression_owned(b"(let (x 1) x)")?;
+    /// let bound = Expr::LetFresh {
+    ///     number: Fresh(0),
+    ///     binding: Box::new(Expr::Numeral(1)),
+    ///     body: Box::new(Expr::Fresh(Fresh(0))),
+    /// };
+    /// assert_eq!(read, bound);
+    /// assert_eq!(reader.count(), 1);
+    /// # Ok::<(), pinhkray::Refusal>(())
+    /// ```
+    LetFresh {
+        /// The variable.
+        number: Fresh,
+        /// What it stands for.
+        binding: Box<Expr>,
+        /// Where it stands for it.
+        body: Box<Expr>,
+    },
 }
 
 impl Expr {
@@ -86,7 +111,7 @@ pub(crate) fn expr(words: &mut Words) -> Decoded<Expr> {
 /// An expression inside so many others. An unknown kind comes before a nesting too deep, and that before the fields.
 fn inside(words: &mut Words, others: usize) -> Decoded<Expr> {
     let kind = words.word()?;
-    if !(32..=51).contains(&kind) {
+    if !(32..=52).contains(&kind) {
         return words.unexpected();
     }
     if others >= MAX_EXPRESSIONS {
@@ -129,6 +154,11 @@ fn inside(words: &mut Words, others: usize) -> Decoded<Expr> {
         },
         49 => Expr::ThyFunc(words.code(ThyFunc::from_number)?),
         50 => Expr::IsCtor(words.span()?, boxed(words)?),
-        _ => Expr::Exists(binders(words)?, boxed(words)?),
+        51 => Expr::Exists(binders(words)?, boxed(words)?),
+        _ => Expr::LetFresh {
+            number: Fresh(words.long()?),
+            binding: boxed(words)?,
+            body: boxed(words)?,
+        },
     })
 }

@@ -205,10 +205,7 @@ impl Show for Expr {
             } => {
                 f.write_str("(let (")?;
                 name.show(f, text)?;
-                each(f, text, [&**binding])?;
-                f.write_str(")")?;
-                each(f, text, [&**body])?;
-                f.write_str(")")
+                bound(f, text, binding, body)
             }
             Expr::ThyFunc(function) => f.write_str(function.spelling()),
             Expr::IsCtor(name, e) => {
@@ -217,9 +214,25 @@ impl Show for Expr {
                 each(f, text, [&**e])?;
                 f.write_str(")")
             }
-            Expr::Exists(bound, body) => under(f, text, "exists", bound, body),
+            Expr::Exists(binders, body) => under(f, text, "exists", binders, body),
+            Expr::LetFresh {
+                number,
+                binding,
+                body,
+            } => {
+                write!(f, "(let ({number}")?;
+                bound(f, text, binding, body)
+            }
         }
     }
+}
+
+/// What a let binds, behind its name or number, and the body.
+fn bound(f: &mut Formatter<'_>, text: Option<&[u8]>, binding: &Expr, body: &Expr) -> Result {
+    each(f, text, [binding])?;
+    f.write_str(")")?;
+    each(f, text, [body])?;
+    f.write_str(")")
 }
 
 /// A word, what it binds, and the body.

@@ -1,4 +1,4 @@
-//! Solutions, and what they and an exists bind.
+//! Solutions, and what they, an exists and a let bind.
 
 use crate::expr::{expr, Expr};
 use crate::sort::{sort, Sort};

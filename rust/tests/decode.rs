@@ -51,10 +51,10 @@ fn sorts() {
 
 #[test]
 fn expressions() {
-    let none: [(&[u32], DecodeError); 14] = [
+    let none: [(&[u32], DecodeError); 18] = [
         (&[], EndsEarly),
         (&[31], Unexpected(0)),
-        (&[52], Unexpected(0)),
+        (&[53], Unexpected(0)),
         (&[64, 0, 0, 0], Unexpected(0)),
         (&[32, 1, 2, 3], EndsEarly),
         (&[33, 2], Unexpected(1)),
@@ -66,6 +66,10 @@ fn expressions() {
         (&[49, 42], Unexpected(1)),
         (&[51, 1, 0, 0, 32], Unexpected(4)),
         (&[49, 41, 0], LeftOver(2)),
+        (&[52, 0], EndsEarly),
+        (&[52, 0, 0, 33, 1], EndsEarly),
+        (&[52, 0, 0, 1], Unexpected(3)),
+        (&[52, 0, 0, 33, 1, 33, 1, 33], LeftOver(7)),
     ];
     for (words, error) in none {
         assert_eq!(Expr::decode(words), Err(error));

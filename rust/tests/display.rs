@@ -15,7 +15,7 @@ fn expressions() {
         ),
         ("(!= (mod a 2) (/ b c))", "(!= (mod a 2) (/ b c))"),
         ("(lit \"#b101\" (BitVec Size3))", "(_ bv5 3)"),
-        ("(let (x 1) (is$Cons x))", "(let (x 1) (is$Cons x))"),
+        ("(let (x 1) (is$Cons x))", "(let (%0 1) (is$Cons %0))"),
         (
             "(exists ((x Int) (y (List Int))) (= x z))",
             "(exists ((%0 Int) (%1 (List Int))) (= %0 z))",

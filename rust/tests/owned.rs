@@ -87,8 +87,18 @@ fn every_kind() {
             Ok(term)
         );
     }
-    let kinds = "Numeral Boolean String BitVec Fresh Var App Neg BinaryOp IfThenElse And Or Not Imp Iff Atom Let ThyFunc IsCtor Exists";
+    let kinds = "Numeral Boolean String BitVec Fresh Var App Neg BinaryOp IfThenElse And Or Not Imp Iff Atom ThyFunc IsCtor Exists LetFresh";
     assert!(kinds.split(' ').all(|kind| seen.contains(kind)));
+    // A let of a name is in stored words alone.
+    assert!(!seen.contains("Let {"));
+    let stored = [48, 3, 1, 33, 1, 37, 3, 1];
+    let named = Expr::Let {
+        name: span(3, 1),
+        binding: Box::new(Expr::Boolean(true)),
+        body: Box::new(Expr::Var(span(3, 1))),
+    };
+    assert_eq!(Expr::decode(&stored).as_ref(), Ok(&named));
+    assert_eq!(named.encode(), stored);
 }
 
 #[test]

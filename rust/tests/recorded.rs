@@ -171,7 +171,7 @@ fn damaged_words() {
     for line in lines().iter().filter(|line| line.words.len() < 300) {
         for at in 0..line.words.len() {
             let mut cases = vec![line.words[..at].to_vec()];
-            for word in [0, 1, 2, 5, 10, 21, 37, 38, 42, 51, 65, u32::MAX] {
+            for word in [0, 1, 2, 5, 10, 21, 37, 38, 42, 51, 52, 65, u32::MAX] {
                 let mut words = line.words.clone();
                 words[at] = word;
                 cases.push(words);

@@ -1,4 +1,5 @@
-//! One reader over many calls: its count is the binders in accepted answers, plus the number it was opened at.
+//! One reader over many calls: its count is the number of binders and lets in accepted answers, plus the number it
+//! was opened at.
 
 use pinhkray::{Expr, Fresh, Reader, Refusal};
 

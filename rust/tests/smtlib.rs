@@ -96,6 +96,16 @@ fn nodes() {
             "",
             "() (exists ((|v 4| Int) (|v 4| Bool)) |v 4|)",
         ),
+        (
+            &[0, 52, 3, 0, 32, 1, 0, 0, 0, 36, 3, 0],
+            "",
+            "() (let ((|v 3| 1)) |v 3|)",
+        ),
+        (
+            &[0, 52, u32::MAX, u32::MAX, 36, 3, 0, 33, 1],
+            "",
+            "() (let ((|v 18446744073709551615| |v 3|)) true)",
+        ),
     ]);
     for (operator, name) in ["+", "-", "*", "div", "mod"].iter().enumerate() {
         let words = [0, 40, operator as u32, 33, 1, 33, 0];
@@ -162,6 +172,7 @@ fn applications() {
             (&[0, 38, 0, 1, 33, 1, 42, 1, 37, 0, 1], "f"),
             (&[0, 38, 0, 1, 33, 1, 38, 0, 0, 37, 0, 1], "f"),
             (&[0, 38, 0, 1, 33, 1, 51, 0, 37, 0, 1], "f"),
+            (&[0, 38, 0, 1, 33, 1, 52, 3, 0, 33, 1, 36, 3, 0], ""),
             (&[0, 49, 27], ""),
             (&[0, 38, 0, 0, 49, 27], ""),
             (&[0, 38, 0, 1, 49, 27, 37, 0, 1], "f"),
@@ -268,7 +279,8 @@ fn words_are_judged_first() {
             (&[0, 37, 1, u32::MAX], "x"),
             (&[0, 42, 2, 37, 0, 1, 37, 1, 1], "|"),
             (&[0, 38, 1, 0, 10, 2, 1, 0, 0, 33, 1], ""),
-            (&[0, 52, 3, 0, 33, 1, 33, 1], ""),
+            (&[0, 52, 3, 0, 33, 1], ""),
+            (&[0, 53, 3, 0, 33, 1, 33, 1], ""),
         ],
     );
     let chain = |nots: usize, end: &[u32]| [&[0], &vec![44; nots][..], end].concat();
@@ -289,6 +301,7 @@ fn refusals_in_the_order_of_the_words() {
             (&[0, 38, 0, 1, 37, 0, 1, 32, 5, 0, 0, 0], "|"),
             (&[0, 38, 0, 0, 34, 0, 1], "|"),
             (&[0, 48, 0, 1, 49, 0, 33, 1], "|"),
+            (&[0, 52, 0, 0, 37, 0, 1, 49, 0], "|"),
             (&[0, 50, 0, 1, 49, 0], "|"),
         ],
     );
@@ -296,6 +309,7 @@ fn refusals_in_the_order_of_the_words() {
         Unwritable,
         &[
             (&[0, 42, 2, 49, 0, 37, 0, 1], "|"),
+            (&[0, 52, 0, 0, 49, 0, 37, 0, 1], "|"),
             (&[1, 0, 0, 6, 1, 37, 0, 1], "|"),
         ],
     );
@@ -321,7 +335,7 @@ fn texts() {
         ("(lambda () (((as apply Int) 5) x))", Err(Unwritable)),
         (
             "(lambda ((x Int)) (let (x 1) (< x 2)))",
-            Ok("((|v 0| Int)) (let ((|n x| 1)) (< |v 0| 2))"),
+            Ok("((|v 0| Int)) (let ((|v 1| 1)) (< |v 1| 2))"),
         ),
         (
             "(lambda ((l (List Int)) (m (Map_t Str Bool))) (exists ((y Real)) ((((as apply Int) f) l) y)))",
@@ -365,9 +379,10 @@ fn there_is_room_for_every_text() {
         |_| format!("(lit\"#b{}\"(a Size128))", "1".repeat(128)),
         "))",
     );
+    let lets = longest("(a()(and ", |_| "(let(a a)a)".to_owned(), "))");
     let numbers = longest("(a()(and ", |_| format!("-{} ", i128::MAX), "))");
     let nots = longest("(a()(and ", |_| "(not(!= a a))".to_owned(), "))");
-    for text in [names, params, bound, bits, numbers, nots] {
+    for text in [names, params, bound, bits, lets, numbers, nots] {
         let mut reader = Reader::open(u64::MAX - 10_000);
         let text = text.as_bytes();
         let words = reader.solution_owned(text).unwrap().encode();

@@ -14,16 +14,24 @@ use crate::smtlib;
 use crate::tally::Tally;
 
 const NAME: &str = "the other archive";
+/// How a word begins that is the number of a kind.
+const KIND: &str = "kind:";
 
-/// The other archive, and words; a text that contains one of them, in upper or lower case, is passed over.
+/// The other archive, and what is passed over: a text that contains one of these words, in upper or lower case, and a list that contains one of
+/// these numbers.
 struct Beside<'a> {
     other: &'a Archive,
-    words: &'a [&'a str],
+    words: Vec<&'a str>,
+    numbers: Vec<u32>,
 }
 
 impl Beside<'_> {
     fn passes_over(&self, text: &[u8]) -> bool {
         self.words.iter().any(|word| text.windows(word.len()).any(|part| part.eq_ignore_ascii_case(word.as_bytes())))
+    }
+
+    fn passes_over_words(&self, words: &[u32]) -> bool {
+        self.numbers.iter().any(|number| words.contains(number))
     }
 
     /// The calls of an operation on a text, by both.
@@ -37,12 +45,16 @@ impl Beside<'_> {
 
     /// The same of flattening.
     fn words(&self, words: &[u32], r: &mut Random, tally: &mut Tally) -> Result<(), String> {
+        if self.passes_over_words(words) {
+            tally.except();
+            return Ok(());
+        }
         flattening::outputs(paper::flatten, words, r, |out| both::flatten(self.other, words, out, tally))
     }
 
     /// The same of writing a solution as a term.
     fn solution(&self, words: &[u32], text: &[u8], r: &mut Random, tally: &mut Tally) -> Result<(), String> {
-        if self.passes_over(text) {
+        if self.passes_over(text) || self.passes_over_words(words) {
             tally.except();
             return Ok(());
         }
@@ -51,12 +63,16 @@ impl Beside<'_> {
 }
 
 /// Holds all functions of the other archive against the linked ones, in so many random calls and behind all texts up to these sizes, and prints
-/// how they ended. Half of the random calls are those that parse; the other four functions share the rest.
+/// how they ended. Half of the random calls are those that parse; the other four functions share the rest. Texts that contain one of the words
+/// are passed over, and lists of words that contain the number of a word such as `kind:52`.
 pub fn run(other: &Archive, words: &[&str], most: Small, calls: u64, r: &mut Random) -> Result<Tally, String> {
     if words.contains(&"") {
         return Err("a word that texts may contain, and not an empty one".to_string());
     }
-    let beside = Beside { other, words };
+    let (kinds, words): (Vec<&str>, Vec<&str>) = words.iter().partition(|word| word.starts_with(KIND));
+    let number = |word: &str| word[KIND.len()..].parse().map_err(|_| format!("a number behind {KIND}, and not {word}"));
+    let numbers = kinds.into_iter().map(number).collect::<Result<_, _>>()?;
+    let beside = Beside { other, words, numbers };
     let text = |op, text: &[u8], r: &mut Random, tally: &mut Tally| beside.text(op, text, r, tally);
     let mut all = Tally::default();
     for op in [Operation::ReadOne, Operation::ReadAll] {

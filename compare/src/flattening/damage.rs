@@ -4,7 +4,7 @@ use super::grower::any_word;
 use crate::random::Random;
 
 /// What a changed word becomes: kinds and fields at the ends of their codes, and past them.
-const WORDS: &[u32] = &[0, 1, 2, 3, 4, 5, 6, 8, 9, 10, 11, 16, 21, 31, 32, 33, 38, 39, 41, 42, 43, 49, 50, 51, 52, 64, 65, u32::MAX];
+const WORDS: &[u32] = &[0, 1, 2, 3, 4, 5, 6, 8, 9, 10, 11, 16, 21, 31, 32, 33, 38, 39, 41, 42, 43, 48, 49, 50, 51, 52, 53, 64, 65, u32::MAX];
 
 pub fn damaged(words: Vec<u32>, r: &mut Random) -> Vec<u32> {
     let times = 1 + r.below(3);

@@ -16,12 +16,13 @@ fn sorted(sort: &[u32]) -> Vec<u32> {
 pub fn words() -> Vec<(String, Vec<u32>)> {
     let most = MAX_NODES - 1;
     let long = 20_000;
-    let links: [(&str, &[u32]); 9] = [
+    let links: [(&str, &[u32]); 10] = [
         ("Neg", &[39]),
         ("Not", &[44]),
         ("If", &[41, 33, 0, 33, 1]),
         ("And", &[42, 2, 33, 1]),
         ("Let, bodies", &[48, 1, 1, 33, 0]),
+        ("Let of a number, bodies", &[52, 7, 9, 33, 0]),
         ("Exists", &[51, 1, 7, 0, 1]),
         ("heads", &[38, 0, 1, 33, 1]),
         ("heads with sorts", &[38, 1, 1, 33, 1, 2]),
@@ -35,8 +36,12 @@ pub fn words() -> Vec<(String, Vec<u32>)> {
     }
     let arguments = [nest(&[38, 0, 1], most, &[33, 0]), [37, 1, 1].repeat(most)].concat();
     let heads = nest(&[38, 0, 2, 33, 1, 33, 0], most, &[38, 0, 0, 33, 1]);
-    let rows: [(&str, Vec<u32>); 12] = [
+    let bindings = |n| [nest(&[52, 7, 9], n, &[33, 0]), [36, 7, 9].repeat(n)].concat();
+    let rows: [(&str, Vec<u32>); 15] = [
         ("the deepest of arguments", arguments),
+        ("the deepest of lets' bindings", bindings(most)),
+        ("one too deep of lets' bindings", bindings(most + 1)),
+        ("lets as heads", nest(&[38, 0, 1, 33, 1, 38, 0, 1, 33, 0, 52, 7, 9, 33, 1], most / 3, &[37, 1, 1])),
         ("one too deep behind heads", heads),
         ("BitVec", sorted(&nest(&[5], long, &[1]))),
         ("Func, inputs", sorted(&[vec![8; long], vec![1; long + 1]].concat())),

@@ -4,13 +4,15 @@ use crate::paper::MAX_NODES;
 use crate::random::Random;
 
 /// What a word of any value is taken from, beside random ones.
-const WORDS: &[u32] = &[0, 1, 2, 3, 32, 38, 51, 64, 0x7fff_ffff, 0x8000_0000, 0xffff_ffff];
+const WORDS: &[u32] = &[0, 1, 2, 3, 32, 38, 51, 52, 64, 0x7fff_ffff, 0x8000_0000, 0xffff_ffff];
 
 pub struct Grower<'r> {
     r: &'r mut Random,
     pub words: Vec<u32>,
     /// How many more nodes may have children; then come leaves only.
     room: usize,
+    /// Whether there is no let of a number, by intent, so that the source has an answer to the words.
+    plain: bool,
 }
 
 /// A value where any will do.
@@ -24,8 +26,8 @@ pub fn any_word(r: &mut Random) -> u32 {
 
 impl<'r> Grower<'r> {
     pub fn new(r: &'r mut Random) -> Self {
-        let room = 1 + r.below(40);
-        Grower { r, words: Vec::new(), room }
+        let (room, plain) = (1 + r.below(40), r.one_in(2));
+        Grower { r, words: Vec::new(), room, plain }
     }
 
     fn put(&mut self, words: &[u32]) {
@@ -93,7 +95,8 @@ impl<'r> Grower<'r> {
         if self.r.one_in(2) {
             return self.applications(depth - 1);
         }
-        let kind = self.r.pick(&[39, 40, 41, 42, 43, 44, 45, 46, 47, 48, 50, 51]);
+        let kinds = [39, 40, 41, 42, 43, 44, 45, 46, 47, 48, 50, 51, 52];
+        let kind = self.r.pick(&kinds[..kinds.len() - usize::from(self.plain)]);
         self.put(&[kind]);
         let children = match kind {
             40 => {
@@ -111,7 +114,7 @@ impl<'r> Grower<'r> {
                 n
             }
             45 | 46 => 2,
-            48 => {
+            48 | 52 => {
                 self.any(2);
                 2
             }
@@ -156,7 +159,7 @@ impl<'r> Grower<'r> {
 
     /// Puts a node round what comes next; the words to put behind that.
     fn link(&mut self) -> Vec<u32> {
-        match self.r.below(12) {
+        match self.r.below(14) {
             0 => self.put(&[39]),
             1 => self.put(&[44]),
             2 => self.put(&[50, 7, 7]),
@@ -178,6 +181,16 @@ impl<'r> Grower<'r> {
                 self.put(&[38, 0, 1]);
                 return vec![37, 9, 9];
             }
+            9 if !self.plain => {
+                self.put(&[52]);
+                self.any(2);
+                return vec![36, 1, 0];
+            }
+            10 if !self.plain => {
+                self.put(&[52]);
+                self.any(2);
+                self.leaf();
+            }
             _ => self.application(0),
         }
         Vec::new()
@@ -192,11 +205,12 @@ pub fn chain(r: &mut Random) -> Vec<u32> {
     match g.r.below(12) {
         0 => {}
         1 => g.put(&[31]),
-        2 => g.put(&[52]),
-        3 => g.put(&[33, 2]),
-        4 => g.put(&[32, 0]),
-        5 => g.put(&[42, 0]),
-        6 => g.put(&[42, u32::MAX, 33, 0]),
+        2 => g.put(&[53]),
+        3 => g.put(&[52, 1]),
+        4 => g.put(&[33, 2]),
+        5 => g.put(&[32, 0]),
+        6 => g.put(&[42, 0]),
+        7 => g.put(&[42, u32::MAX, 33, 0]),
         _ => g.leaf(),
     }
     behind.into_iter().rev().for_each(|b| g.put(&b));
@@ -208,7 +222,7 @@ pub fn any(r: &mut Random) -> Vec<u32> {
     let most = if r.one_in(4) { 40 } else { 10 };
     let n = r.below(most);
     let word = |r: &mut Random| match r.below(8) {
-        0..=3 => 32 + r.below(20) as u32,
+        0..=3 => 32 + r.below(21) as u32,
         4 | 5 => r.below(11) as u32,
         6 => any_word(r),
         _ => r.below(66) as u32,

@@ -5,7 +5,7 @@ mod damage;
 mod extreme;
 mod grower;
 
-use crate::call::{Answer, Call, Operation, Refusal};
+use crate::call::{Answer, Call, Operation, Refusal, EXCEPTED};
 use crate::check;
 use crate::lengths;
 use crate::paper;
@@ -20,16 +20,20 @@ use grower::Grower;
 /// Words that begin, fill and end expressions, for lists of all their orders.
 const ALPHABET: [u32; 11] = [0, 1, 2, 5, 8, 10, 33, 38, 39, 42, 51];
 
-/// The answer to words, and an output of so many.
+/// The answer to words, and an output of so many; `EXCEPTED` if there is none.
 pub type Model = fn(&[u32], usize) -> Result<Answer, Refusal>;
 
 /// Makes calls on words, and counts them.
 pub type Held<'a> = &'a dyn Fn(&[u32], &mut Random, &mut Tally) -> Result<(), String>;
 
-/// Holds flattening against a model, on all lists of up to so many words and in so many random calls, and prints how they ended.
-pub fn run(name: &str, model: Model, small: usize, random: u64, r: &mut Random) -> Result<Tally, String> {
+/// Holds flattening against a model, on all lists of up to so many words, those behind each of these starts, where the start counts as one, and
+/// in so many random calls, and prints how they ended.
+pub fn run(name: &str, model: Model, starts: &[&[u32]], small: usize, random: u64, r: &mut Random) -> Result<Tally, String> {
     let mut all = Tally::default();
-    (0..=small).try_for_each(|len| every(model, &mut Vec::new(), len, r, &mut all))?;
+    for start in starts {
+        let most = small - usize::from(!start.is_empty());
+        (0..=most).try_for_each(|len| every(model, &mut start.to_vec(), len, r, &mut all))?;
+    }
     println!("compare: {name}, Flatten, all lists of up to {small} words: {all}");
     Ok(all + run_held(name, &|words, r, tally| words_held(model, words, r, tally), random, r)?)
 }
@@ -81,8 +85,20 @@ pub fn outputs(model: Model, words: &[u32], r: &mut Random, mut each: impl FnMut
 }
 
 /// Words held against a model.
-pub fn words_held(model: Model, words: &[u32], r: &mut Random, tally: &mut Tally) -> Result<(), String> {
+fn words_held(model: Model, words: &[u32], r: &mut Random, tally: &mut Tally) -> Result<(), String> {
+    if model(words, usize::MAX) == Err(EXCEPTED) {
+        tally.except();
+        return Ok(());
+    }
     outputs(model, words, r, |out| held(model, words, out, tally))
+}
+
+/// The deepest and longest words, and those just past the limits, each at least once; prints how they ended.
+pub fn extremes_held(name: &str, model: Model, r: &mut Random) -> Result<Tally, String> {
+    let mut all = Tally::default();
+    extremes().iter().try_for_each(|(_, words)| words_held(model, words, r, &mut all))?;
+    println!("compare: {name}, Flatten, the deepest and longest words: {all}");
+    Ok(all)
 }
 
 fn words(r: &mut Random) -> Vec<u32> {

@@ -28,8 +28,8 @@ pub enum Expr<'t> {
     Imp(Vec<Expr<'t>>),
     Iff(Vec<Expr<'t>>),
     Atom(u32, Vec<Expr<'t>>),
-    /// Binding, then body.
-    Let(Name<'t>, Vec<Expr<'t>>),
+    /// Its number; binding, then body.
+    Let(u128, Vec<Expr<'t>>),
     ThyFunc(u32),
     IsCtor(Name<'t>, Box<Expr<'t>>),
     Exists(Vec<Binder<'t>>, Box<Expr<'t>>),
@@ -200,7 +200,7 @@ impl<'t> Parser<'t> {
         Ok(Expr::Exists(numbers.zip(sorts).collect(), Box::new(body)))
     }
 
-    /// It opens no scope: its name is a span always.
+    /// The binding is read outside, and first; then the name takes its number, and the body is read with it.
     fn let_in(&mut self, items: &[Tree<'t>]) -> Read<Expr<'t>> {
         let Tree::List(pair) = seen_through(item(items, 1)?) else {
             return Err(MALFORMED);
@@ -209,8 +209,10 @@ impl<'t> Parser<'t> {
             return Err(MALFORMED);
         };
         let binding = self.nested(item(pair, 1)?)?;
+        let number = self.open(&[*name]).start;
         let body = self.nested(item(items, 2)?)?;
-        Ok(Expr::Let(*name, vec![binding, body]))
+        self.close(1)?;
+        Ok(Expr::Let(number, vec![binding, body]))
     }
 }
 

@@ -46,14 +46,14 @@ impl<'w> Judge<'w> {
         Ok(())
     }
 
-    fn word(&mut self) -> Result<u32, Refusal> {
+    pub fn word(&mut self) -> Result<u32, Refusal> {
         let word = *self.words.get(self.at).ok_or(NO_WORDS)?;
         self.at += 1;
         Ok(word)
     }
 
     /// So many words of any value.
-    fn skip(&mut self, n: usize) -> Result<(), Refusal> {
+    pub fn skip(&mut self, n: usize) -> Result<(), Refusal> {
         (0..n).try_for_each(|_| self.word().map(|_| ()))
     }
 
@@ -70,7 +70,7 @@ impl<'w> Judge<'w> {
     }
 
     /// One sort, however deep: so many more are wanted.
-    fn sort(&mut self) -> Result<&'w [u32], Refusal> {
+    pub fn sort(&mut self) -> Result<&'w [u32], Refusal> {
         let first = self.at;
         let mut wanted = 1u64;
         while wanted > 0 {
@@ -110,7 +110,7 @@ impl<'w> Judge<'w> {
     /// An expression inside so many others.
     pub fn expr(&mut self, inside: usize) -> Result<Node<'w>, Refusal> {
         let first = self.at;
-        let kind = Some(self.word()?).filter(|k| (32..=51).contains(k)).ok_or(NO_WORDS)?;
+        let kind = Some(self.word()?).filter(|k| (32..=52).contains(k)).ok_or(NO_WORDS)?;
         if inside >= MAX_NODES {
             return Err(TOO_DEEP);
         }
@@ -139,6 +139,7 @@ impl<'w> Judge<'w> {
             49 => self.below(42).map(|_| 0),
             50 => self.span().map(|()| 1),
             51 => self.binders().map(|_| 1),
+            52 => self.skip(2).map(|()| 2),
             // 39 and 44.
             _ => Ok(1),
         }

@@ -136,11 +136,7 @@ impl Writer<'_> {
             [45] => headed("=>"),
             [46] => headed("="),
             [47, relation] => headed(["=", "distinct", ">", ">=", "<", "<="][relation as usize]),
-            [48, start, bytes] => {
-                let name = self.name(start, bytes)?;
-                let [binding, body] = &self.terms(children)?[..] else { unreachable!("a binding and a body") };
-                Ok(format!("(let (({name} {binding})) {body})"))
-            }
+            [48, start, bytes] => self.let_in(&self.name(start, bytes)?, children),
             [50, start, bytes] => {
                 let name = self.name(start, bytes)?;
                 headed(&format!("(_ is {name})"))
@@ -150,6 +146,7 @@ impl Writer<'_> {
                 let variables = self.variables(binders)?;
                 headed(&format!("exists {variables}"))
             }
+            [52, low, high] => self.let_in(&fresh(low, high), children),
             // 49: a theory function that is no head.
             _ => Err(UNWRITABLE),
         }
@@ -157,6 +154,12 @@ impl Writer<'_> {
 
     fn terms(&self, nodes: &[Node]) -> Result<Vec<String>, Refusal> {
         nodes.iter().map(|node| self.term(node)).collect()
+    }
+
+    /// A let of a name or a number, with its binding and its body.
+    fn let_in(&self, variable: &str, nodes: &[Node]) -> Written {
+        let [binding, body] = &self.terms(nodes)?[..] else { unreachable!("a binding and a body") };
+        Ok(format!("(let (({variable} {binding})) {body})"))
     }
 
     /// None is the neutral one, and one stands alone.

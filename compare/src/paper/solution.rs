@@ -53,7 +53,7 @@ pub fn uncurry(e: Expr<'_>) -> Expr<'_> {
         Expr::Imp(es) => Expr::Imp(all(es)),
         Expr::Iff(es) => Expr::Iff(all(es)),
         Expr::Atom(relation, es) => Expr::Atom(relation, all(es)),
-        Expr::Let(name, es) => Expr::Let(name, all(es)),
+        Expr::Let(number, es) => Expr::Let(number, all(es)),
         Expr::IsCtor(name, e) => Expr::IsCtor(name, one(e)),
         Expr::Exists(binders, e) => Expr::Exists(binders, one(e)),
         leaf @ (Expr::Numeral(_) | Expr::Boolean(_) | Expr::String(_) | Expr::BitVec(..) | Expr::Fresh(_) | Expr::Var(_) | Expr::ThyFunc(_)) => leaf,

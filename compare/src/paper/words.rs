@@ -137,8 +137,9 @@ impl Words {
             Expr::Imp(es) => self.node(&[45], es),
             Expr::Iff(es) => self.node(&[46], es),
             Expr::Atom(relation, es) => self.node(&[47, *relation], es),
-            Expr::Let(name, es) => {
-                self.named(48, name);
+            Expr::Let(number, es) => {
+                self.put(&[52]);
+                self.number(*number, Fresh::Binds);
                 self.node(&[], es);
             }
             Expr::ThyFunc(function) => self.put(&[49, *function]),

@@ -43,20 +43,24 @@ const NESTED_LINKS: &[Link] = &[
     ("(if x y ", ")", 1, 0),
     ("(let (x ", ") x)", 2, 0),
     ("(let (x 1) ", ")", 1, 1),
+    ("(let (y x) ", ")", 1, 1),
+    ("(let (((x x))) ", ")", 1, 3),
     ("(exists () ", ")", 1, 1),
     ("(exists ((x Int)) ", ")", 1, 2),
     ("(exists ((x Int) (y Bool)) ", ")", 1, 2),
     ("((not f) ", " x)", 1, 1),
     ("((as apply Int) ", ")", 1, 1),
+    ("((let (x f) x) ", " x)", 1, 2),
 ];
 
 const PLAIN_LINKS: &[Link] = &[("(cast ", ")", 1, 0), ("(cast_as_int ", ")", 1, 0), ("(is$Cons ", ")", 1, 0)];
 const HEAD_LINKS: &[Link] = &[("(", ")", 1, 0), ("(", " x)", 1, 0), ("(", " x 1)", 1, 0)];
 
 impl Grower<'_> {
-    /// One that leaves enough lists for its own items.
+    /// One that leaves enough lists for its own items, and is no let in a plain text.
     fn link(&mut self, links: &[Link], lists: usize) -> Link {
-        let fitting: Vec<Link> = links.iter().copied().filter(|(_, _, opens, own)| opens + own <= lists).collect();
+        let fits = |(before, _, opens, own): &Link| opens + own <= lists && !(self.plain && before.contains("(let "));
+        let fitting: Vec<Link> = links.iter().copied().filter(fits).collect();
         self.r.pick(&fitting)
     }
 

@@ -41,7 +41,16 @@ impl Grower<'_> {
             3 => self.pick(STRINGS),
             4 => self.pick(&["true", "false"]),
             5 => self.theory_name(),
+            6..=9 => self.used_name(),
             _ => self.name(),
+        }
+    }
+
+    /// A name that is bound here, or any.
+    fn used_name(&mut self) {
+        match self.bound_name() {
+            Some(name) => self.put(&name),
+            None => self.name(),
         }
     }
 
@@ -71,7 +80,7 @@ impl Grower<'_> {
 
     /// A list of at least `least` items behind its head.
     pub fn list_form(&mut self, depth: usize, least: usize) {
-        match self.r.below(26) {
+        match self.r.below(27) {
             0..=6 => {
                 let (head, n) = self.r.pick(FORMS);
                 self.form(head, n, depth);
@@ -83,11 +92,11 @@ impl Grower<'_> {
                 self.close();
             }
             10 => self.unseen(depth),
-            11..=13 => self.let_in(depth),
-            14..=17 => self.exists(depth),
-            18 | 24 | 25 => self.lit(),
-            19 | 20 => self.apply(depth),
-            21 => self.curried(depth),
+            11..=13 if !self.plain => self.let_in(depth),
+            24..=26 if !self.plain => self.lit(),
+            11..=16 => self.exists(depth),
+            17..=19 => self.apply(depth),
+            20 => self.curried(depth),
             _ => self.application(depth),
         }
     }
@@ -134,11 +143,16 @@ impl Grower<'_> {
         self.gap();
         let lists = 1 + if self.r.one_in(6) { 1 + self.r.below(2) } else { 0 };
         (0..lists).for_each(|_| self.put("("));
+        let start = self.text.len();
         if self.fault() {
             self.wrong();
+        } else if self.r.one_in(3) {
+            // A name again.
+            self.used_name();
         } else {
             self.name();
         }
+        let name = self.text[start..].to_string();
         if !self.fault() {
             self.gap();
             self.nested(depth);
@@ -147,7 +161,7 @@ impl Grower<'_> {
         (0..lists).for_each(|_| self.put(")"));
         if !self.fault() {
             self.gap();
-            self.nested(depth);
+            self.within(vec![name], |g| g.nested(depth));
             self.surplus();
         }
         self.close();
@@ -157,11 +171,11 @@ impl Grower<'_> {
         self.open("exists");
         self.gap();
         self.put("(");
-        self.binders();
+        let names = self.binders();
         self.put(")");
         if !self.fault() {
             self.gap();
-            self.nested(depth);
+            self.within(names, |g| g.nested(depth));
         }
         if self.fault() {
             self.put(" x");
@@ -169,8 +183,8 @@ impl Grower<'_> {
         self.close();
     }
 
-    /// Some binders; no name is repeated in a good text.
-    pub fn binders(&mut self) {
+    /// Some binders; no name is repeated in a good text. The names that they bind.
+    pub fn binders(&mut self) -> Vec<String> {
         let mut names: Vec<String> = Vec::new();
         for _ in 0..self.some(0) {
             let start = self.text.len();
@@ -193,6 +207,7 @@ impl Grower<'_> {
                 self.pick(BAD_BINDERS);
             }
         }
+        names
     }
 
     fn apply(&mut self, depth: usize) {

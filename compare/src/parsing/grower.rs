@@ -9,12 +9,31 @@ pub struct Grower<'r> {
     room: usize,
     /// At one in so many places something is wrong; at none if there is no number.
     faults: Option<usize>,
+    /// Whether there is no literal and no let, by intent, so that the source has an answer to the text.
+    pub plain: bool,
+    /// The names that are bound where the text grows, innermost last.
+    bound: Vec<String>,
 }
 
 impl<'r> Grower<'r> {
     pub fn new(r: &'r mut Random, faults: Option<usize>) -> Self {
-        let room = 1 + r.below(30);
-        Grower { r, text: String::new(), room, faults }
+        let (room, plain) = (1 + r.below(30), r.one_in(3));
+        Grower { r, text: String::new(), room, faults, plain, bound: Vec::new() }
+    }
+
+    /// Grows where these names are bound besides.
+    pub fn within(&mut self, names: Vec<String>, grow: impl FnOnce(&mut Self)) {
+        let before = self.bound.len();
+        self.bound.extend(names);
+        grow(self);
+        self.bound.truncate(before);
+    }
+
+    /// A name that is bound here, if there is one; mostly the innermost.
+    pub fn bound_name(&mut self) -> Option<String> {
+        let last = self.bound.len().checked_sub(1)?;
+        let at = if self.r.one_in(2) { last } else { self.r.below(last + 1) };
+        Some(self.bound[at].clone())
     }
 
     /// Whether to do something wrong here.

@@ -120,7 +120,7 @@ pub fn text_held<M: Model>(op: Operation, text: &[u8], r: &mut Random, tally: &m
 }
 
 /// Every text that `texts` hands on.
-pub fn each(held: Held, op: Operation, r: &mut Random, texts: impl FnOnce(&mut dyn FnMut(&[u8]))) -> Result<Tally, String> {
+fn each(held: Held, op: Operation, r: &mut Random, texts: impl FnOnce(&mut dyn FnMut(&[u8]))) -> Result<Tally, String> {
     let mut tally = Tally::default();
     let mut result = Ok(());
     texts(&mut |text| {
@@ -129,6 +129,17 @@ pub fn each(held: Held, op: Operation, r: &mut Random, texts: impl FnOnce(&mut d
         }
     });
     result.map(|()| tally)
+}
+
+/// The deepest and longest texts, and those just past the limits, each at least once; prints how they ended.
+pub fn extremes_held<M: Model>(name: &str, r: &mut Random) -> Result<Tally, String> {
+    let texts = extreme::texts();
+    let mut all = Tally::default();
+    for (op, _) in OPERATIONS {
+        all = all + each(&text_held::<M>, op, r, |each| texts.iter().for_each(|(_, text)| each(text.as_bytes())))?;
+    }
+    println!("compare: {name}, the deepest and longest texts: {all}");
+    Ok(all)
 }
 
 /// At least `n` calls on random texts; what only reads is given those of all the others.

@@ -56,6 +56,8 @@ const EXPRESSION_FRAMES: &[Frame] = &[
     ("(exists (", ") x)"),
     ("(let ", " x)"),
     ("(let (x 1) ", ")"),
+    ("(let (x ", ") x)"),
+    ("(exists ((x Int)) (let (x x) ", "))"),
     ("((as apply ", ") f)"),
     ("((as apply Int) ", ")"),
     ("(lit \"#b11\" ", ")"),
@@ -71,13 +73,13 @@ const EXPRESSION_FRAMES: &[Frame] = &[
 
 const BIND_FRAMES: &[Frame] = &[
     ("", ""), ("((nan Int) ", ")"), ("((nan ", ") ($k nan))"), ("(", " ($k nan))"), ("((nan Int) (and ($k nan) ", "))"), ("((nan Int) (", "))"),
-    ("((nan Int) (exists ((nan Int)) ", "))"), ("((nan Int) (exists ((y Int) (y Int)) ", "))"),
+    ("((nan Int) (exists ((nan Int)) ", "))"), ("((nan Int) (exists ((y Int) (y Int)) ", "))"), ("((nan Int) (let (nan nan) ", "))"),
 ];
 
 const SOLUTION_FRAMES: &[Frame] = &[
     ("", ""), ("(lambda () ", ")"), ("(lambda ((x Int)) ", ")"), ("(lambda ((x Int) (x Int)) ", ")"), ("(lambda ", " x)"), ("(lambda (", ") x)"),
     ("(lambda ((x ", ")) x)"), ("(", " () x)"), ("(lambda () (", " a))"), ("(lambda () (", " ((as apply Int) f)))"),
-    ("(lambda () (((as apply Int) ", ") a))"), ("(lambda ((x Int)) (((not f) x) ", "))"),
+    ("(lambda () (((as apply Int) ", ") a))"), ("(lambda ((x Int)) (((not f) x) ", "))"), ("(lambda ((x Int)) (let (x x) ", "))"), ("(lambda ((x Int)) (let ", " x))"),
 ];
 
 const PIECES: &[&str] = &["(", ")", "Int ", "func ", "and ", "1 ", "\"", "@"];

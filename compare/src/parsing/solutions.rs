@@ -13,14 +13,10 @@ impl Grower<'_> {
         self.pick(&["lambda", "lambda", "lambda", "λ", "nan", "1.5", "()", "5", "\"\"", "(f x)"]);
         self.gap();
         self.put("(");
-        self.binders();
+        let names = self.binders();
         self.put(")");
         self.gap();
-        if self.r.one_in(3) {
-            self.curried(depth);
-        } else {
-            self.root(depth);
-        }
+        self.within(names, |g| if g.r.one_in(3) { g.curried(depth) } else { g.root(depth) });
         self.close();
     }
 

@@ -28,7 +28,7 @@ fn sorted(sort: &[u32]) -> Vec<u32> {
 }
 
 /// What stands round a node: its words before that node, and those behind it.
-const LINKS: [(&str, &[u32], &[u32]); 17] = [
+const LINKS: [(&str, &[u32], &[u32]); 19] = [
     ("Neg", &[39], &[]),
     ("Not", &[44], &[]),
     ("If", &[41, 33, 0, 33, 1], &[]),
@@ -38,6 +38,8 @@ const LINKS: [(&str, &[u32], &[u32]); 17] = [
     ("Or, first operands", &[43, 2], &[33, 1]),
     ("Let, bindings", &[48, 0, 1], &[33, 0]),
     ("Let, bodies", &[48, 0, 1, 33, 0], &[]),
+    ("Let of a number, bindings", &[52, 7, 9], &[36, 7, 9]),
+    ("Let of a number, bodies", &[52, u32::MAX, u32::MAX, 33, 0], &[]),
     ("constructor tests", &[50, 0, 1], &[]),
     ("Exists", &[51, 1, 7, 0, 1], &[]),
     ("Exists of none", &[51, 0], &[]),
@@ -76,7 +78,7 @@ pub fn solutions() -> Vec<Extreme> {
     }
     let name = NAME.repeat(long);
     let count = long as u32;
-    let rows: [(&str, Vec<u32>); 13] = [
+    let rows: [(&str, Vec<u32>); 14] = [
         ("parameters", [vec![count], [9, 0, 1].repeat(long), TRUE.to_vec()].concat()),
         ("variables of an exists", body(&[vec![51, count], [9, 9, 1].repeat(long), TRUE.to_vec()].concat())),
         ("operands", body(&[&[42, count][..], &name].concat())),
@@ -88,6 +90,10 @@ pub fn solutions() -> Vec<Extreme> {
         ("arguments beside each of the deepest", body(&nest(&[&[38, 0, 101][..], &NAME.repeat(100)].concat(), most, &TRUE, &NAME))),
         ("arguments behind each of the deepest", body(&nest(&[38, 0, 101], most, &TRUE, &[&NAME.repeat(100)[..], &NAME].concat()))),
         ("sorts in a sort", sorted(&[vec![10, 2, 0, 1, count], vec![1; long]].concat())),
+        ("lets of the largest number", {
+            let most = [52, u32::MAX, u32::MAX, 36, u32::MAX, u32::MAX, 36, u32::MAX, u32::MAX];
+            body(&[vec![42, 5_000], most.repeat(5_000)].concat())
+        }),
         ("long names", body(&[vec![42, 2_000], [37, 0, 299].repeat(2_000)].concat())),
         ("long strings", body(&[vec![42, 2_000], [34, 0, 299].repeat(2_000)].concat())),
         ("long numerals", body(&[vec![42, 5_000], [32, u32::MAX, u32::MAX, u32::MAX, u32::MAX].repeat(5_000)].concat())),

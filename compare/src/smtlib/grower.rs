@@ -11,7 +11,7 @@ const ODD: &[u8] = &[0, 9, 10, 31, b'"', b'\\', b'|', 127, 128, 0xc3, 255];
 const WIDTHS: &[u32] = &[1, 2, 3, 8, 31, 32, 33, 63, 64, 65, 96, 127, 128, 129, 160, 1 << 31, u32::MAX];
 /// Leaves and nodes that may stand anywhere.
 const LEAVES: &[u32] = &[32, 33, 34, 35, 36, 37, 37];
-const NODES: &[u32] = &[38, 38, 38, 39, 40, 41, 42, 42, 43, 43, 44, 45, 46, 47, 47, 48, 50, 51, 51];
+const NODES: &[u32] = &[38, 38, 38, 39, 40, 41, 42, 42, 43, 43, 44, 45, 46, 47, 47, 48, 50, 51, 51, 52, 52];
 
 /// Words, and the text that is lent with them.
 pub type Lent = (Vec<u32>, Vec<u8>);
@@ -33,7 +33,7 @@ pub fn chain(faults: Option<usize>, r: &mut Random) -> Lent {
     match g.r.below(16) {
         0 => {}
         1 => g.put(&[31]),
-        2 => g.put(&[52]),
+        2 => g.put(&[53]),
         3 => g.put(&[33, 2]),
         4 => g.put(&[37, g.text.len() as u32, 1]),
         5 => g.put(&[49, 9]),
@@ -275,6 +275,7 @@ impl<'r> Grower<'r> {
             47 => self.field(6),
             48 | 50 => self.span(),
             51 => self.binders(),
+            52 => self.number(),
             _ => {}
         }
         match kind {
@@ -284,7 +285,7 @@ impl<'r> Grower<'r> {
                 self.put(&[n as u32]);
                 self.exprs(n, depth);
             }
-            40 | 45..=48 => self.exprs(2, depth),
+            40 | 45..=48 | 52 => self.exprs(2, depth),
             _ => self.expr(depth),
         }
     }
@@ -310,7 +311,7 @@ impl<'r> Grower<'r> {
 
     /// Puts a node round what comes next; the words to put behind that.
     fn link(&mut self) -> Vec<u32> {
-        match self.r.below(13) {
+        match self.r.below(15) {
             0 => self.put(&[39]),
             1 => self.put(&[44]),
             2 => self.put(&[42, 1]),
@@ -341,6 +342,16 @@ impl<'r> Grower<'r> {
             11 => {
                 self.put(&[38, 0, 1]);
                 return vec![37, 0, 0];
+            }
+            12 => {
+                self.put(&[52]);
+                self.number();
+                self.leaf();
+            }
+            13 => {
+                self.put(&[52]);
+                self.number();
+                return vec![36, 1, 0];
             }
             _ => {
                 self.put(&[38, 0, 2, 33, 1]);

@@ -21,7 +21,7 @@ use grower::Lent;
 /// Nodes of which bodies are made, each without the nodes inside it, and a word that is none.
 const BODIES: &[&[u32]] = &[
     &[33, 1], &[37, 0, 1], &[34, 1, 1], &[37, 1, 2], &[49, 27], &[49, 0], &[35, 2, 0, 0, 0, 1], &[38, 0, 0], &[38, 0, 1], &[38, 1, 1], &[38, 0, 2],
-    &[42, 0], &[42, 1], &[43, 2], &[44], &[48, 0, 1], &[51, 0], &[51, 1, 7, 0, 1], &[2],
+    &[42, 0], &[42, 1], &[43, 2], &[44], &[48, 0, 1], &[51, 0], &[51, 1, 7, 0, 1], &[52, 7, 0], &[2],
 ];
 /// The same of sorts.
 const SORTS: &[&[u32]] = &[
@@ -41,9 +41,9 @@ pub fn recorded(path: &str) -> Result<usize, String> {
         let paper = paper::smtlib(&case.words, &case.text, case.out);
         if paper != case.answer {
             let call = check::shown_solution(&case.words, &case.text, case.out);
-            return Err(format!("line {}, {call}: the paper says {paper:?}, and not {:?}", case.line, case.answer));
+            return Err(format!("{path}, line {}, {call}: the paper says {paper:?}, and not {:?}", case.line, case.answer));
         }
-        check::smtlib(&case.words, &case.text, case.out, &case.answer).map_err(|e| format!("line {}, {e}", case.line))?;
+        check::smtlib(&case.words, &case.text, case.out, &case.answer).map_err(|e| format!("{path}, line {}, {e}", case.line))?;
     }
     Ok(cases.len())
 }

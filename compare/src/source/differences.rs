@@ -4,7 +4,7 @@
 //! `sexp.rs`. Row 15 (-2^127) needs nothing: the source is built so that it wraps.
 
 use super::reader;
-use crate::call::{Operation, Refusal};
+use crate::call::{Operation, Refusal, EXCEPTED};
 use upstream::parser::ParseError;
 use upstream::sexp::{Atom, Sexp};
 
@@ -25,27 +25,33 @@ pub fn func_numbers(sexp: &mut Sexp) {
     items.iter_mut().for_each(func_numbers);
 }
 
-/// No refusal's number: what the source has read is a literal.
-const LITERAL: Refusal = u32::MAX;
+/// Stands for a let's head behind `is$`, so that the hooks are asked for it when the let is read. No name of a text begins with a quote.
+pub const LET: &str = "\"let";
 
-/// Rows 19 to 21: the texts that are excepted, in which the source reads a `lit` with a string that begins with `#b`, as an expression. It does
-/// if it panics at one whose digits are none, as it does at nothing else. Any other `lit` is refused with 8 by both.
+/// Rows 19 to 21 and 36: the texts that are excepted, in which the source reads, as an expression, a `lit` with a string that begins with `#b`, or
+/// a list that begins with `let`. It does if it panics at a `lit` whose digits are none, or asks the hooks for what stands for a let's head, as
+/// it does at nothing else; whatever such a list is besides, a sort or a binder, it is with that head, too. Any other `lit`, and `(let)`, is
+/// refused with 8 by both.
 pub fn excepted(op: Operation, text: &[u8], sexp: &Sexp) -> bool {
     let mut marked = sexp.clone();
-    without_digits(&mut marked) && matches!(reader::parse(op, text, &mut reader::open(0), &marked), Err(LITERAL))
+    mark_excepted(&mut marked) && matches!(reader::parse(op, text, &mut reader::open(0), &marked), Err(EXCEPTED))
 }
 
-/// Takes the digits from every literal; whether there is one.
-fn without_digits(sexp: &mut Sexp) -> bool {
+/// Takes the digits from every literal, and gives every let another head; whether there is one of either.
+fn mark_excepted(sexp: &mut Sexp) -> bool {
     let Sexp::List(items) = sexp else { return false };
-    let mut found = false;
-    if let [Sexp::Atom(Atom::S(head)), Sexp::Atom(Atom::Q(digits)), ..] = &mut items[..] {
-        if head == "lit" && digits.starts_with("#b") {
+    let found = match &mut items[..] {
+        [Sexp::Atom(Atom::S(head)), Sexp::Atom(Atom::Q(digits)), ..] if head == "lit" && digits.starts_with("#b") => {
             *digits = "#b, and no digits".to_string();
-            found = true;
+            true
         }
-    }
-    items.iter_mut().fold(found, |found, item| without_digits(item) || found)
+        [Sexp::Atom(Atom::S(head)), _, ..] if head == "let" => {
+            *head = format!("is${LET}");
+            true
+        }
+        _ => false,
+    };
+    items.iter_mut().fold(found, |found, item| mark_excepted(item) || found)
 }
 
 /// Row 18: one number for all messages.
@@ -68,7 +74,9 @@ pub fn panic(message: &str) -> Option<Refusal> {
         // Rows 23 and 24: a name that is gone from its scope.
         ("called `Option::unwrap()` on a `None` value", 10),
         // Rows 19 to 21: what stands for a literal's digits.
-        ("Invalid binary string: ", LITERAL),
+        ("Invalid binary string: ", EXCEPTED),
+        // Row 36.
+        (LET, EXCEPTED),
     ];
     if message == format!("Unknown sort encountered {:?}", mark()) {
         return Some(12);

@@ -1,11 +1,12 @@
 //! Flattening: the source's `Expr` built from words, its `uncurry`, and words again.
 //!
-//! Rows 31 to 33: words are judged here, as the source takes an `Expr` that is whole. Row 34 takes more words than can be tried.
+//! Rows 31 to 33: words are judged here, as the source takes an `Expr` that is whole. Row 34 takes more words than can be tried. Row 36: words
+//! with a let of a number are excepted.
 
 use super::differences::fits;
 use super::terms::{Binder, ExprOf, SortOf, Var};
 use super::words::{Origin, Spans, Words};
-use crate::call::{Answer, Refusal};
+use crate::call::{Answer, Refusal, EXCEPTED};
 use crate::paper::MAX_NODES;
 use upstream::{BinOp, BinRel, Constant, Expr, Quantifier, Sort, SortCtor, ThyFunc};
 
@@ -94,6 +95,9 @@ impl Rest<'_> {
     /// An expression inside so many others.
     fn expr(&mut self, inside: usize) -> Read<ExprOf<Span>> {
         let kind = self.word()?;
+        if kind == 52 {
+            return Err(EXCEPTED);
+        }
         if !(32..=51).contains(&kind) {
             return Err(MALFORMED);
         }

@@ -12,8 +12,8 @@ mod terms;
 mod words;
 
 use crate::answers;
+use crate::call::EXCEPTED;
 use crate::check;
-use crate::extreme;
 use crate::flattening;
 use crate::model::Model;
 use crate::parsing::{self, Small};
@@ -37,27 +37,15 @@ fn roomy<R: Send>(all: impl FnOnce() -> Result<R, String> + Send) -> Result<R, S
 pub fn run(small: Small, words: usize, random: u64, r: &mut Random) -> Result<Tally, String> {
     roomy(|| {
         let parsed = parsing::run::<Source>("the source", small, random / 2, r)?;
-        let flattened = flattening::run("the source", flatten::flatten, words, random / 4, r)?;
+        let flattened = flattening::run("the source", flatten::flatten, &[&[]], words, random / 4, r)?;
         let sessions = sessions::run(random / 4, r)?;
-        Ok(parsed + flattened + sessions + extremes(r)?)
+        let extremes = parsing::extremes_held::<Source>("the source", r)? + flattening::extremes_held("the source", flatten::flatten, r)?;
+        Ok(parsed + flattened + sessions + extremes)
     })
 }
 
-/// The deepest and longest texts and words, and those just past the limits, each at least once.
-fn extremes(r: &mut Random) -> Result<Tally, String> {
-    let mut all = Tally::default();
-    let texts = extreme::texts();
-    for (op, _) in parsing::OPERATIONS {
-        all = all + parsing::each(&parsing::text_held::<Source>, op, r, |each| texts.iter().for_each(|(_, text)| each(text.as_bytes())))?;
-    }
-    for (_, words) in flattening::extremes() {
-        flattening::words_held(flatten::flatten, &words, r, &mut all)?;
-    }
-    println!("compare: the source, the deepest and longest texts and words: {all}");
-    Ok(all)
-}
-
-/// That the source gives the recorded answers today, but for texts that are excepted; how many it gives, and how many there are of these.
+/// That the source gives the recorded answers today, but for texts and words that are excepted; how many it gives, and how many there are of
+/// these.
 pub fn recorded(path: &str) -> Result<(usize, usize), String> {
     let file = std::fs::read_to_string(path).map_err(|e| format!("{path}: {e}"))?;
     let (cases, flattenings) = answers::read(&file);
@@ -77,10 +65,12 @@ pub fn recorded(path: &str) -> Result<(usize, usize), String> {
         }
         for f in &flattenings {
             let answer = flatten::flatten(&f.words, f.out);
-            if answer != f.answer {
+            if answer == Err(EXCEPTED) {
+                excepted += 1;
+            } else if answer != f.answer {
                 return Err(format!("line {}, {}: the source says {answer:?}, and not {:?}", f.line, check::shown_words(&f.words, f.out), f.answer));
             }
         }
-        Ok((cases.len() - excepted + flattenings.len(), excepted))
+        Ok((cases.len() + flattenings.len() - excepted, excepted))
     })
 }

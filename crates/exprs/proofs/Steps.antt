@@ -1,10 +1,12 @@
 -- The steps of the parser of expressions, as facts on lists.
-use Prim.Native.Nat.{ℕ, suc, _+_, _*_, _-_, _<_, _≤_, max}
+use Prim.Native.Nat.{ℕ, zero, suc, _+_, _*_, _-_, _<_, _≤_, max}
 use mathlib.Core.Path.{_≡_, refl, sym, ap, subst, _∙_}
 use mathlib.Core.Bool.{Bool, true, false}
-use mathlib.Core.List.{List, _++_, append-assoc}
+use mathlib.Core.List.{List, [], _∷_, _++_, append-assoc}
 use native.Mathlib.Omega.{arith}
-use native.Mathlib.Nat.{le-max-left, le-max-right}
+use native.Mathlib.Nat.{add-zero, le-max-left, le-max-right}
+use lib.Dec.{eqb}
+use borrow.Author.Tests.{ne-eqb}
 use lib.ListN.{length, drop, length-append}
 use lib.Seq.{drop-drop, drop-at}
 use Rattle.reading.specs.Limits.{maxLists}
@@ -13,11 +15,12 @@ use Rattle.reading.specs.Bytes.{Span}
 use Rattle.reading.specs.Tree.{Tree, Trees, trees, treeWords, treesWords, nesting, nestings}
 use Rattle.grammar.specs.Scope.{Scope, repeated}
 use Rattle.grammar.specs.ParseExpr.{child}
-use Rattle.grammar.specs.Written.{W, told, operandsW, endW, Last, noLast, seenLast, plainLast}
+use Rattle.grammar.specs.Written.{W, told, operandsW, endW, Last, noLast, seenLast, plainLast, boundLast}
 use Rattle.places.specs.Spot.{Spot, Seen}
 use Rattle.scopes.specs.Scopes.{Opened, Kept, pushed, deeper, inner}
 use Rattle.writing.specs.Laid.{laid}
-use Rattle.plans.specs.Plans.{Parsed, refused, Here, Row, Running, Planned, EndsAt, EndSpot, endSize, endNesting, factor, most}
+use Rattle.plans.specs.Late.{filled, taken, LateRoom}
+use Rattle.plans.specs.Plans.{Parsed, refused, Here, Row, Running, Planned, EndsAt, EndSpot, BoundPair, endSize, endNesting, factor, most}
 use Rattle.plans.specs.declared.progress.Progress.{Progress}
 use Rattle.plans.specs.declared.progress.Progress.the-variants.{Done, Refused}
 use Rattle.plans.specs.declared.plan.Plan.{Plan}
@@ -25,27 +28,80 @@ use Rattle.plans.specs.declared.plan.Plan.the-variants.{Stop, Leaf, Go}
 use Rattle.plans.specs.declared.plan.Run.{Run}
 use Rattle.scopes.proofs.Frame.{kept-then, kept-fewer, opened-kept, pushed-kept, pushed-length, pushed-opened, deeper-least, deeper-most}
 use Rattle.places.proofs.FirstTree.{More, some, none-left}
-use Rattle.plans.proofs.Laid.{out-after, out-no, out-room, out-wider, out-empty}
+use Rattle.plans.proofs.Laid.{out-after, out-no, out-room, out-wider, out-empty, out-filled, counts-done, counts-no}
 
 -- ---- one tree more
 
-pub record End (text : List ℕ) (ws : List ℕ) (at l : ℕ) (p : Bool) (m : Last) : Type 0 where
+-- What comes behind the operands, where it is a tree: the tree, the name that is bound in it, and what it is written as.
+pub record End (text : List ℕ) (ws : List ℕ) (at w : ℕ) (g : Run) (m : Last) : Type 0 where
   pub tree : Tree
-  pub place : EndSpot ws at l tree
-  pub is : (count : ℕ) (sc : List Scope) (names : List Span) (n : ℕ) → endW text count m sc names n ≡ told count (pick p (child text tree .plainly) (child text tree .nested) sc n)
-  pub size : endSize m ≡ length (treeWords tree)
+  pub place : EndSpot ws at (g .last) tree
+  pub names : List Span
+  pub is : (count : ℕ) (sc : List Scope) (others : List Span) (n : ℕ)
+      → endW text count m sc others n ≡ told count (pick (g .plain) (child text tree .plainly) (child text tree .nested) (inner (g .pair) names n sc) (n + taken (g .pair)))
+  pub opens : (es : List ℕ) (d n : ℕ) (sc : List Scope) → (0 < g .pair → 3 * d + 3 ≤ length es) → Opened ws es d sc → Opened ws (pushed es d (g .pair) 1 n) (deeper d (g .pair)) (inner (g .pair) names n sc)
+  pub size : endSize m ≡ length (treeWords tree) + taken (g .pair)
   pub deep : endNesting m ≡ nesting tree
+  pub free : 0 < g .pair → w + 3 ≤ g .words
+  pub alone : 0 < g .pair → g .names ≡ 0
 
-pub the-end : (text ws : List ℕ) (at l : ℕ) (p : Bool) (m : Last) → EndsAt ws at l p m → (l ≡ 0 → ⊥) → End text ws at l p m
-unfolding endW pick
-the-end text ws at l p noLast e n = absurd (n e)
-the-end text ws at l p (seenLast t) e n = rw (e .1) (record { tree = t; place = e .0; is = λ count sc names n. refl; size = refl; deep = refl })
-the-end text ws at l p (plainLast t) e n = rw (e .1) (record { tree = t; place = e .0; is = λ count sc names n. refl; size = refl; deep = refl })
+module _ (text ws : List ℕ) (at w : ℕ) (g : Run) where
+  -- No name is bound.
+  unbound-end : (t : Tree) (m : Last) → EndSpot ws at (g .last) t → g .pair ≡ 0
+      → ((count : ℕ) (sc : List Scope) (others : List Span) (n : ℕ) → endW text count m sc others n ≡ told count (pick (g .plain) (child text t .plainly) (child text t .nested) sc n))
+      → endSize m ≡ length (treeWords t) → endNesting m ≡ nesting t → End text ws at w g m
+  unfolding pushed deeper inner taken pick
+  unbound-end t m p z is size deep =
+      record {
+        tree = t;
+        place = p;
+        names = [];
+        is = λ count sc others n. rw (z, add-zero n) (is count sc others n);
+        opens = λ es d n sc l o. rw z o;
+        size = rw (z, add-zero (length (treeWords t))) size;
+        deep = deep;
+        free = λ l. absurd (omega arith);
+        alone = λ l. absurd (omega arith);
+      }
 
-pub no-end : (ws : List ℕ) (at l : ℕ) (p : Bool) (m : Last) → EndsAt ws at l p m → l ≡ 0 → m ≡ noLast
-no-end ws at l p noLast e n = refl
-no-end ws at l p (seenLast t) e n = absurd (omega (arith, e .0 .beyond))
-no-end ws at l p (plainLast t) e n = absurd (omega (arith, e .0 .beyond))
+  -- The name of a pair is bound.
+  bound-end : (s : Span) (t : Tree) → EndSpot ws at (g .last) t → g .plain ≡ false → BoundPair ws w g s → End text ws at w g (boundLast s t)
+  unfolding endW pick inner taken
+  bound-end s t p f b =
+      let ne : eqb (g .pair) 0 ≡ false = ne-eqb (g .pair) 0 (λ e. omega (arith, b .there)) in
+      record {
+        tree = t;
+        place = p;
+        names = s ∷ [];
+        is = λ count sc others n. rw (f, ne) refl;
+        opens = λ es d n sc l o. rw (sym (b .named)) (pushed-opened es d (g .pair) 1 n ws (b .place) sc o (l (b .there)));
+        size = rw ne refl;
+        deep = refl;
+        free = λ l. b .free;
+        alone = λ l. b .alone;
+      }
+
+  pub the-end : (m : Last) → EndsAt ws at w g m → (g .last ≡ 0 → ⊥) → End text ws at w g m
+  unfolding endW pick
+  the-end noLast e n = absurd (n (e .0))
+  the-end (seenLast t) e n = unbound-end t (seenLast t) (e .0) (e .2) (λ count sc others n. rw (e .1) refl) refl refl
+  the-end (plainLast t) e n = unbound-end t (plainLast t) (e .0) (e .2) (λ count sc others n. rw (e .1) refl) refl refl
+  the-end (boundLast s t) e n = bound-end s t (e .0) (e .1) (e .2)
+
+  pub no-end : (m : Last) → EndsAt ws at w g m → g .last ≡ 0 → (m ≡ noLast) × (g .pair ≡ 0)
+  no-end noLast e n = (refl, e .1)
+  no-end (seenLast t) e n = absurd (omega (arith, e .0 .beyond))
+  no-end (plainLast t) e n = absurd (omega (arith, e .0 .beyond))
+  no-end (boundLast s t) e n = absurd (omega (arith, e .0 .beyond))
+
+-- No number is laid where no name is bound.
+none-filled : (pair at k : ℕ) (o : List ℕ) → pair ≡ 0 → filled pair at k o ≡ o
+unfolding filled pick
+none-filled pair at k o z = rw z refl
+
+-- The entries below the depth, behind a scope that is opened and what is read in it.
+pub late-kept : {es es₁ es₂ : List ℕ} {d e : ℕ} (pair n : ℕ) → es₁ ≡ pushed es d pair 1 n → e ≡ deeper d pair → Kept es₁ es₂ e → Kept es es₂ d
+late-kept {es} {d = d} pair n is deep k = kept-then (rw is (pushed-kept es d pair 1 n)) (kept-fewer d (omega (arith, deep, deeper-least es d pair 1 n)) k)
 
 -- ---- one expression
 
@@ -98,50 +154,75 @@ module _ (text : List ℕ) (count : ℕ) (ws : List ℕ) (at : ℕ) (es : List �
 
     module _ {o₁ : List ℕ} {b₁ : ℕ} {r : Progress} (y : Parsed (operandsW text count (x .items) (g .want) (inner (g .names) (x .bind .names) next (h .scopes)) (next + g .fresh)) (g .words) o′ o₁ b₁ r) where
       pub run-refused : {e : ℕ} (o₂ : List ℕ) → r ≡ Refused e → Parsed (told count (child text (h .spot .tree) .plainly (h .scopes) next)) w o o₂ (most w next (h .spot .tree)) (Refused e)
-      run-refused {e} o₂ stop = x .goes o₂ (Refused e) (out-no _ (g .words) o′ o₂ _ y stop)
+      run-refused {e} o₂ stop = x .goes o₂ (Refused e) 0 (counts-no 0 y stop) (out-no _ (g .words) (filled (g .pair) (w + 1) (count + 0) o′) o₂ _ y stop)
 
       module _ {u m : ℕ} (done : r ≡ Done u m) (room : b₁ + factor * endSize (x .final) ≤ most w next (h .spot .tree)) where
-        pub last-end : (g .last ≡ 0 → ⊥) → End text ws at (g .last) (g .plain) (x .final)
-        last-end n = the-end text ws at (g .last) (g .plain) (x .final) (x .ends) n
+        pub last-end : (g .last ≡ 0 → ⊥) → End text ws at w g (x .final)
+        last-end n = the-end text ws at w g (x .final) (x .ends) n
 
-        module _ (e : End text ws at (g .last) (g .plain) (x .final)) where
+        module _ (e : End text ws at w g (x .final)) where
           abbrev pub last-spot : Spot ws (g .last)
           last-spot = record { tree = e .tree; rest = e .place .rest; words = e .place .words }
 
-          abbrev pub last-here : {q : ℕ} → (k : Seen text (g .plain) ws (g .last) last-spot q) {es₂ : List ℕ} → Kept es₁ es₂ d₁ → length es₂ ≡ length es₁ → Here text ws q es₂ d₁ u m
-          last-here k {es₂} kept size =
-              let f : endSize (x .final) ≡ length (treeWords (e .tree)) = e .size in
+          pub late-most : {d₃ : ℕ} → d₃ ≡ deeper d₁ (g .pair) → d₃ ≤ d + 1
+          unfolding deeper pick
+          late-most {d₃} deep₃ = go (g .pair) refl
+            where
+              go : (p : ℕ) → g .pair ≡ p → d₃ ≤ d + 1
+              go zero z =
+                  let y : d₃ ≡ d₁ = rw z at deep₃ in
+                  omega (arith, inside-most, y)
+              go (suc p) z =
+                  let y : d₁ ≡ d = rw (e .alone (omega arith)) at deep in
+                  omega (arith, y, deep₃, deeper-most es d₁ (g .pair) 1 m)
+
+          pub late-entry : (es₂ : List ℕ) → length es₂ ≡ length es₁ → 0 < g .pair → 3 * d₁ + 3 ≤ length es₂
+          unfolding deeper pick
+          late-entry es₂ size l =
+              let z : d₁ ≡ d = rw (e .alone l) at deep in
+              omega (arith, z, x .endShallow, h .long, inside-length, size)
+
+          pub late-room : (es₂ : List ℕ) → length es₂ ≡ length es₁ → LateRoom es₂ d₁ (g .pair) m (w + 1)
+          late-room es₂ size = record { entry = λ n. late-entry es₂ size (omega (arith, n)); number = omega (arith, room, h .room, out-room y done); place = omega (arith, h .room) }
+
+          abbrev pub last-here : {q : ℕ} → (k : Seen text (g .plain) ws (g .last) last-spot q) {es₂ es₃ : List ℕ} {d₃ n₃ : ℕ} → Kept es₁ es₂ d₁ → length es₂ ≡ length es₁
+              → es₃ ≡ pushed es₂ d₁ (g .pair) 1 m → d₃ ≡ deeper d₁ (g .pair) → n₃ ≡ m + taken (g .pair) → Here text ws q es₃ d₃ u n₃
+          last-here k {es₂} {es₃} {d₃} {n₃} kept size is₃ deep₃ next₃ =
+              let f : endSize (x .final) ≡ length (treeWords (e .tree)) + taken (g .pair) = e .size in
               let f′ : endNesting (x .final) ≡ nesting (e .tree) = e .deep in
               record {
                 spot = k .spot;
-                scopes = inner (g .names) (x .bind .names) next (h .scopes);
-                holds = opened-kept ws es₁ es₂ d₁ (inner (g .names) (x .bind .names) next (h .scopes)) kept inside;
-                long = omega (arith, h .long, inside-length, size);
-                shallow = omega (arith, x .endShallow, inside-most, f′, k .shallow);
-                room = omega (arith, room, h .room, out-room y done, f, k .short);
+                scopes = inner (g .pair) (e .names) m (inner (g .names) (x .bind .names) next (h .scopes));
+                holds = rw (is₃, deep₃) (e .opens es₂ d₁ m (inner (g .names) (x .bind .names) next (h .scopes)) (late-entry es₂ size) (opened-kept ws es₁ es₂ d₁ (inner (g .names) (x .bind .names) next (h .scopes)) kept inside));
+                long = omega (arith, h .long, inside-length, size, ap length is₃, pushed-length es₂ d₁ (g .pair) 1 m);
+                shallow = omega (arith, x .endShallow, late-most deep₃, f′, k .shallow);
+                room = omega (arith, room, h .room, out-room y done, f, k .short, next₃);
                 bytes = h .bytes;
               }
 
-          pub last-done : {q : ℕ} (k : Seen text (g .plain) ws (g .last) last-spot q) {o₂ : List ℕ} {a : Progress}
-              → Parsed (told count (child text (k .spot .tree) .plainly (inner (g .names) (x .bind .names) next (h .scopes)) m)) u o₁ o₂ (most u m (k .spot .tree)) a
-              → Parsed (told count (child text (h .spot .tree) .plainly (h .scopes) next)) w o o₂ (most w next (h .spot .tree)) a
-          unfolding endW pick
-          last-done k {o₂} {a} z =
-              let f : endSize (x .final) ≡ length (treeWords (e .tree)) = e .size in
-              x .goes o₂ a (out-after _ y done (rw (e .is count (inner (g .names) (x .bind .names) next (h .scopes)) (x .bind .names) m, k .same) (out-wider (omega (arith, room, out-room y done, f, k .short)) z)))
+          pub last-done : {q : ℕ} (k : Seen text (g .plain) ws (g .last) last-spot q) {o₂ o₃ : List ℕ} {n₃ : ℕ} {a : Progress} → o₂ ≡ filled (g .pair) (w + 1) (count + m) o₁ → n₃ ≡ m + taken (g .pair)
+              → Parsed (told count (child text (k .spot .tree) .plainly (inner (g .pair) (e .names) m (inner (g .names) (x .bind .names) next (h .scopes))) n₃)) u o₂ o₃ (most u n₃ (k .spot .tree)) a
+              → Parsed (told count (child text (h .spot .tree) .plainly (h .scopes) next)) w o o₃ (most w next (h .spot .tree)) a
+          last-done k {o₂} {o₃} {n₃} {a} is₂ next₃ z =
+              let f : endSize (x .final) ≡ length (treeWords (e .tree)) + taken (g .pair) = e .size in
+              x .goes o₃ a m (counts-done y done)
+              (out-after _ (out-filled (g .pair) (w + 1) (count + m) (λ l. omega (arith, e .free l)) y) done
+              (rw (e .is count (inner (g .names) (x .bind .names) next (h .scopes)) (x .bind .names) m, k .same, sym next₃, sym is₂) (out-wider (omega (arith, room, out-room y done, f, k .short, next₃)) z)))
 
-        pub none-last : g .last ≡ 0 → x .final ≡ noLast
-        none-last n = no-end ws at (g .last) (g .plain) (x .final) (x .ends) n
+        none-last : g .last ≡ 0 → (x .final ≡ noLast) × (g .pair ≡ 0)
+        none-last n = no-end text ws at w g (x .final) (x .ends) n
 
         pub run-twice : g .last ≡ 0 → repeated text (x .bind .names) ≡ true
             → Parsed (told count (child text (h .spot .tree) .plainly (h .scopes) next)) w o o₁ (most w next (h .spot .tree)) (Refused 10)
         unfolding endW pick
-        run-twice n t = x .goes o₁ (Refused 10) (out-after _ y done (rw (none-last n, t) (refused refl)))
+        run-twice n t =
+            x .goes o₁ (Refused 10) m (counts-done y done) (rw (none-filled (g .pair) (w + 1) (count + m) o′ (none-last n .1)) (out-after _ y done (rw (none-last n .0, t) (refused refl))))
 
         pub run-done : g .last ≡ 0 → repeated text (x .bind .names) ≡ false
             → Parsed (told count (child text (h .spot .tree) .plainly (h .scopes) next)) w o o₁ (most w next (h .spot .tree)) (Done u m)
         unfolding endW laid pick
-        run-done n t = x .goes o₁ (Done u m) (out-after _ y done (rw (none-last n, t) (out-empty u m o₁ _ (omega (arith, room, out-room y done)))))
+        run-done n t =
+            x .goes o₁ (Done u m) m (counts-done y done) (rw (none-filled (g .pair) (w + 1) (count + m) o′ (none-last n .1)) (out-after _ y done (rw (none-last n .0, t) (out-empty u m o₁ _ (omega (arith, room, out-room y done))))))
 
 -- ---- some operands
 

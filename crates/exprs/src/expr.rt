@@ -6,6 +6,7 @@ ghost use Rattle.grammar.specs.ParseExpr.{child};
 ghost use Rattle.grammar.specs.Written.{told, operandsW};
 ghost use Rattle.scopes.specs.Scopes.{Kept};
 ghost use Rattle.plans.specs.Plans.{Parsed, Here, Row, factor, most};
+use crate::late::late;
 use places::place::reach;
 use places::place::through;
 use places::place::words_at;
@@ -55,7 +56,8 @@ pub fn expr(
                 Progress::Done(u, m) => {
                     if run.last != 0 {
                         let q = reach(text, tree, run.last, run.plain);
-                        return expr(text, tree, q, scopes, inner, count, m, out, u);
+                        let deep = late(scopes, inner, run.pair, count, m, out, w + 1);
+                        return expr(text, tree, q, scopes, deep.depth, count, deep.next, out, u);
                     }
                     if twice(text, tree, run.names, long_to_length(run.fresh)) {
                         return Progress::Refused(10);

@@ -2,3 +2,4 @@
 // operands call one another. The definitions are in crates/grammar; the operations are in crates/parse.
 
 pub mod expr;
+mod late;

@@ -1,14 +1,14 @@
 -- Flattening binds the same numbers, each as often, and keeps the scoping.
-use Prim.Native.Nat.{ℕ}
+use Prim.Native.Nat.{ℕ, zero, suc}
 use mathlib.Core.Path.{_≡_, ap, _∙_}
 use mathlib.Core.List.{List, _++_}
 use lib.ListN.{length}
 use Rattle.reading.specs.Bytes.{Maybe, nothing, just}
 use Rattle.grammar.specs.Sort.{Sort, sortWords}
 use Rattle.grammar.specs.Item.{Item, bound, raise}
-use Rattle.grammar.specs.Expr.{Expr, Exprs, node, app, enil, econs, exprs, kindItems, outSort, exprItems, exprsItems, Solution, binderItems, solutionItems}
+use Rattle.grammar.specs.Expr.{Expr, Exprs, node, app, enil, econs, exprs, kindItems, outside, outSort, exprItems, exprsItems, Solution, binderItems, solutionItems}
 use Rattle.grammar.specs.Numbers.{times}
-use Rattle.grammar.specs.Scoped.{Scoped, ScopedAll, ScopedSolution}
+use Rattle.grammar.specs.Scoped.{Scoped, ScopedIn, ScopedAll, ScopedSolution}
 use Rattle.grammar.proofs.Items.{bound-append, bound-front}
 use Rattle.grammar.proofs.SameNumbers.{Same, same-refl, same-of, same-trans, same-append, same-swap}
 use Rattle.flattening.specs.Uncurry.{join, applied, uncurry, uncurryAll, flattened}
@@ -90,8 +90,14 @@ mutual
   -- A flattened expression is scoped as before.
   pub uncurry-scoped : (e : Expr) (c : ℕ) (around : List ℕ) → Scoped e c around → Scoped (uncurry e) c around
   uncurry-scoped (node k es) c around h =
-      rw (exprs-uncurry es) (h .0, uncurry-all-scoped es c (bound (raise c (kindItems k (exprs es))) ++ around) (h .1))
+      rw (exprs-uncurry es) (h .0, uncurry-in-scoped (outside k) es c around (bound (raise c (kindItems k (exprs es))) ++ around) (h .1))
   uncurry-scoped (app o es f) c around h = applied-scoped o (uncurryAll es) (uncurry f) c around (uncurry-all-scoped es c around (h .0)) (uncurry-scoped f c around (h .1))
+
+  -- The same for operands, the first n of them outside.
+  uncurry-in-scoped : (n : ℕ) (es : Exprs) (c : ℕ) (around inside : List ℕ) → ScopedIn n es c around inside → ScopedIn n (uncurryAll es) c around inside
+  uncurry-in-scoped n enil c around inside h = tt
+  uncurry-in-scoped zero (econs e es) c around inside h = (uncurry-scoped e c inside (h .0), uncurry-in-scoped zero es c around inside (h .1))
+  uncurry-in-scoped (suc n) (econs e es) c around inside h = (uncurry-scoped e c around (h .0), uncurry-in-scoped n es c around inside (h .1))
 
   -- The same for several expressions.
   pub uncurry-all-scoped : (es : Exprs) (c : ℕ) (around : List ℕ) → ScopedAll es c around → ScopedAll (uncurryAll es) c around

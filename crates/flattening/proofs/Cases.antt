@@ -22,11 +22,16 @@ inner-first : flat (38 ∷ 0 ∷ 1 ∷ 33 ∷ 0 ∷ 38 ∷ 1 ∷ 1 ∷ 33 ∷ 1 
 unfolding flattenComputes
 inner-first = refl
 
+-- A let as head ends a chain: the arguments of an application in its body are not joined with those outside.
+let-ends : flat (38 ∷ 0 ∷ 1 ∷ 37 ∷ 1 ∷ 1 ∷ 52 ∷ 0 ∷ 0 ∷ 37 ∷ 2 ∷ 1 ∷ 38 ∷ 0 ∷ 1 ∷ 37 ∷ 3 ∷ 1 ∷ 37 ∷ 4 ∷ 1 ∷ []) ≡ (38 ∷ 0 ∷ 1 ∷ 37 ∷ 1 ∷ 1 ∷ 52 ∷ 0 ∷ 0 ∷ 37 ∷ 2 ∷ 1 ∷ 38 ∷ 0 ∷ 1 ∷ 37 ∷ 3 ∷ 1 ∷ 37 ∷ 4 ∷ 1 ∷ [])
+unfolding flattenComputes
+let-ends = refl
+
 -- A node too deep is 6 even where its fields are missing, and 14 where its kind is unknown.
 too-deep : flat (replicate maxNodes 44 ++ (33 ∷ [])) ≡ (6 ∷ [])
 unfolding flattenComputes
 too-deep = refl
 
-unknown-deep : flat (replicate maxNodes 44 ++ (52 ∷ [])) ≡ (14 ∷ [])
+unknown-deep : flat (replicate maxNodes 44 ++ (53 ∷ [])) ≡ (14 ∷ [])
 unfolding flattenComputes
 unknown-deep = refl

@@ -3,7 +3,7 @@ use Prim.Native.Nat.{ℕ, _≤_}
 use native.Mathlib.Omega.{arith}
 use lib.ListN.{length}
 use Rattle.grammar.specs.Item.{wordsOf}
-use Rattle.grammar.specs.Expr.{Kind, kNum, kBool, kStr, kBitVec, kFresh, kNamed, kNeg, kBin, kIf, kAnd, kOr, kNot, kImp, kIff, kAtom, kLet, kTheory, kIsCtor, kExists, Expr, Exprs, node, app, enil, econs, exprs, kindItems}
+use Rattle.grammar.specs.Expr.{Kind, kNum, kBool, kStr, kBitVec, kFresh, kNamed, kNeg, kBin, kIf, kAnd, kOr, kNot, kImp, kIff, kAtom, kLet, kTheory, kIsCtor, kExists, kLetFresh, Expr, Exprs, node, app, enil, econs, exprs, kindItems}
 use Rattle.grammar.proofs.Lengths.{size, sizeAll, size-node, size-app, size-cons}
 use Rattle.flattening.specs.Uncurry.{mostOperands, mostOperandsAll}
 
@@ -29,6 +29,7 @@ kind-some (kLet x) n = omega arith
 kind-some (kTheory k) n = omega arith
 kind-some (kIsCtor x) n = omega arith
 kind-some (kExists bs) n = omega arith
+kind-some (kLetFresh k) n = omega arith
 
 -- An expression has a word.
 size-some : (e : Expr) → 1 ≤ size e

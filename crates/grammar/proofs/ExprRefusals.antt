@@ -101,7 +101,8 @@ module _ (Q : Refusal → Type 0) (q : OfExpr Q) where
       child-at cs 1 n _ h λ pair g.
       no-lifted Q (pair .letName) n _ (g .letName) λ s.
       no-chain Q (pair .letValue sc n) _ (g .letValue sc n) λ v m.
-      no-chain Q (nestedAt cs 2 sc m) _ (nested-at cs 2 h sc m) λ b p.
+      let sc′ : List Scope = record { names = s ∷ []; first = m } ∷ sc in
+      no-chain Q (nestedAt cs 2 sc′ (m + 1)) _ (nested-at cs 2 h sc′ (m + 1)) λ b p.
       tt
 
   ctor-form : (s : Span) (cs : List Child) → NoChildren cs → NoP (isCtorForm s cs)

@@ -5,9 +5,9 @@ use mathlib.Core.Bool.{Bool, true, false}
 use native.Mathlib.Omega.{arith}
 use Rattle.reading.specs.Bytes.{Span, SpanWithin, Maybe, nothing, just}
 use Rattle.reading.specs.Number.{Wide}
-use Rattle.reading.specs.Tree.{Tree, Trees, Within, AllWithin}
+use Rattle.reading.specs.Tree.{Trees, AllWithin}
 use Rattle.grammar.specs.Item.{wordsOf, used, bound}
-use Rattle.grammar.specs.Expr.{kBitVec, kNeg, BinOp, opAdd, opMul, opDiv, opMod, Relation, relEq, relNe, relGt, relGe, relLt, relLe, kBin, kNot, kOr, kAnd, kIf, kAtom, kIff, kImp, kLet, kIsCtor, kindItems}
+use Rattle.grammar.specs.Expr.{kBitVec, kNeg, BinOp, opAdd, opMul, opDiv, opMod, Relation, relEq, relNe, relGt, relGe, relLt, relLe, kBin, kNot, kOr, kAnd, kIf, kAtom, kIff, kImp, kIsCtor, kindItems}
 use Rattle.grammar.specs.Names.{Form, fixed, many, cast, exists, letIn, lit, minus, isCtor, apply, keywords}
 use Rattle.grammar.specs.Scope.{varOf}
 use Rattle.grammar.specs.ParseExpr.{orElseForm}
@@ -16,10 +16,7 @@ use Rattle.grammar.specs.Literals.{LiteralFits}
 use Rattle.grammar.proofs.AnswerHolds.{AllRows, IfThere}
 use Rattle.grammar.proofs.WalkKeeps.{PlainKind}
 
--- A name that stands in a tree.
-abbrev pub NameFrom : Tree → Span → Type 0
-NameFrom t s = (limit : ℕ) → Within t limit → SpanWithin s limit
-
+-- A name that stands in trees.
 abbrev pub NameFromAny : Trees → Span → Type 0
 NameFromAny ts s = (limit : ℕ) → AllWithin ts limit → SpanWithin s limit
 
@@ -64,11 +61,7 @@ pub bits-plain : (ts : Trees) (v : Wide) (width : ℕ) → LiteralFits (kBitVec 
 unfolding kindItems used bound wordsOf
 bits-plain ts v width f = record { uses = λ n. refl; binds = λ n. refl; opens = refl; coded = λ limit numbers w. tt; size = λ n. omega arith; fits = f }
 
--- Kinds with a name from the trees.
-pub let-plain : (ts : Trees) (x : Span) → NameFromAny ts x → PlainKind ts (kLet (varOf x))
-unfolding kindItems used bound wordsOf
-let-plain ts x f = record { uses = λ n. refl; binds = λ n. refl; opens = refl; coded = λ limit numbers w. f limit w; size = λ n. omega arith; fits = tt }
-
+-- A kind with a name from the trees.
 pub ctor-plain : (ts : Trees) (x : Span) → NameFromAny ts x → PlainKind ts (kIsCtor (varOf x))
 unfolding kindItems used bound wordsOf
 ctor-plain ts x f = record { uses = λ n. refl; binds = λ n. refl; opens = refl; coded = λ limit numbers w. f limit w; size = λ n. omega arith; fits = tt }

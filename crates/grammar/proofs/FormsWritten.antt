@@ -7,14 +7,14 @@ use lib.ListN.{length}
 use Rattle.reading.specs.Pick.{pick}
 use Rattle.reading.specs.Bytes.{Span, nothing, just}
 use Rattle.reading.specs.Tree.{Tree, Trees, tnil, tcons, trees}
-use Rattle.reading.specs.Answer.{check, repeatedName, Res, ok, no, chain, lifted}
+use Rattle.reading.specs.Answer.{check, malformed, repeatedName, Res, ok, no, chain, lifted}
 use Rattle.grammar.specs.Sort.{Sort, sortWords}
 use Rattle.grammar.specs.Item.{Item, raise, wordsOf}
-use Rattle.grammar.specs.Expr.{Kind, kExists, kLet, Expr, Exprs, node, app, oneOf, enil, econs, exprs, exprItems, exprsItems, kindItems}
-use Rattle.grammar.specs.Scope.{Scope, numbered, varOf, repeated, distinct}
+use Rattle.grammar.specs.Expr.{Kind, kExists, kLetFresh, Expr, Exprs, node, app, oneOf, enil, econs, exprs, exprItems, exprsItems, kindItems}
+use Rattle.grammar.specs.Scope.{Scope, numbered, repeated, distinct}
 use Rattle.grammar.specs.ParseExpr
 use Rattle.grammar.specs.ParseExpr.{Child, childAt, nestedAt, operands, nodeForm, callForm}
-use Rattle.grammar.specs.Written.{W, exprWords, exprsWords, kindWords, told, toldAll, ahead, after, operandsW, noLast, endW}
+use Rattle.grammar.specs.Written.{W, exprWords, exprsWords, kindWords, told, toldAll, ahead, after, behind, operandsW, noLast, boundLast, endW}
 use Rattle.grammar.proofs.Items.{words-append, words-front}
 use Rattle.grammar.proofs.Raise.{raise-append, raise-front}
 use Rattle.grammar.proofs.AnswerHolds.{Post, chain-post}
@@ -53,6 +53,11 @@ pub children-count : (text : List ℕ) (ts : Trees) → length (ParseExpr.childr
 unfolding ParseExpr.child trees
 children-count text tnil = refl
 children-count text (tcons t ts) = ap suc (children-count text ts)
+
+-- A let behind its name: the value is this tree, and the body the first of others.
+abbrev pub letBehind : List ℕ → Span → Tree → Trees → List Scope → ℕ → Res Expr
+letBehind text s t ts sc i =
+    chain (ParseExpr.child text t .nested sc i) (λ v m. chain (nestedAt (ParseExpr.children text ts) 0 (record { names = s ∷ []; first = m } ∷ sc) (m + 1)) (λ b p. ok (node (kLetFresh m) (econs v (oneOf b))) p))
 
 module _ (text : List ℕ) (c : ℕ) where
   -- So many operands, as the parser reads them.
@@ -135,23 +140,34 @@ module _ (text : List ℕ) (c : ℕ) where
       go (ok e m) = last e m (repeated text names)
       go (no r) = refl
 
-  -- `(let (name value) body)`, behind its name: the value is an operand, and the body comes behind it.
-  pub let-told : (s : Span) (t : Tree) (ts : Trees) (sc : List Scope) (i : ℕ)
-      → told c (chain (ParseExpr.child text t .nested sc i) (λ v m. chain (nestedAt (ParseExpr.children text ts) 0 sc m) (λ b p. ok (node (kLet (varOf s)) (econs v (oneOf b))) p)))
-      ≡ ahead (kindWords c (kLet (varOf s)) 2) (operandsW text c (tcons t ts) 2 sc i)
-  unfolding exprItems exprs operandsW
-  let-told s t ts sc i = go (ParseExpr.child text t .nested sc i)
+  -- `(let (name value) body)`, behind its name: the value is an operand, the body comes behind it with the name bound to the number between
+  -- them, and that number is written in front of both.
+  pub let-told : (s : Span) (t b : Tree) (us : Trees) (sc : List Scope) (i : ℕ)
+      → told c (letBehind text s t (tcons b us) sc i)
+      ≡ behind (operandsW text c (tcons t tnil) 1 sc i) (λ m. kindWords c (kLetFresh m) 2) (λ m. endW text c (boundLast s b) sc [] m)
+  unfolding exprItems exprs operandsW endW nestedAt childAt ParseExpr.child
+  let-told s t b us sc i = go (ParseExpr.child text t .nested sc i)
     where
-      k : Kind
-      k = kLet (varOf s)
+      body : (v : Expr) (m : ℕ) (x : Res Expr) → told c (chain x (λ e p. ok (node (kLetFresh m) (econs v (oneOf e))) p)) ≡ ahead (kindWords c (kLetFresh m) 2) (ahead (exprWords c v) (told c x))
+      body v m (ok e p) =
+          ap (λ l. ok l p) (raised-append c (kindItems (kLetFresh m) 2) (exprItems v ++ (exprItems e ++ [])) ∙ ap (λ l. kindWords c (kLetFresh m) 2 ++ l) (raised-append c (exprItems v) (exprItems e ++ []) ∙ ap (λ its. exprWords c v ++ wordsOf (raise c its)) (append-nil (exprItems e))))
+      body v m (no r) = refl
 
-      body : (v : Expr) (x : Res Expr) → told c (chain x (λ b p. ok (node k (econs v (oneOf b))) p)) ≡ ahead (kindWords c k 2) (ahead (exprWords c v) (told c x))
-      body v (ok b p) =
-          ap (λ l. ok l p) (raised-append c (kindItems k 2) (exprItems v ++ (exprItems b ++ [])) ∙ ap (λ l. kindWords c k 2 ++ l) (raised-append c (exprItems v) (exprItems b ++ []) ∙ ap (λ its. exprWords c v ++ wordsOf (raise c its)) (append-nil (exprItems b))))
-      body v (no r) = refl
+      go : (x : Res Expr)
+          → told c (chain x (λ v m. chain (ParseExpr.child text b .nested (record { names = s ∷ []; first = m } ∷ sc) (m + 1)) (λ e p. ok (node (kLetFresh m) (econs v (oneOf e))) p)))
+          ≡ behind (after (told c x) (λ m. ok [] m)) (λ m. kindWords c (kLetFresh m) 2) (λ m. endW text c (boundLast s b) sc [] m)
+      go (ok v m) = rw (append-nil (exprWords c v)) (body v m (ParseExpr.child text b .nested (record { names = s ∷ []; first = m } ∷ sc) (m + 1)))
+      go (no r) = refl
 
-      go : (x : Res Expr) → told c (chain x (λ v m. chain (nestedAt (ParseExpr.children text ts) 0 sc m) (λ b p. ok (node k (econs v (oneOf b))) p))) ≡ ahead (kindWords c k 2) (after (told c x) (λ m. operandsW text c ts 1 sc m))
-      go (ok v m) = body v (nestedAt (ParseExpr.children text ts) 0 sc m) ∙ ap (λ y. ahead (kindWords c k 2) (ahead (exprWords c v) y)) (one-told ts sc m)
+  -- Without a body it is refused behind its value.
+  pub let-short : (s : Span) (t : Tree) (sc : List Scope) (i : ℕ) → told c (letBehind text s t tnil sc i) ≡ operandsW text c (tcons t tnil) 2 sc i
+  unfolding operandsW nestedAt childAt ParseExpr.child
+  let-short s t sc i = go (ParseExpr.child text t .nested sc i)
+    where
+      go : (x : Res Expr)
+          → told c (chain x (λ v m. chain (nestedAt [] 0 (record { names = s ∷ []; first = m } ∷ sc) (m + 1)) (λ e p. ok (node (kLetFresh m) (econs v (oneOf e))) p)))
+          ≡ after (told c x) (λ m. no malformed)
+      go (ok v m) = refl
       go (no r) = refl
 
   -- `is$`, its operand being e.

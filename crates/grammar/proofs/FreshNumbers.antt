@@ -1,5 +1,5 @@
 -- The fresh numbers of what the parser builds: each of the numbers taken is bound once, and each that is used is bound round its use.
-use Prim.Native.Nat.{ℕ, suc, _+_, _^_}
+use Prim.Native.Nat.{ℕ, zero, suc, _+_, _^_, _≤_}
 use mathlib.Core.Path.{_≡_, refl, sym, ap, subst, _∙_}
 use mathlib.Core.Logic.{inl, inr}
 use mathlib.Core.List.{List, [], _∷_, _++_, append-nil}
@@ -8,18 +8,19 @@ use lib.Dec.{ltb}
 use lib.ListN.{length}
 use Rattle.reading.specs.Bytes.{Span, bytesAt, Maybe, nothing, just, lookup}
 use Rattle.reading.specs.Number.{Wide, valueOf, minusOf}
-use Rattle.reading.specs.Tree.{symbol, quoted, integer, boolean, Tree, Trees, atom, list, tcons}
+use Rattle.reading.specs.Tree.{symbol, quoted, integer, boolean, Tree, Trees, atom, list, tcons, nesting}
 use Rattle.reading.proofs.Picks.{pick-holds}
 use Rattle.grammar.specs.Sort.{Sort, sortWords}
 use Rattle.grammar.specs.Item.{Item, raise, used, bound}
-use Rattle.grammar.specs.Expr.{Kind, kNum, kBool, kStr, kNeg, kNamed, kTheory, kExists, Expr, Exprs, node, leaf, oneOf, enil, exprs, kindItems, binderItems, exprItems, exprsItems, outSort}
+use Rattle.grammar.specs.Expr.{Kind, kNum, kBool, kStr, kNeg, kNamed, kTheory, kExists, kLetFresh, Expr, Exprs, node, leaf, oneOf, enil, econs, exprs, kindItems, outside, binderItems, exprItems, exprsItems, outSort}
 use Rattle.grammar.specs.Names.{theory}
 use Rattle.grammar.specs.Scope
 use Rattle.grammar.specs.Scope.{Scope, numbered, orElse}
 use Rattle.grammar.specs.ParseExpr.{numeral}
 use Rattle.grammar.specs.Numbers.{In, Exactly}
-use Rattle.grammar.specs.Scoped.{Scoped, ScopedAll}
+use Rattle.grammar.specs.Scoped.{Scoped, ScopedIn, ScopedAll}
 use Rattle.grammar.proofs.Items.{bound-append, bound-front, used-front}
+use Rattle.grammar.proofs.SameNumbers.{same-swap, exactly-same}
 use Rattle.grammar.proofs.Exact.{upFrom, exactly-up, exactly-none, exactly-append, plus, bound-raise, used-raise, plus-up}
 use Rattle.grammar.proofs.AnswerHolds.{IfThere}
 use Rattle.grammar.proofs.WalkKeeps.{BindersOf, Kept}
@@ -63,12 +64,18 @@ quiet-node : (k : Kind) (es : Exprs) (n m : ℕ) → bound (kindItems k (exprs e
 unfolding exprItems
 quiet-node k es n m b x = rw (bound-append (kindItems k (exprs es)) (exprsItems es), b) x
 
+-- Operands that are scoped inside and outside alike.
+scoped-in : (n : ℕ) (es : Exprs) (c : ℕ) (around : List ℕ) → ScopedAll es c around → ScopedIn n es c around around
+scoped-in n enil c around h = tt
+scoped-in zero (econs e es) c around h = (h .0, scoped-in zero es c around (h .1))
+scoped-in (suc n) (econs e es) c around h = (h .0, scoped-in n es c around (h .1))
+
 quiet-scoped : (k : Kind) (es : Exprs) (c : ℕ) (around : List ℕ) → used (kindItems k (exprs es)) ≡ [] → bound (kindItems k (exprs es)) ≡ [] → ScopedAll es c around → Scoped (node k es) c around
 unfolding plus
 quiet-scoped k es c around u b h =
     let ue : used (raise c (kindItems k (exprs es))) ≡ [] = used-raise c (kindItems k (exprs es)) ∙ ap (plus c) u in
     let be : bound (raise c (kindItems k (exprs es))) ≡ [] = bound-raise c (kindItems k (exprs es)) ∙ ap (plus c) b in
-    (rw ue tt, rw be h)
+    (rw ue tt, rw be (scoped-in (outside k) es c around h))
 
 quiet-leaf : (k : Kind) (n : ℕ) (sc : List Scope) (t : Tree) → used (kindItems k 0) ≡ [] → bound (kindItems k 0) ≡ [] → Good t sc n (leaf k) n
 unfolding exprs exprItems bound
@@ -131,6 +138,19 @@ module _ (text : List ℕ) where
       let ue : (c : ℕ) → used (raise c its) ≡ [] = λ c. used-raise c its ∙ ap (plus c) (used-numbered n sorts) in
       (both its (exprItems e ++ []) n (n + length sorts) m run (h .0), λ c. (rw (ue c) tt, rw (be c) (h .1 c)))
 
+  -- A let takes its number between those of its binding and those of its body, and writes it in front of both.
+  on-let : (s u : Tree) (ts : Trees) (sc : List Scope) (n m p : ℕ) (x : Span) (v b : Expr) → 1 ≤ nesting u → Good u sc n v m → GoodAll ts (record { names = x ∷ []; first = m } ∷ sc) (m + 1) (oneOf b) p
+      → Good (list (tcons s (tcons u ts))) sc n (node (kLetFresh m) (econs v (oneOf b))) p
+  unfolding kindItems exprItems exprs bound used raise runs upFrom
+  on-let s u ts sc n m p x v b l g h =
+      let own : Exactly m (m ∷ []) (m + 1) = exactly-up m 1 in
+      let inner : Exactly m (m ∷ bound (exprItems b ++ [])) p = exactly-append m (m + 1) p (m ∷ []) (bound (exprItems b ++ [])) own (h .0) in
+      let all : Exactly n (bound (exprItems v) ++ (m ∷ bound (exprItems b ++ []))) p = exactly-append n m p (bound (exprItems v)) (m ∷ bound (exprItems b ++ [])) (g .0) inner in
+      (
+        rw (bound-append (exprItems v) (exprItems b ++ [])) (exactly-same n (m ∷ (bound (exprItems v) ++ bound (exprItems b ++ []))) (bound (exprItems v) ++ (m ∷ bound (exprItems b ++ []))) p (same-swap (m ∷ []) (bound (exprItems v)) (bound (exprItems b ++ []))) all),
+        λ c. (tt, (g .1 c, h .1 c)),
+      )
+
   -- Every expression that the parser builds is good.
   pub good : Kept text Good GoodAll
   unfolding kindItems used bound exprItems exprs
@@ -148,4 +168,5 @@ module _ (text : List ℕ) where
         onCall = λ t ts sc n m p es h x y. (both (exprsItems es) (exprItems h) n m p (x .0) (y .0), λ c. (x .1 c, y .1 c));
         onAs = λ t ts sc n m o e s h. (rw (if-sort (just o) (exprItems e)) (subst (λ (l : List Item). Exactly n (bound l) m) (append-nil (exprItems e)) (h .0)), λ c. (tt, h .1 c .0));
         onExists = on-exists;
+        onLet = on-let;
       }

@@ -76,6 +76,7 @@ module _ (text : List ℕ) where
         onCall = λ t ts sc n m p es h x y. (x, y);
         onAs = λ t ts sc n m o e s h. (tt, h .0);
         onExists = λ s v ts sc n m names sorts e b h. (tt, h);
+        onLet = λ s u ts sc n m p x v b l g h. (tt, (g, h));
       }
 
   fit-preds : KeptPreds Fit (λ t n ps m. PredsFit ps) (λ ts n ps m. PredsFit ps)

@@ -7,7 +7,7 @@ use lib.ListN.{length}
 use Rattle.reading.specs.Bytes.{Maybe, nothing, just}
 use Rattle.grammar.specs.Sort.{Sort, sortWords}
 use Rattle.grammar.specs.Item.{Item, plain, uses, binds, plains, raise, wordsOf}
-use Rattle.grammar.specs.Expr.{Binder, Kind, kNum, kBool, kStr, kBitVec, kFresh, kNamed, kNeg, kBin, kIf, kAnd, kOr, kNot, kImp, kIff, kAtom, kLet, kTheory, kIsCtor, kExists, Expr, Exprs, node, app, enil, econs, exprs, Solution, sortItems, binderItems, kindItems, flag, outSort, exprItems, exprsItems, solutionItems}
+use Rattle.grammar.specs.Expr.{Binder, Kind, kNum, kBool, kStr, kBitVec, kFresh, kNamed, kNeg, kBin, kIf, kAnd, kOr, kNot, kImp, kIff, kAtom, kLet, kTheory, kIsCtor, kExists, kLetFresh, Expr, Exprs, node, app, enil, econs, exprs, Solution, sortItems, binderItems, kindItems, flag, outSort, exprItems, exprsItems, solutionItems}
 use Rattle.grammar.specs.Shape.{depth, depths}
 use Rattle.grammar.specs.Raise.{raiseBinders, raiseKind, raiseExpr, raiseExprs, raiseSolution}
 
@@ -92,6 +92,7 @@ kind-raise c (kLet x) n = refl
 kind-raise c (kTheory k) n = refl
 kind-raise c (kIsCtor x) n = refl
 kind-raise c (kExists bs) n = ap₂ (λ m l. plain 51 ∷ plain m ∷ l) (length-raise c bs) (binders-raise c bs)
+kind-raise c (kLetFresh k) n = refl
 
 -- An output sort has no fresh number.
 out-raise : (c : ℕ) (o : Maybe Sort) → outSort o ≡ raise c (outSort o)

@@ -1,11 +1,12 @@
 -- What holds of an expression holds of it with its fresh numbers raised: it is coded, and scoped, and its literals fit.
-use Prim.Native.Nat.{ℕ, _+_}
+use Prim.Native.Nat.{ℕ, zero, suc, _+_}
+use mathlib.Core.Path.{_≡_, refl}
 use mathlib.Core.List.{List, [], _∷_, _++_}
 use native.Mathlib.Omega.{arith}
 use Rattle.grammar.specs.Item.{raise, bound}
-use Rattle.grammar.specs.Expr.{Binder, Kind, kNum, kBool, kStr, kBitVec, kFresh, kNamed, kNeg, kBin, kIf, kAnd, kOr, kNot, kImp, kIff, kAtom, kLet, kTheory, kIsCtor, kExists, Expr, Exprs, node, app, enil, econs, exprs, kindItems}
+use Rattle.grammar.specs.Expr.{Binder, Kind, kNum, kBool, kStr, kBitVec, kFresh, kNamed, kNeg, kBin, kIf, kAnd, kOr, kNot, kImp, kIff, kAtom, kLet, kTheory, kIsCtor, kExists, kLetFresh, Expr, Exprs, node, app, enil, econs, exprs, kindItems, outside}
 use Rattle.grammar.specs.Shape.{HasOperands, BindersCoded, KindCoded, Coded, CodedAll}
-use Rattle.grammar.specs.Scoped.{Scoped, ScopedAll}
+use Rattle.grammar.specs.Scoped.{Scoped, ScopedIn, ScopedAll}
 use Rattle.grammar.specs.Literals.{LiteralFits, LiteralsFit, AllLiteralsFit}
 use Rattle.grammar.specs.Raise.{raiseBinders, raiseKind, raiseExpr, raiseExprs}
 use Rattle.grammar.proofs.Raise.{exprs-raise, kind-raise, raise-zero}
@@ -39,6 +40,7 @@ module _ (c limit numbers : ℕ) where
   kind-coded-raise (kTheory k) h = h
   kind-coded-raise (kIsCtor x) h = h
   kind-coded-raise (kExists bs) h = binders-coded-raise bs h
+  kind-coded-raise (kLetFresh k) h = omega (arith, h)
 
   -- Raising keeps how many operands are right.
   operands-raise : (k : Kind) (n : ℕ) → HasOperands k n → HasOperands (raiseKind c k) n
@@ -62,6 +64,7 @@ module _ (c limit numbers : ℕ) where
   operands-raise (kTheory k) n h = h
   operands-raise (kIsCtor x) n h = h
   operands-raise (kExists bs) n h = h
+  operands-raise (kLetFresh k) n h = h
 
   mutual
     unfolding raiseExpr
@@ -76,14 +79,44 @@ module _ (c limit numbers : ℕ) where
     coded-all-raise enil h = tt
     coded-all-raise (econs e es) h = (coded-raise e (h .0), coded-all-raise es (h .1))
 
+-- Raising leaves outside what stands outside.
+outside-raise : (c : ℕ) (k : Kind) → outside (raiseKind c k) ≡ outside k
+unfolding raiseKind
+outside-raise c (kNum v) = refl
+outside-raise c (kBool b) = refl
+outside-raise c (kStr s) = refl
+outside-raise c (kBitVec v width) = refl
+outside-raise c (kFresh j) = refl
+outside-raise c (kNamed x) = refl
+outside-raise c kNeg = refl
+outside-raise c (kBin op) = refl
+outside-raise c kIf = refl
+outside-raise c kAnd = refl
+outside-raise c kOr = refl
+outside-raise c kNot = refl
+outside-raise c kImp = refl
+outside-raise c kIff = refl
+outside-raise c (kAtom r) = refl
+outside-raise c (kLet x) = refl
+outside-raise c (kTheory j) = refl
+outside-raise c (kIsCtor x) = refl
+outside-raise c (kExists bs) = refl
+outside-raise c (kLetFresh j) = refl
+
 mutual
   unfolding raiseExpr
 
   -- An expression that is scoped when its numbers are raised by c is scoped once they are.
   pub scoped-raise : (c : ℕ) (e : Expr) (around : List ℕ) → Scoped e c around → Scoped (raiseExpr c e) 0 around
   scoped-raise c (node k es) around h =
-      rw (exprs-raise c es, kind-raise c k (exprs es), raise-zero (raise c (kindItems k (exprs es)))) (h .0, scoped-all-raise c es (bound (raise c (kindItems k (exprs es))) ++ around) (h .1))
+      rw (exprs-raise c es, kind-raise c k (exprs es), raise-zero (raise c (kindItems k (exprs es))), outside-raise c k) (h .0, scoped-in-raise c (outside k) es around (bound (raise c (kindItems k (exprs es))) ++ around) (h .1))
   scoped-raise c (app o es e) around h = (scoped-all-raise c es around (h .0), scoped-raise c e around (h .1))
+
+  -- The same for operands, the first n of them outside.
+  scoped-in-raise : (c n : ℕ) (es : Exprs) (around inside : List ℕ) → ScopedIn n es c around inside → ScopedIn n (raiseExprs c es) 0 around inside
+  scoped-in-raise c n enil around inside h = tt
+  scoped-in-raise c zero (econs e es) around inside h = (scoped-raise c e inside (h .0), scoped-in-raise c zero es around inside (h .1))
+  scoped-in-raise c (suc n) (econs e es) around inside h = (scoped-raise c e around (h .0), scoped-in-raise c n es around inside (h .1))
 
   -- The same for several expressions.
   pub scoped-all-raise : (c : ℕ) (es : Exprs) (around : List ℕ) → ScopedAll es c around → ScopedAll (raiseExprs c es) 0 around
@@ -112,6 +145,7 @@ kind-fits-raise c (kLet x) h = h
 kind-fits-raise c (kTheory k) h = h
 kind-fits-raise c (kIsCtor x) h = h
 kind-fits-raise c (kExists bs) h = h
+kind-fits-raise c (kLetFresh k) h = h
 
 mutual
   unfolding raiseExpr

@@ -1,6 +1,6 @@
 -- The shape of what the parser builds: it nests little deeper than its tree, opens fewer scopes than the tree has lists inside one another,
 -- and its words give it back.
-use Prim.Native.Nat.{ℕ, suc, _+_, _-_, _^_, _≤_, _<_}
+use Prim.Native.Nat.{ℕ, zero, suc, _+_, _-_, _^_, _≤_, _<_, max}
 use mathlib.Core.Bool.{Bool, true, false, false≢true}
 use mathlib.Core.Path.{_≡_, refl}
 use mathlib.Core.List.{List, [], _∷_}
@@ -14,12 +14,12 @@ use Rattle.reading.specs.Number.{Wide, valueOf, minusOf}
 use Rattle.reading.specs.Tree.{symbol, quoted, integer, boolean, Tree, Trees, atom, list, tcons, nesting, nestings, Within, AllWithin}
 use Rattle.reading.proofs.Picks.{pick-holds}
 use Rattle.grammar.specs.Sort.{Sort}
-use Rattle.grammar.specs.Expr.{Binder, Kind, kNum, kBool, kStr, kBitVec, kFresh, kNamed, kNeg, kBin, kIf, kAnd, kOr, kNot, kImp, kIff, kAtom, kLet, kTheory, kIsCtor, kExists, Expr, Exprs, node, app, leaf, oneOf, enil, econs, exprs}
+use Rattle.grammar.specs.Expr.{Binder, Kind, kNum, kBool, kStr, kBitVec, kFresh, kNamed, kNeg, kBin, kIf, kAnd, kOr, kNot, kImp, kIff, kAtom, kLet, kTheory, kIsCtor, kExists, kLetFresh, outside, Expr, Exprs, node, app, leaf, oneOf, enil, econs, exprs}
 use Rattle.grammar.specs.Names.{theory}
 use Rattle.grammar.specs.Scope
 use Rattle.grammar.specs.Scope.{Scope, numbered, orElse}
 use Rattle.grammar.specs.ParseExpr.{numeral}
-use Rattle.grammar.specs.Shape.{BindersCoded, KindCoded, Coded, CodedAll, depth, depths, scopes, scopesAll}
+use Rattle.grammar.specs.Shape.{BindersCoded, KindCoded, Coded, CodedAll, depth, depths, opensScope, scopes, scopesIn, scopesAll}
 use Rattle.grammar.proofs.AnswerHolds.{AllRows, IfThere, lookup-holds}
 use Rattle.grammar.proofs.WalkKeeps.{BindersOf, Kept}
 
@@ -69,6 +69,7 @@ kind-more (kLet x) limit n m l h = h
 kind-more (kTheory k) limit n m l h = h
 kind-more (kIsCtor x) limit n m l h = h
 kind-more (kExists bs) limit n m l h = binders-more bs limit n m l h
+kind-more (kLetFresh k) limit n m l h = omega arith
 
 mutual
   pub coded-more : (e : Expr) (limit n m : ℕ) → n ≤ m → Coded e limit n → Coded e limit m
@@ -96,6 +97,17 @@ all-below m (named s k ∷ rows) e = go (ltb k m) refl e (all-below m rows)
 theory-below : AllRows theory (λ _ k. k < 42)
 unfolding theory allBelow pick
 theory-below = all-below 42 theory refl
+
+-- A kind that opens no scope: no more than its operands open.
+quiet-opens : (n more : ℕ) (es : Exprs) → more ≡ 0 → scopesIn n more es ≤ scopesAll es
+unfolding scopes
+quiet-opens n more enil z = omega (arith, z)
+quiet-opens zero more (econs e es) z = omega (arith, z, quiet-opens zero more es z)
+quiet-opens (suc n) more (econs e es) z = omega (arith, quiet-opens n more es z)
+
+-- The scope of a let is open in its body, which stands in its list like its pair.
+let-opens : (v b u t most : ℕ) → 1 ≤ u → v ≤ u - 1 → b ≤ t - 1 → u ≤ most → t ≤ most → max v (max (1 + b) 1) ≤ suc most - 1
+let-opens v b u t most l x y p q = omega arith
 
 small-leaf : (t : Tree) (sc : List Scope) (n : ℕ) (k : Kind) → scopes (leaf k) ≡ 0 → ((limit : ℕ) → Within t limit → ScopesBelow sc n → Coded (leaf k) limit n) → Small t sc n (leaf k) n
 unfolding depth
@@ -152,6 +164,18 @@ module _ (text : List ℕ) where
         coded = λ limit w below. (refl, b .coded limit m n (w .1 .0) (h .rises), h .coded limit (w .1 .1) (omega (arith, b .even), scopes-more sc n (n + length sorts) (omega arith) below));
       }
 
+  on-let : (s u : Tree) (ts : Trees) (sc : List Scope) (n m p : ℕ) (x : Span) (v b : Expr) → 1 ≤ nesting u → Small u sc n v m → SmallAll ts (record { names = x ∷ []; first = m } ∷ sc) (m + 1) (oneOf b) p
+      → Small (list (tcons s (tcons u ts))) sc n (node (kLetFresh m) (econs v (oneOf b))) p
+  unfolding depth scopes nesting exprs
+  on-let s u ts sc n m p x v b l g h =
+      record {
+        rises = omega (arith, g .rises, h .rises);
+        deep = omega (arith, g .deep, h .deep);
+        opens = let-opens (scopes v) (scopes b) (nesting u) (nestings ts) (max (nesting s) (max (nesting u) (nestings ts))) l (g .opens) (omega (arith, h .opens)) (omega arith) (omega arith);
+        coded = λ limit w below.
+            (refl, omega (arith, h .rises), (coded-more v limit m p (omega (arith, h .rises)) (g .coded limit (w .1 .0) below), h .coded limit (w .1 .1) (omega arith, scopes-more sc n (m + 1) (omega (arith, g .rises)) below)));
+      }
+
   -- Every expression that the parser builds is small.
   pub small : Kept text Small SmallAll
   unfolding depth scopes nesting exprs
@@ -172,7 +196,7 @@ module _ (text : List ℕ) where
         skip = λ t ts sc n m es h. record { rises = h .rises; deep = omega (arith, h .deep); opens = omega (arith, h .opens); coded = λ limit w b. h .coded limit (w .1) b };
         item = λ ts sc n m e h. record { rises = h .rises; deep = omega (arith, h .deep); opens = omega (arith, h .opens); coded = λ limit w b. h .coded limit w b .0 };
         onNode = λ ts sc n m k es p a h.
-            record { rises = h .rises; deep = omega (arith, h .deep); opens = omega (arith, h .opens, p .opens); coded = λ limit w b. (a, p .coded limit m w, h .coded limit w b) };
+            record { rises = h .rises; deep = omega (arith, h .deep); opens = omega (arith, h .opens, quiet-opens (outside k) (opensScope k) es (p .opens)); coded = λ limit w b. (a, p .coded limit m w, h .coded limit w b) };
         onCall = λ t ts sc n m p es h x y.
             record {
               rises = omega (arith, x .rises, y .rises);
@@ -188,4 +212,5 @@ module _ (text : List ℕ) where
               coded = λ limit w b. (tt, s .coded limit (w .0), h .coded limit (w .1) b .0);
             };
         onExists = on-exists;
+        onLet = on-let;
       }

@@ -77,4 +77,5 @@ module _ (text : List ℕ) where
         onCall = λ t ts sc n m p es h x y. record { words = omega (arith, length-words (exprsItems es) (exprItems h), x .words, y .words); numbers = omega (arith, x .numbers, y .numbers) };
         onAs = λ t ts sc n m o e s h. record { words = omega (arith, sort-long o (exprItems e), lone-long e, s .size, h .words); numbers = omega (arith, h .numbers) };
         onExists = λ s v ts sc n m names sorts e b h. record { words = omega (arith, length-words (binderItems (numbered n sorts)) (exprItems e ++ []), b .size n, h .words); numbers = omega (arith, b .few, h .numbers) };
+        onLet = λ s u ts sc n m p x v b l g h. record { words = omega (arith, length-words (exprItems v) (exprItems b ++ []), g .words, h .words); numbers = omega (arith, g .numbers, h .numbers, weight-some s) };
       }

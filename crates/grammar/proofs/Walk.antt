@@ -7,12 +7,12 @@ use lib.Dec.{eqb}
 use lib.ListN.{length}
 use Rattle.reading.specs.Bytes.{ascii, beginsWith, Span, bytesAt, lookup}
 use Rattle.reading.specs.Number.{wideOf}
-use Rattle.reading.specs.Tree.{Atom, symbol, quoted, integer, decimal, boolean, Tree, Trees, atom, list, tnil, tcons}
+use Rattle.reading.specs.Tree.{Atom, symbol, quoted, integer, decimal, boolean, Tree, Trees, atom, list, tnil, tcons, nesting}
 use Rattle.reading.specs.Answer.{check, malformed, chain, lifted}
 use Rattle.reading.proofs.Bytes.{begins-length, bytes-length}
 use Rattle.reading.proofs.Picks.{pick-holds}
 use Rattle.grammar.specs.ParseSort.{inList, inSymbol, treeAt, parseSort}
-use Rattle.grammar.specs.Expr.{Kind, kBitVec, kNeg, opSub, kBin, kLet, kIsCtor, Expr, Exprs, oneOf, enil, econs, exprs}
+use Rattle.grammar.specs.Expr.{Kind, kBitVec, kNeg, opSub, kBin, kIsCtor, Expr, Exprs, oneOf, enil, econs, exprs}
 use Rattle.grammar.specs.Names.{Form, fixed, many, cast, exists, letIn, lit, minus, isCtor, apply, keywords}
 use Rattle.grammar.specs.Scope.{Scope, varOf, distinct}
 use Rattle.grammar.specs.ParseExpr
@@ -22,7 +22,7 @@ use Rattle.grammar.specs.Literals.{LiteralOf}
 use Rattle.grammar.proofs.AnswerHolds.{Post, Every, chain-post, lifted-post, any-post, map-post, map-every, lookup-holds}
 use Rattle.grammar.proofs.SortOf.{SortOf, in-list, in-symbol, sort-of}
 use Rattle.grammar.proofs.WalkKeeps.{PlainKind, BindersOf, Kept}
-use Rattle.grammar.proofs.Forms.{NameFrom, NameFromAny, neg-plain, bin-plain, bits-plain, let-plain, ctor-plain, FormFits, keywords-fit, form-fits}
+use Rattle.grammar.proofs.Forms.{NameFromAny, neg-plain, bin-plain, bits-plain, ctor-plain, FormFits, keywords-fit, form-fits}
 use Rattle.grammar.proofs.LitForm.{literal-of}
 use Rattle.grammar.proofs.BindersOf.{TreeIn, tree-at, sort-from, binders-of}
 
@@ -35,7 +35,7 @@ module _ (text : List ℕ) (Inv : Tree → List Scope → ℕ → Expr → ℕ �
     pub tree : c .tree ≡ t
     pub plainly : Keeps t (c .plainly)
     pub nested : Keeps t (c .nested)
-    pub letName : Every (c .letName) (NameFrom t)
+    pub letName : Every (c .letName) (λ x. 1 ≤ nesting t)
     pub letValue : Keeps t (c .letValue)
 
   abbrev pub ChildrenOf : Trees → List Child → Type 0
@@ -106,11 +106,11 @@ module _ (text : List ℕ) (Inv : Tree → List Scope → ℕ → Expr → ℕ �
   let-form (tcons t tnil) (c ∷ d ∷ cs) h sc n = absurd (h .1)
   let-form (tcons t (tcons u ts)) (c ∷ []) h sc n = absurd (h .1)
   let-form (tcons t (tcons u ts)) (c ∷ d ∷ cs) h sc n =
-      lifted-post (d .letName) n _ (NameFrom u) _ (h .1 .0 .letName) λ x f.
+      lifted-post (d .letName) n _ (λ x. 1 ≤ nesting u) _ (h .1 .0 .letName) λ x f.
       chain-post (d .letValue sc n) _ (Inv u sc n) _ (h .1 .0 .letValue sc n) λ v m p.
-      chain-post (nestedAt cs 0 sc m) _ (λ e q. InvAll ts sc m (oneOf e) q) _ (nested-at ts cs 0 (h .1 .1) sc m) λ b q r.
-      kept .onNode (tcons t (tcons u ts)) sc n q (kLet (varOf x)) (econs v (oneOf b)) (let-plain (tcons t (tcons u ts)) x (λ limit w. f limit (w .1 .0))) refl
-      (kept .skip t (tcons u ts) sc n q (econs v (oneOf b)) (kept .more u ts sc n m q v (oneOf b) p r))
+      let sc′ : List Scope = record { names = x ∷ []; first = m } ∷ sc in
+      chain-post (nestedAt cs 0 sc′ (m + 1)) _ (λ e q. InvAll ts sc′ (m + 1) (oneOf e) q) _ (nested-at ts cs 0 (h .1 .1) sc′ (m + 1)) λ b q r.
+      kept .onLet t u ts sc n m q x v b f p r
 
   ctor-form : (s : Span) (ts : Trees) (cs : List Child) → 3 ≤ s .len → NameFromAny ts s → ChildrenOf ts cs → Keeps (list ts) (isCtorForm s cs)
   unfolding isCtorForm exprs
@@ -217,14 +217,14 @@ module _ (text : List ℕ) (Inv : Tree → List Scope → ℕ → Expr → ℕ �
   through-list (tcons t (tcons u ts)) (c ∷ []) p h k = absurd (h .1)
   through-list ts (c ∷ d ∷ cs) p h k = k
 
-  through-name : (ts : Trees) (cs : List Child) → ChildrenOf ts cs → Every (throughName cs) (NameFrom (list ts))
-  unfolding throughName
+  through-name : (ts : Trees) (cs : List Child) → ChildrenOf ts cs → Every (throughName cs) (λ x. 1 ≤ nesting (list ts))
+  unfolding throughName nesting
   through-name ts [] h = tt
   through-name tnil (c ∷ []) h = absurd h
-  through-name (tcons t tnil) (c ∷ []) h = map-every (c .letName) (NameFrom t) _ (λ x f limit w. f limit (w .0)) (h .0 .letName)
+  through-name (tcons t tnil) (c ∷ []) h = map-every (c .letName) (λ x. 1 ≤ nesting t) _ (λ x f. omega arith) (h .0 .letName)
   through-name (tcons t (tcons u ts)) (c ∷ []) h = absurd (h .1)
   through-name tnil (c ∷ d ∷ cs) h = absurd h
-  through-name (tcons t ts) (c ∷ d ∷ cs) h = map-every (inSymbol (c .tree)) (λ s. c .tree ≡ atom (symbol s)) _ (λ s e limit w. rw (sym (h .0 .tree) ∙ e) at (w .0)) (in-symbol (c .tree))
+  through-name (tcons t ts) (c ∷ d ∷ cs) h = map-every (inSymbol (c .tree)) (λ s. c .tree ≡ atom (symbol s)) _ (λ s e. omega arith) (in-symbol (c .tree))
 
   through-value : (ts : Trees) (cs : List Child) → ChildrenOf ts cs → Keeps (list ts) (throughValue cs)
   unfolding throughValue

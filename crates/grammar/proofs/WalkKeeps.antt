@@ -9,7 +9,7 @@ use Rattle.reading.specs.Number.{Wide}
 use Rattle.reading.specs.Tree.{symbol, quoted, integer, boolean, Tree, Trees, atom, list, tcons, nesting, Within, AllWithin, weight}
 use Rattle.grammar.specs.Sort.{Sort}
 use Rattle.grammar.specs.Item.{wordsOf, used, bound}
-use Rattle.grammar.specs.Expr.{Kind, kBool, kStr, kExists, Expr, Exprs, node, app, leaf, oneOf, enil, econs, exprs, kindItems, binderItems}
+use Rattle.grammar.specs.Expr.{Kind, kBool, kStr, kExists, kLetFresh, Expr, Exprs, node, app, leaf, oneOf, enil, econs, exprs, kindItems, binderItems}
 use Rattle.grammar.specs.Scope.{Scope, numbered, symbolExpr}
 use Rattle.grammar.specs.ParseExpr.{numeral}
 use Rattle.grammar.specs.Shape.{BindersCoded, HasOperands, KindCoded, opensScope}
@@ -50,3 +50,5 @@ module _ (text : List ℕ) where
     pub onAs : (t : Tree) (ts : Trees) (sc : List Scope) (n m : ℕ) (o : Sort) (e : Expr) → SortOf t o → InvAll ts sc n (oneOf e) m → Inv (list (tcons t ts)) sc n (app (just o) enil e) m
     pub onExists : (s v : Tree) (ts : Trees) (sc : List Scope) (n m : ℕ) (names : List Span) (sorts : List Sort) (e : Expr) → BindersOf v names sorts → InvAll ts (record { names = names; first = n } ∷ sc) (n + length sorts) (oneOf e) m
         → Inv (list (tcons s (tcons v ts))) sc n (node (kExists (numbered n sorts)) (oneOf e)) m
+    pub onLet : (s u : Tree) (ts : Trees) (sc : List Scope) (n m p : ℕ) (x : Span) (v b : Expr) → 1 ≤ nesting u → Inv u sc n v m → InvAll ts (record { names = x ∷ []; first = m } ∷ sc) (m + 1) (oneOf b) p
+        → Inv (list (tcons s (tcons u ts))) sc n (node (kLetFresh m) (econs v (oneOf b))) p

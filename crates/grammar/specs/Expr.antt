@@ -58,6 +58,7 @@ pub data Kind : Type 0 where
   kTheory : ℕ → Kind
   kIsCtor : VarName → Kind
   kExists : List Binder → Kind
+  kLetFresh : ℕ → Kind
 
 mutual
   pub data Expr : Type 0 where
@@ -126,6 +127,30 @@ kindItems (kLet x) n = plain 48 ∷ spanItems (x .span)
 kindItems (kTheory k) n = plain 49 ∷ plain k ∷ []
 kindItems (kIsCtor x) n = plain 50 ∷ spanItems (x .span)
 kindItems (kExists bs) n = plain 51 ∷ plain (length bs) ∷ binderItems bs
+kindItems (kLetFresh k) n = plain 52 ∷ binds k ∷ []
+
+-- How many of its operands, the first ones, a kind does not enclose by what it binds: a let's binding.
+abbrev pub outside : Kind → ℕ
+outside (kNum v) = 0
+outside (kBool b) = 0
+outside (kStr s) = 0
+outside (kBitVec v width) = 0
+outside (kFresh k) = 0
+outside (kNamed x) = 0
+outside kNeg = 0
+outside (kBin op) = 0
+outside kIf = 0
+outside kAnd = 0
+outside kOr = 0
+outside kNot = 0
+outside kImp = 0
+outside kIff = 0
+outside (kAtom r) = 0
+outside (kLet x) = 0
+outside (kTheory k) = 0
+outside (kIsCtor x) = 0
+outside (kExists bs) = 0
+outside (kLetFresh k) = 1
 
 -- The flag of an application, and its output sort.
 abbrev pub flag : Maybe Sort → ℕ

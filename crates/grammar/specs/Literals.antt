@@ -9,7 +9,7 @@ use Rattle.reading.specs.Bytes.{ascii, beginsWith, Span, bytesAt}
 use Rattle.reading.specs.Number.{wideOf, valueOf, allDigits, valueFrom}
 use Rattle.reading.specs.Tree.{quoted, Tree, atom}
 use Rattle.reading.specs.Answer.{got, ok}
-use Rattle.grammar.specs.Expr.{Kind, kNum, kBool, kStr, kBitVec, kFresh, kNamed, kNeg, kBin, kIf, kAnd, kOr, kNot, kImp, kIff, kAtom, kLet, kTheory, kIsCtor, kExists, Expr, Exprs, node, app, leaf, enil, econs, Pred, kvar, expr, Bind, Solution}
+use Rattle.grammar.specs.Expr.{Kind, kNum, kBool, kStr, kBitVec, kFresh, kNamed, kNeg, kBin, kIf, kAnd, kOr, kNot, kImp, kIff, kAtom, kLet, kTheory, kIsCtor, kExists, kLetFresh, Expr, Exprs, node, app, leaf, enil, econs, Pred, kvar, expr, Bind, Solution}
 use Rattle.grammar.specs.Scope.{Scope}
 use Rattle.grammar.specs.ParseExpr.{Child, childAt, digitsIn, widthOf, litForm, parseExpr}
 use Rattle.grammar.specs.ParseBind.{parseBind}
@@ -64,6 +64,7 @@ LiteralFits (kLet x) = Unit {0}
 LiteralFits (kTheory k) = Unit {0}
 LiteralFits (kIsCtor x) = Unit {0}
 LiteralFits (kExists bs) = Unit {0}
+LiteralFits (kLetFresh k) = Unit {0}
 
 -- So it is with every literal in an expression, and in predicates.
 abbrev mutual

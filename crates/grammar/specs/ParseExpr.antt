@@ -12,7 +12,7 @@ use Rattle.reading.specs.Tree.{Atom, symbol, quoted, integer, decimal, boolean,
 use Rattle.reading.specs.Answer.{Ans, got, bad, andThen, orBad, check, malformed, decimalRead, badLiteral, wrongWidth, M, _>>=_, chain, done, lifted, fresh}
 use Rattle.grammar.specs.Sort.{Sort}
 use Rattle.grammar.specs.ParseSort.{inList, inAtom, inSymbol, treeAt, sizeOf, parseSort}
-use Rattle.grammar.specs.Expr.{VarName, Kind, kNum, kBool, kStr, kBitVec, kNeg, kBin, opSub, kLet, kIsCtor, kExists, Expr, Exprs, node, app, leaf, oneOf, enil, econs, Pred, kvar, expr}
+use Rattle.grammar.specs.Expr.{VarName, Kind, kNum, kBool, kStr, kBitVec, kNeg, kBin, opSub, kLetFresh, kIsCtor, kExists, Expr, Exprs, node, app, leaf, oneOf, enil, econs, Pred, kvar, expr}
 use Rattle.grammar.specs.Names.{Form, fixed, many, cast, exists, letIn, lit, minus, isCtor, apply, keywords}
 use Rattle.grammar.specs.Scope.{Scope, numbered, varOf, symbolExpr, distinct}
 
@@ -98,14 +98,15 @@ throughValue [] sc = lifted (bad malformed)
 throughValue (c ∷ []) sc = c .letValue sc
 throughValue (c ∷ d ∷ cs) sc = d .nested sc
 
--- `(let (name value) body)` opens no scope.
+-- `(let (name value) body)`: the value first and outside, then a fresh number, then the body with the name bound to it.
 unfoldable pub letForm : List Child → P
 letForm cs sc = do
   pair ← lifted (childAt cs 1)
   s ← lifted (pair .letName)
   v ← pair .letValue sc
-  b ← nestedAt cs 2 sc
-  done (node (kLet (varOf s)) (econs v (oneOf b)))
+  k ← fresh 1
+  b ← nestedAt cs 2 (record { names = s ∷ []; first = k } ∷ sc)
+  done (node (kLetFresh k) (econs v (oneOf b)))
 
 -- `is$` and a constructor; its operand is not seen through.
 unfoldable pub isCtorForm : Span → List Child → P

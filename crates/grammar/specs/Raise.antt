@@ -1,14 +1,14 @@
 -- Expressions and solutions with each fresh number raised.
 use Prim.Native.Nat.{ℕ, _+_}
 use mathlib.Core.List.{List, [], _∷_}
-use Rattle.grammar.specs.Expr.{Binder, Kind, kNum, kBool, kStr, kBitVec, kFresh, kNamed, kNeg, kBin, kIf, kAnd, kOr, kNot, kImp, kIff, kAtom, kLet, kTheory, kIsCtor, kExists, Expr, Exprs, node, app, enil, econs, Solution}
+use Rattle.grammar.specs.Expr.{Binder, Kind, kNum, kBool, kStr, kBitVec, kFresh, kNamed, kNeg, kBin, kIf, kAnd, kOr, kNot, kImp, kIff, kAtom, kLet, kTheory, kIsCtor, kExists, kLetFresh, Expr, Exprs, node, app, enil, econs, Solution}
 
 -- Numbers that binders bind.
 unfoldable pub raiseBinders : ℕ → List Binder → List Binder
 raiseBinders c [] = []
 raiseBinders c (b ∷ bs) = record { var = c + b .var; sort = b .sort } ∷ raiseBinders c bs
 
--- Numbers of a kind: the one that a variable uses (36), and those that exists binds (51).
+-- Numbers of a kind: the one that a variable uses (36), and those that exists (51) and let (52) bind.
 unfoldable pub raiseKind : ℕ → Kind → Kind
 raiseKind c (kNum v) = kNum v
 raiseKind c (kBool b) = kBool b
@@ -29,6 +29,7 @@ raiseKind c (kLet x) = kLet x
 raiseKind c (kTheory k) = kTheory k
 raiseKind c (kIsCtor x) = kIsCtor x
 raiseKind c (kExists bs) = kExists (raiseBinders c bs)
+raiseKind c (kLetFresh k) = kLetFresh (c + k)
 
 -- Numbers throughout an expression.
 unfoldable mutual

@@ -1,10 +1,10 @@
 -- The shape of trees and expressions: which words they can be written in, and how deep they nest.
-use Prim.Native.Nat.{ℕ, suc, _+_, _^_, _<_, max}
+use Prim.Native.Nat.{ℕ, zero, suc, _+_, _^_, _<_, max}
 use mathlib.Core.Path.{_≡_}
 use mathlib.Core.List.{List, [], _∷_}
 use Rattle.reading.specs.Bytes.{SpanWithin, Maybe, nothing, just}
 use Rattle.grammar.specs.Sort.{Ctor, cSet, cMap, cData, Sort, Sorts, sInt, sBool, sReal, sStr, sBitVec, sSize, sVar, sFunc, sAbs, sApp, snil, scons}
-use Rattle.grammar.specs.Expr.{Binder, Kind, kNum, kBool, kStr, kBitVec, kFresh, kNamed, kNeg, kBin, kIf, kAnd, kOr, kNot, kImp, kIff, kAtom, kLet, kTheory, kIsCtor, kExists, Expr, Exprs, node, app, enil, econs, exprs}
+use Rattle.grammar.specs.Expr.{Binder, Kind, kNum, kBool, kStr, kBitVec, kFresh, kNamed, kNeg, kBin, kIf, kAnd, kOr, kNot, kImp, kIff, kAtom, kLet, kTheory, kIsCtor, kExists, kLetFresh, outside, Expr, Exprs, node, app, enil, econs, exprs}
 
 -- A constructor whose span ends at most at a limit.
 abbrev pub CtorWithin : Ctor → ℕ → Type 0
@@ -60,6 +60,7 @@ HasOperands (kLet x) n = n ≡ 2
 HasOperands (kTheory k) n = n ≡ 0
 HasOperands (kIsCtor x) n = n ≡ 1
 HasOperands (kExists bs) n = n ≡ 1
+HasOperands (kLetFresh k) n = n ≡ 2
 
 -- The fields of a kind are within their codes, its spans end at most at a limit, and its fresh numbers are below a bound.
 abbrev pub KindCoded : Kind → ℕ → ℕ → Type 0
@@ -82,6 +83,7 @@ KindCoded (kLet x) limit numbers = SpanWithin (x .span) limit
 KindCoded (kTheory k) limit numbers = k < 42
 KindCoded (kIsCtor x) limit numbers = SpanWithin (x .span) limit
 KindCoded (kExists bs) limit numbers = BindersCoded bs limit numbers
+KindCoded (kLetFresh k) limit numbers = k < numbers
 
 -- An expression that its words give back, where its fresh numbers are below 2^64.
 abbrev mutual
@@ -103,7 +105,7 @@ unfoldable mutual
   depths enil = 0
   depths (econs e es) = max (depth e) (depths es)
 
--- How many scopes a kind opens round its operands.
+-- How many scopes a kind opens round its operands, but for those outside.
 abbrev pub opensScope : Kind → ℕ
 opensScope (kNum v) = 0
 opensScope (kBool b) = 0
@@ -124,12 +126,19 @@ opensScope (kLet x) = 0
 opensScope (kTheory k) = 0
 opensScope (kIsCtor x) = 0
 opensScope (kExists bs) = 1
+opensScope (kLetFresh k) = 1
 
 -- How many scopes stand inside one another.
 unfoldable mutual
   pub scopes : Expr → ℕ
-  scopes (node k es) = opensScope k + scopesAll es
+  scopes (node k es) = scopesIn (outside k) (opensScope k) es
   scopes (app o es h) = max (scopesAll es) (scopes h)
+
+  -- operands, all but the first n of them inside so many more
+  pub scopesIn : ℕ → ℕ → Exprs → ℕ
+  scopesIn n more enil = more
+  scopesIn zero more (econs e es) = max (more + scopes e) (scopesIn zero more es)
+  scopesIn (suc n) more (econs e es) = max (scopes e) (scopesIn n more es)
 
   pub scopesAll : Exprs → ℕ
   scopesAll enil = 0

@@ -1,6 +1,6 @@
 -- Parsing as far as words go: what the parser writes of a tree at the reader's count, piece by piece.
-use Prim.Native.Nat.{ℕ, zero, suc}
-use mathlib.Core.List.{List, [], _++_}
+use Prim.Native.Nat.{ℕ, zero, suc, _+_}
+use mathlib.Core.List.{List, [], _∷_, _++_}
 use Rattle.reading.specs.Pick.{pick}
 use Rattle.reading.specs.Bytes.{Span}
 use Rattle.reading.specs.Tree.{Tree, Trees, tnil, tcons}
@@ -52,12 +52,20 @@ operandsW text count ts zero sc n = ok [] n
 operandsW text count tnil (suc k) sc n = no malformed
 operandsW text count (tcons t ts) (suc k) sc n = after (told count (child text t .nested sc n)) (λ m. operandsW text count ts k sc m)
 
--- What comes behind the operands: nothing, and then the names of a scope are judged; or one operand more, seen through or not.
+-- One after the other, and in front of both words that depend on the number between them.
+abbrev pub behind : W → (ℕ → List ℕ) → (ℕ → W) → W
+behind (ok ws n) front f = ahead (front n) (ahead ws (f n))
+behind (no r) front f = no r
+
+-- What comes behind the operands: nothing, and then the names of a scope are judged; or one operand more, seen through or not, or with
+-- a name bound to the next number.
 pub data Last : Type 0 where
   noLast : Last
   seenLast plainLast : Tree → Last
+  boundLast : Span → Tree → Last
 
 unfoldable pub endW : List ℕ → ℕ → Last → List Scope → List Span → ℕ → W
 endW text count noLast sc names n = pick (repeated text names) (no repeatedName) (ok [] n)
 endW text count (seenLast t) sc names n = told count (child text t .nested sc n)
 endW text count (plainLast t) sc names n = told count (child text t .plainly sc n)
+endW text count (boundLast s t) sc names n = told count (child text t .nested (record { names = s ∷ []; first = n } ∷ sc) (n + 1))

@@ -9,7 +9,7 @@ use borrow.Author.Tests.{lt-ltb, le-ltb}
 use Rattle.reading.specs.Pick.{pick}
 use Rattle.reading.specs.Bytes.{Span, nothing}
 use Rattle.reading.specs.Answer.{notWords}
-use Rattle.grammar.specs.Expr.{opAdd, opSub, opMul, opDiv, opMod, relEq, relNe, relGt, relGe, relLt, relLe, VarName, Binder, Kind, kBin, kAtom, kAnd, kOr, kBool, kStr, kNamed, kLet, kTheory, kIsCtor, kExists}
+use Rattle.grammar.specs.Expr.{opAdd, opSub, opMul, opDiv, opMod, relEq, relNe, relGt, relGe, relLt, relLe, VarName, Binder, Kind, kBin, kAtom, kAnd, kOr, kBool, kStr, kFresh, kNamed, kLet, kTheory, kIsCtor, kExists, kLetFresh}
 use Rattle.grammar.specs.Scope.{varOf}
 use Rattle.judging.specs.declared.End.{End}
 use Rattle.judging.specs.declared.End.the-variants as end
@@ -39,6 +39,11 @@ module _ (ws : List ℕ) (p n : ℕ) where
   last : (x : Judged ℕ) (g : ℕ → FromWords Plan) → ((a m : ℕ) → operandsAt (endOf (anyWords n ws m)) p ≡ headOf (g a ws m)) → operandsAt (endOf (goOn x (λ a us m. goOn (anyWords n us m) (λ rest. ret (a ∷ rest)) us) ws)) p ≡ headOf (goOn x g ws)
   last (reads a m) g h = ap (λ e. operandsAt e p) (ends-ret (anyWords n ws m) (λ rest. a ∷ rest) ws) ∙ h a m
   last (fails r) g h = refl
+
+-- The same behind a number of two words.
+numbered : (ws : List ℕ) (at : ℕ) (f : ℕ → Kind) (n : ℕ) → operandsAt (endOf (anyWords 2 ws at)) n ≡ headOf (goOn (twoWords ws at) (λ k. plan (f k) n) ws)
+unfolding several twoWords
+numbered ws at f n = more ws n 1 (word ws at) _ _ λ a i. more ws n 0 (word ws i) _ _ λ b j. refl
 
 -- Nothing taken off.
 less-none : (k : ℕ) → k - 0 ≡ k
@@ -97,9 +102,8 @@ module _ (limit : ℕ) (ws : List ℕ) (at : ℕ) {e : End} {r : Header} where
       behind (endOf (anyWords 5 ws at)) 0 q o ∙ more ws 0 4 (word ws at) _ _ λ a i. more ws 0 3 (word ws i) _ _ λ b j. more ws 0 2 (word ws j) _ _ λ c k. more ws 0 1 (word ws k) _ _ λ d l. last ws 0 0 (word ws l) _ λ w m. refl
 
   pub at-36 : e ≡ endOf (anyWords 2 ws at) → r ≡ operandsAt e 0 → r ≡ headOf (choose 32 (kinds limit) 36 ws at)
-  unfolding choose kinds pick several twoWords
-  at-36 q o =
-      behind (endOf (anyWords 2 ws at)) 0 q o ∙ more ws 0 1 (word ws at) _ _ λ a i. more ws 0 0 (word ws i) _ _ λ b j. refl
+  unfolding choose kinds pick
+  at-36 q o = behind (endOf (anyWords 2 ws at)) 0 q o ∙ numbered ws at kFresh 0
 
   pub at-37 : e ≡ endOf (spanWithin limit ws at) → r ≡ operandsAt e 0 → r ≡ headOf (choose 32 (kinds limit) 37 ws at)
   unfolding choose kinds pick nameWithin
@@ -124,6 +128,10 @@ module _ (limit : ℕ) (ws : List ℕ) (at : ℕ) {e : End} {r : Header} where
   pub at-50 : e ≡ endOf (spanWithin limit ws at) → r ≡ operandsAt e 1 → r ≡ headOf (choose 32 (kinds limit) 50 ws at)
   unfolding choose kinds pick nameWithin
   at-50 q o = behind (endOf (spanWithin limit ws at)) 1 q o ∙ named (spanWithin limit ws at) kIsCtor 1 ws
+
+  pub at-52 : e ≡ endOf (anyWords 2 ws at) → r ≡ operandsAt e 2 → r ≡ headOf (choose 32 (kinds limit) 52 ws at)
+  unfolding choose kinds pick
+  at-52 q o = behind (endOf (anyWords 2 ws at)) 2 q o ∙ numbered ws at kLetFresh 2
 
 module _ (limit : ℕ) (ws : List ℕ) (at : ℕ) where
   pub at-38 : {r : Header} → r ≡ headOf (choose 32 (kinds 0) 38 ws at) → r ≡ headOf (choose 32 (kinds limit) 38 ws at)
@@ -202,7 +210,7 @@ module _ (ws : List ℕ) (at : ℕ) where
   unfolding choose kinds pick
   quantified-out limit h = rw (word-out ws at h) refl
 
--- No kind from the 20th on.
+-- No kind from the 21st on.
 past : {A : Type 0} (rs : List A) (k : ℕ) → length rs ≤ k → among rs k ≡ nothing
 past [] k h = refl
 past (a ∷ rest) zero h = absurd (omega arith)
@@ -222,11 +230,11 @@ module _ (limit : ℕ) (ws : List ℕ) (at : ℕ) where
   unfolding header choose pick
   head-low h l = rw (word-in ws at h, lt-ltb (getD ws at 0) 32 l) refl
 
-  pub head-high : at < length ws → 52 ≤ getD ws at 0 → No 14 ≡ headOf (header limit ws at)
+  pub head-high : at < length ws → 53 ≤ getD ws at 0 → No 14 ≡ headOf (header limit ws at)
   unfolding header choose pick kinds
   head-high h l =
       let low : 32 ≤ getD ws at 0 = omega (arith, l) in
-      let far : 20 ≤ getD ws at 0 - 32 = omega (arith, l) in
+      let far : 21 ≤ getD ws at 0 - 32 = omega (arith, l) in
       rw (word-in ws at h, le-ltb (getD ws at 0) 32 low, past (kinds limit) (getD ws at 0 - 32) far) refl
 
   pub head-kind : (k : ℕ) {r : Header} → at < length ws → getD ws at 0 ≡ k → r ≡ headOf (choose 32 (kinds limit) k ws (at + 1)) → r ≡ headOf (header limit ws at)

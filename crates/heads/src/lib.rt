@@ -22,6 +22,7 @@ use words::expr_kinds::IFF;
 use words::expr_kinds::IMP;
 use words::expr_kinds::IS_CTOR;
 use words::expr_kinds::LET;
+use words::expr_kinds::LET_FRESH;
 use words::expr_kinds::NAMED;
 use words::expr_kinds::NEG;
 use words::expr_kinds::NOT;
@@ -140,6 +141,7 @@ pub fn head(words: &[u32], at: usize, limit: u64) -> Header
         THEORY => operands(below(words, a, 42), 0),
         IS_CTOR => operands(span_end(words, a, limit), 1),
         EXISTS => quantified(words, a, limit),
+        LET_FRESH => operands(skip(words, a, 2), 2),
         _ => Header::No(14),
     }
 }

@@ -69,13 +69,13 @@ siblings limit room n = several (exprDeep limit room) enil econs n
 
 module _ (ws : List ℕ) (at : ℕ) where
   -- Where there is no room.
-  pub full-known : at < length ws → 32 ≤ getD ws at 0 → getD ws at 0 < 52 → No 6 ≡ endOf (exprDeep 0 0 ws at)
+  pub full-known : at < length ws → 32 ≤ getD ws at 0 → getD ws at 0 < 53 → No 6 ≡ endOf (exprDeep 0 0 ws at)
   unfolding exprDeep pick kinds
-  full-known h l k = rw (word-in ws at h, le-ltb (getD ws at 0) 32 l, lt-ltb (getD ws at 0) 52 k) refl
+  full-known h l k = rw (word-in ws at h, le-ltb (getD ws at 0) 32 l, lt-ltb (getD ws at 0) 53 k) refl
 
-  pub full-high : at < length ws → 32 ≤ getD ws at 0 → 52 ≤ getD ws at 0 → No 14 ≡ endOf (exprDeep 0 0 ws at)
+  pub full-high : at < length ws → 32 ≤ getD ws at 0 → 53 ≤ getD ws at 0 → No 14 ≡ endOf (exprDeep 0 0 ws at)
   unfolding exprDeep pick kinds
-  full-high h l k = rw (word-in ws at h, le-ltb (getD ws at 0) 32 l, le-ltb (getD ws at 0) 52 k) refl
+  full-high h l k = rw (word-in ws at h, le-ltb (getD ws at 0) 32 l, le-ltb (getD ws at 0) 53 k) refl
 
   pub full-low : at < length ws → getD ws at 0 < 32 → No 14 ≡ endOf (exprDeep 0 0 ws at)
   unfolding exprDeep pick

@@ -12,7 +12,7 @@ use Rattle.reading.specs.At.{At}
 use Rattle.reading.proofs.Placed.{at-right, at-tail}
 use Rattle.grammar.specs.Sort.{Sort}
 use Rattle.grammar.specs.Item.{wordsOf}
-use Rattle.grammar.specs.Expr.{opAdd, opSub, opMul, opDiv, opMod, relEq, relNe, relGt, relGe, relLt, relLe, Kind, kNum, kBool, kStr, kBitVec, kFresh, kNamed, kNeg, kBin, kIf, kAnd, kOr, kNot, kImp, kIff, kAtom, kLet, kTheory, kIsCtor, kExists, kindItems, flag}
+use Rattle.grammar.specs.Expr.{opAdd, opSub, opMul, opDiv, opMod, relEq, relNe, relGt, relGe, relLt, relLe, Kind, kNum, kBool, kStr, kBitVec, kFresh, kNamed, kNeg, kBin, kIf, kAnd, kOr, kNot, kImp, kIff, kAtom, kLet, kTheory, kIsCtor, kExists, kLetFresh, kindItems, flag}
 use Rattle.grammar.specs.Shape.{HasOperands, KindCoded}
 use Rattle.judging.specs.Judge.{reads, choose, nameWithin, operandsOf, argumentsOf, kinds, header}
 use Rattle.judging.proofs.FieldsBack.{moved, word-back, below-back, two-back, four-back, span-back}
@@ -59,6 +59,7 @@ module _ (limit numbers : ℕ) (few : numbers ≤ 2 ^ 64) (ws : List ℕ) where
   kind-at (kIsCtor x) n at o c a = rw (o, word-back a, span-back limit (x .span) c (at-tail a)) (moved (omega arith))
   kind-at (kExists bs) n at o c a =
       rw (o, word-back a, word-back (at-tail a), binders-at limit numbers few ws bs (at + 1 + 1) c (at-tail (at-tail a))) (moved (omega arith))
+  kind-at (kLetFresh k) n at o c a = rw (o, word-back a, two-back k (omega (arith, c)) (at-tail a)) (moved (omega arith))
 
 module _ (limit : ℕ) (ws : List ℕ) where
   -- The first three words of an application are read where they stand.

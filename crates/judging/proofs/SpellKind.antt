@@ -56,6 +56,7 @@ module _ (limit : ℕ) (ws : List ℕ) (low : Low ws) where
       & step (wordBelow 42) (a-below 42) (λ k. done _ refl)
       & step (nameWithin limit) (a-name limit) (λ x. done _ refl)
       & step word a-word an-exists
+      & step twoWords (a-two low) (λ k. done _ refl)
       & last
 
   -- A kind and its fields, anywhere.

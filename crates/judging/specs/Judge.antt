@@ -10,7 +10,7 @@ use Rattle.reading.specs.Bytes.{Span, Maybe, nothing, just}
 use Rattle.reading.specs.Number.{Wide}
 use Rattle.reading.specs.Answer.{notWords, number, tooDeep}
 use Rattle.grammar.specs.Sort.{Ctor, cSet, cMap, cData, Sort, sInt, sBool, sReal, sStr, sBitVec, sSize, sVar, sFunc, sAbs, sApp, snil, scons}
-use Rattle.grammar.specs.Expr.{VarName, opAdd, opSub, opMul, opDiv, opMod, relEq, relNe, relGt, relGe, relLt, relLe, Binder, Kind, kNum, kBool, kStr, kBitVec, kFresh, kNamed, kNeg, kBin, kIf, kAnd, kOr, kNot, kImp, kIff, kAtom, kLet, kTheory, kIsCtor, kExists, Expr, node, app, enil, econs, Solution}
+use Rattle.grammar.specs.Expr.{VarName, opAdd, opSub, opMul, opDiv, opMod, relEq, relNe, relGt, relGe, relLt, relLe, Binder, Kind, kNum, kBool, kStr, kBitVec, kFresh, kNamed, kNeg, kBin, kIf, kAnd, kOr, kNot, kImp, kIff, kAtom, kLet, kTheory, kIsCtor, kExists, kLetFresh, Expr, node, app, enil, econs, Solution}
 use Rattle.grammar.specs.Scope.{varOf}
 
 -- What was read and the position behind it, or the number of a refusal.
@@ -222,6 +222,9 @@ module _ (limit : ℕ) where
         n ← word
         bs ← bindersAt n
         plan (kExists bs) 1)
+      ∷ (do
+        k ← twoWords
+        plan (kLetFresh k) 2)
       ∷ []
 
   unfoldable pub header : FromWords Plan

@@ -7,7 +7,7 @@ use lib.Dec.{eqb, ltb}
 use lib.ListN.{length}
 use Rattle.reading.specs.Answer.{notWords}
 use Rattle.reading.proofs.Picks.{pick-holds}
-use Rattle.grammar.specs.Expr.{opAdd, opSub, opMul, opDiv, opMod, relEq, relNe, relGt, relGe, relLt, relLe, Binder, Kind, kNum, kBool, kStr, kBitVec, kFresh, kNamed, kNeg, kBin, kIf, kAnd, kOr, kNot, kImp, kIff, kAtom, kLet, kTheory, kIsCtor, kExists}
+use Rattle.grammar.specs.Expr.{opAdd, opSub, opMul, opDiv, opMod, relEq, relNe, relGt, relGe, relLt, relLe, Binder, Kind, kNum, kBool, kStr, kBitVec, kFresh, kNamed, kNeg, kBin, kIf, kAnd, kOr, kNot, kImp, kIff, kAtom, kLet, kTheory, kIsCtor, kExists, kLetFresh, outside}
 use Rattle.grammar.specs.Shape.{opensScope}
 use Rattle.judging.specs.Judge.{reads, FromWords, _>>=_, ret, fail, word, wordBelow, among, orFail, choose, twoWords, fourWords, Plan, operandsOf, argumentsOf, plan, spanWithin, nameWithin, bindersAt, kinds, header}
 use Rattle.nodes.specs.Node.{nodeOf}
@@ -25,21 +25,25 @@ module _ (limit : ℕ) (ws : List ℕ) where
   abbrev Never : FromWords Plan → ℕ → Type 0
   Never r at = (n b : ℕ) (bs : List Binder) → r ws at ≡ reads (operandsOf (kExists bs) n) b → ⊥
 
-  never-plan : (k : Kind) (m : ℕ) → opensScope k ≡ 0 → (at : ℕ) → Never (plan k m) at
+  -- Every kind but an exists opens as many scopes as operands of it stand outside them.
+  abbrev NoExists : Kind → Type 0
+  NoExists k = opensScope k ≡ outside k
+
+  never-plan : (k : Kind) (m : ℕ) → NoExists k → (at : ℕ) → Never (plan k m) at
   never-plan k m h at n b bs e =
       let z : k ≡ kExists bs = cc in
-      let y : _≡_ {A = ℕ} 0 1 = sym h ∙ ap opensScope z in
+      let y : _≡_ {A = ℕ} 1 0 = sym (ap opensScope z) ∙ h ∙ ap outside z in
       omega (arith, y)
 
   -- Kinds that have no fields, and kinds by one reading of them.
-  plainly : (k : Kind) (m : ℕ) → opensScope k ≡ 0 → Finds (plan k m)
+  plainly : (k : Kind) (m : ℕ) → NoExists k → Finds (plan k m)
   plainly k m h at n b bs e = absurd (never-plan k m h at n b bs e)
 
-  by-fields : {A : Type 0} (p : FromWords A) (f : A → Kind) (m : ℕ) → ((a : A) → opensScope (f a) ≡ 0) → Finds (p >>= λ a. plan (f a) m)
+  by-fields : {A : Type 0} (p : FromWords A) (f : A → Kind) (m : ℕ) → ((a : A) → NoExists (f a)) → Finds (p >>= λ a. plan (f a) m)
   by-fields p f m h at n b bs e = first-read (p ws at) _ ws e λ a i x y. absurd (never-plan (f a) m (h a) i n b bs y)
 
   -- And, Or: any number of operands.
-  by-count : (k : Kind) → opensScope k ≡ 0 → Finds (word >>= λ m. plan k m)
+  by-count : (k : Kind) → NoExists k → Finds (word >>= λ m. plan k m)
   by-count k h at n b bs e = first-read (word ws at) _ ws e λ m i x y. absurd (never-plan k m h i n b bs y)
 
   by-bits : Finds (fourWords >>= λ v. word >>= λ width. plan (kBitVec v width) 0)
@@ -57,7 +61,7 @@ module _ (limit : ℕ) (ws : List ℕ) where
   -- One of several kinds, by a word.
   abbrev AllPlain : List Kind → Type 0
   AllPlain [] = Unit {0}
-  AllPlain (k ∷ ks) = (opensScope k ≡ 0) × AllPlain ks
+  AllPlain (k ∷ ks) = NoExists k × AllPlain ks
 
   never-among : (m : ℕ) (ks : List Kind) → AllPlain ks → (j at : ℕ) → Never (orFail (among (plansOf m ks) j)) at
   never-among m [] h j at n b bs e = never-reads e
@@ -90,7 +94,7 @@ module _ (limit : ℕ) (ws : List ℕ) where
   -- All the kinds.
   kinds-find : FindsAll (kinds limit)
   unfolding kinds
-  kinds-find = (by-fields fourWords kNum 0 (λ v. refl), (by-fields (wordBelow 2) (λ b. kBool (eqb b 1)) 0 (λ b. refl), (by-fields (spanWithin limit) kStr 0 (λ s. refl), (by-bits, (by-fields twoWords kFresh 0 (λ k. refl), (by-fields (nameWithin limit) kNamed 0 (λ x. refl), (by-arguments, (plainly kNeg 1 refl, (by-number 2 (kBin opAdd ∷ kBin opSub ∷ kBin opMul ∷ kBin opDiv ∷ kBin opMod ∷ []) (refl, (refl, (refl, (refl, (refl, tt))))), (plainly kIf 3 refl, (by-count kAnd refl, (by-count kOr refl, (plainly kNot 1 refl, (plainly kImp 2 refl, (plainly kIff 2 refl, (by-number 2 (kAtom relEq ∷ kAtom relNe ∷ kAtom relGt ∷ kAtom relGe ∷ kAtom relLt ∷ kAtom relLe ∷ []) (refl, (refl, (refl, (refl, (refl, (refl, tt)))))), (by-fields (nameWithin limit) kLet 2 (λ x. refl), (by-fields (wordBelow 42) kTheory 0 (λ k. refl), (by-fields (nameWithin limit) kIsCtor 1 (λ x. refl), (finds-exists, tt))))))))))))))))))))
+  kinds-find = (by-fields fourWords kNum 0 (λ v. refl), (by-fields (wordBelow 2) (λ b. kBool (eqb b 1)) 0 (λ b. refl), (by-fields (spanWithin limit) kStr 0 (λ s. refl), (by-bits, (by-fields twoWords kFresh 0 (λ k. refl), (by-fields (nameWithin limit) kNamed 0 (λ x. refl), (by-arguments, (plainly kNeg 1 refl, (by-number 2 (kBin opAdd ∷ kBin opSub ∷ kBin opMul ∷ kBin opDiv ∷ kBin opMod ∷ []) (refl, (refl, (refl, (refl, (refl, tt))))), (plainly kIf 3 refl, (by-count kAnd refl, (by-count kOr refl, (plainly kNot 1 refl, (plainly kImp 2 refl, (plainly kIff 2 refl, (by-number 2 (kAtom relEq ∷ kAtom relNe ∷ kAtom relGt ∷ kAtom relGe ∷ kAtom relLt ∷ kAtom relLe ∷ []) (refl, (refl, (refl, (refl, (refl, (refl, tt)))))), (by-fields (nameWithin limit) kLet 2 (λ x. refl), (by-fields (wordBelow 42) kTheory 0 (λ k. refl), (by-fields (nameWithin limit) kIsCtor 1 (λ x. refl), (finds-exists, (by-fields twoWords kLetFresh 2 (λ k. refl), tt)))))))))))))))))))))
 
   pub exists-binders : (at : ℕ) {bs : List Binder} {n a : ℕ} → header limit ws at ≡ reads (operandsOf (kExists bs) n) a → (j : ℕ) × (bindersAt limit (length bs) ws (at + 2) ≡ reads bs j)
   unfolding header choose
@@ -126,3 +130,4 @@ exists-told (kLet x) e = let z : _≡_ {A = ℕ} 0 1 = cc in absurd (omega (arit
 exists-told (kTheory k) e = let z : _≡_ {A = ℕ} 0 1 = cc in absurd (omega (arith, z))
 exists-told (kIsCtor x) e = let z : _≡_ {A = ℕ} 0 1 = cc in absurd (omega (arith, z))
 exists-told (kExists bs) e = (bs, refl, cc)
+exists-told (kLetFresh k) e = let z : _≡_ {A = ℕ} 0 1 = cc in absurd (omega (arith, z))

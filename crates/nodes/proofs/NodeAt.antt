@@ -11,7 +11,7 @@ use Rattle.reading.specs.Pick.{pick}
 use Rattle.reading.specs.Bytes.{Span, nothing}
 use Rattle.reading.specs.Number.{Wide}
 use Rattle.reading.specs.Answer.{notWords}
-use Rattle.grammar.specs.Expr.{VarName, opAdd, opSub, opMul, opDiv, opMod, relEq, relNe, relGt, relGe, relLt, relLe, Kind, kNum, kBool, kStr, kBitVec, kFresh, kNamed, kBin, kAtom, kLet, kTheory, kIsCtor, kExists}
+use Rattle.grammar.specs.Expr.{VarName, opAdd, opSub, opMul, opDiv, opMod, relEq, relNe, relGt, relGe, relLt, relLe, Kind, kNum, kBool, kStr, kBitVec, kFresh, kNamed, kBin, kAtom, kLet, kTheory, kIsCtor, kExists, kLetFresh}
 use Rattle.grammar.specs.Scope.{varOf}
 use Rattle.judging.specs.Judge.{reads, FromWords, _>>=_, ret, fail, word, wordBelow, among, orFail, choose, twoWords, fourWords, Plan, operandsOf, argumentsOf, plan, spanWithin, nameWithin, bindersAt, kinds, header}
 use Rattle.nodes.specs.Node.{nodeOf, nodesAt, orOther, nodeAt}
@@ -42,7 +42,7 @@ module _ (ws : List ℕ) (at : ℕ) where
   unfolding nodeAt pick
   told-low h = rw (lt-ltb (getD ws at 0) 32 h) refl
 
-  pub told-high : 52 ≤ getD ws at 0 → told.Other ≡ nodeAt ws at
+  pub told-high : 53 ≤ getD ws at 0 → told.Other ≡ nodeAt ws at
   unfolding nodeAt nodesAt pick
   told-high h =
       rw (le-ltb (getD ws at 0) 32 (omega (arith, h)), past (nodesAt ws (at + 1)) (getD ws at 0 - 32) (omega (arith, h))) refl
@@ -227,7 +227,10 @@ kinds-tell limit ws at = (
                                     by-fields ws at (wordBelow 42) kTheory 0 _ (λ k n e. ap told.Theory (sym (below-is ws at 42 e))),
                                     (
                                       by-fields ws at (nameWithin limit) kIsCtor 1 _ (λ x n e. ap (λ (o : VarName). told.IsCtor (o .span .start) (o .span .len)) (sym (name-is ws at limit e))),
-                                      (by-binders limit ws at, tt),
+                                      (
+                                        by-binders limit ws at,
+                                        (by-fields ws at twoWords kLetFresh 2 _ (λ k n e. ap told.LetFresh (sym (two-is ws at e))), tt),
+                                      ),
                                     ),
                                   ),
                                 ),

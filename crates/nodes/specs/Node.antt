@@ -5,7 +5,7 @@ use lib.Dec.{eqb, ltb}
 use lib.ListN.{length, getD}
 use Rattle.reading.specs.Pick.{pick}
 use Rattle.reading.specs.Bytes.{Maybe, nothing, just}
-use Rattle.grammar.specs.Expr.{opNumber, relNumber, Kind, kNum, kBool, kStr, kBitVec, kFresh, kNamed, kNeg, kBin, kIf, kAnd, kOr, kNot, kImp, kIff, kAtom, kLet, kTheory, kIsCtor, kExists}
+use Rattle.grammar.specs.Expr.{opNumber, relNumber, Kind, kNum, kBool, kStr, kBitVec, kFresh, kNamed, kNeg, kBin, kIf, kAnd, kOr, kNot, kImp, kIff, kAtom, kLet, kTheory, kIsCtor, kExists, kLetFresh}
 use Rattle.judging.specs.Judge.{among}
 use Rattle.nodes.specs.declared.kind.Node.{Node}
 use Rattle.nodes.specs.declared.kind.Node.the-variants as told
@@ -31,6 +31,7 @@ nodeOf (kLet x) = told.Let (x .span .start) (x .span .len)
 nodeOf (kTheory k) = told.Theory k
 nodeOf (kIsCtor x) = told.IsCtor (x .span .start) (x .span .len)
 nodeOf (kExists bs) = told.Exists (length bs)
+nodeOf (kLetFresh k) = told.LetFresh k
 
 -- What each kind from 32 on is, with fields that begin at a place; kind 38 is an application.
 unfoldable pub nodesAt : List ℕ → ℕ → List Node
@@ -55,6 +56,7 @@ nodesAt ws a =
     ∷ told.Theory (getD ws a 0)
     ∷ told.IsCtor (getD ws a 0) (getD ws (a + 1) 0)
     ∷ told.Exists (getD ws a 0)
+    ∷ told.LetFresh (getD ws a 0 + getD ws (a + 1) 0 * 2 ^ 32)
     ∷ []
 
 abbrev pub orOther : Maybe Node → Node

@@ -15,6 +15,7 @@ use words::expr_kinds::IFF;
 use words::expr_kinds::IMP;
 use words::expr_kinds::IS_CTOR;
 use words::expr_kinds::LET;
+use words::expr_kinds::LET_FRESH;
 use words::expr_kinds::NAMED;
 use words::expr_kinds::NEG;
 use words::expr_kinds::NOT;
@@ -24,8 +25,8 @@ use words::expr_kinds::STRING;
 use words::expr_kinds::THEORY;
 use words::number::words_to_long;
 
-// A kind and its fields: of a numeral its four words, of a name or a string the words of its span, of a fresh variable its number, of an
-// exists how many binders it has. An application is none of these.
+// A kind and its fields: of a numeral its four words, of a name or a string the words of its span, of a fresh variable and of a
+// let of one its number, of an exists how many binders it has. An application is none of these.
 pub enum Node {
     Num(u32, u32, u32, u32),
     Bool(bool),
@@ -46,6 +47,7 @@ pub enum Node {
     Theory(u32),
     IsCtor(u32, u32),
     Exists(u32),
+    LetFresh(u64),
     Other,
 }
 
@@ -100,6 +102,7 @@ pub fn kind_at(words: &[u32], at: usize) -> Node
         THEORY => Node::Theory(first),
         IS_CTOR => Node::IsCtor(first, second),
         EXISTS => Node::Exists(first),
+        LET_FRESH => Node::LetFresh(words_to_long(first, second)),
         _ => Node::Other,
     }
 }

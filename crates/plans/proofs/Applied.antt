@@ -21,9 +21,11 @@ use Rattle.grammar.specs.Written.{W, told, ahead, after, operandsW, Last, noLas
 use Rattle.places.specs.Spot.{Spot, Small}
 use Rattle.scopes.specs.Scopes.{inner}
 use Rattle.places.specs.Outcome.{bound, Put}
+use Rattle.plans.specs.Late.{filled}
 use Rattle.plans.specs.Plans.{Parsed, refused, Listed, PlannedList, EndsAt, endNesting, endSize, factor, most}
 use Rattle.plans.specs.declared.progress.Progress.the-variants.{Refused}
 use Rattle.plans.specs.declared.plan.Plan.the-variants.{Go}
+use Rattle.plans.specs.declared.plan.Run.{Run}
 use Rattle.grammar.proofs.FormsWritten.{after-done, as-told, call-told}
 use Rattle.places.proofs.Puts.{put-append}
 use Rattle.plans.proofs.ListPlans.{unbound}
@@ -110,6 +112,10 @@ module _ (text : List ℕ) (count : ℕ) (us : Trees) (sc : List Scope) (n : ℕ
 
 -- ---- what the code knows of an application
 
+-- So many of the items from a place on, and perhaps the head behind them.
+abbrev pub appRun : ℕ → ℕ → ℕ → ℕ → ℕ → Run
+appRun first have want last u = record { first = first; have = have; want = want; last = last; plain = false; names = 0; fresh = 0; pair = 0; words = u }
+
 module _ {text ws : List ℕ} {at w next : ℕ} {t : Tree} {us : Trees} (h : Listed text ws at w next (tcons t us)) where
   abbrev pub toldOf : ℕ → Tree → W
   toldOf count u = told count (ParseExpr.applyForm text (ParseExpr.children text (tcons u us)) (h .scopes) next)
@@ -150,10 +156,10 @@ module _ {text ws : List ℕ} {at w next : ℕ} {t : Tree} {us : Trees} (h : Lis
 
   -- Its words are laid, and so many of the other items are left to do, and perhaps the head.
   module _ (count : ℕ) {o o′ : List ℕ} {u j have : ℕ} (hd : List ℕ) (p : Put o w hd o′ u) (js : j ≡ length (treeWords t)) (hs : have ≡ getD ws (at + 1) 0 - 1) where
-    ap-run : (want last : ℕ) (final : Last) → EndsAt ws at last false final → h .depth + 1 + endNesting final ≤ maxLists → length hd + factor * endSize final ≤ factor * (3 + length (treeWords t))
+    ap-run : (want last : ℕ) (final : Last) → EndsAt ws at w (appRun (at + 3 + j) have want last u) final → h .depth + 1 + endNesting final ≤ maxLists → length hd + factor * endSize final ≤ factor * (3 + length (treeWords t))
         → toldOf count t ≡ ahead hd (after (operandsW text count us want (h .scopes) next) (λ m. endW text count final (h .scopes) [] m))
-        → PlannedList text count ws at w next (tcons t us) h (toldOf count t) o o′ (Go (record { first = at + 3 + j; have = have; want = want; last = last; plain = false; names = 0; fresh = 0; words = u }))
-    unfolding inner pick
+        → PlannedList text count ws at w next (tcons t us) h (toldOf count t) o o′ (Go (appRun (at + 3 + j) have want last u))
+    unfolding inner pick filled
     ap-run want last final ends deep short eq =
         record {
           items = us;
@@ -167,7 +173,7 @@ module _ {text ws : List ℕ} {at w next : ℕ} {t : Tree} {us : Trees} (h : Lis
           shallow = omega (arith, h .shallow, ap-deep, le-max-right (nesting t) (nestings us));
           endShallow = deep;
           room = omega (arith, p .is, ap-length, short);
-          goes = λ o″ q y. rw eq (out-ahead hd (p .words) (p .is) (rw (add-zero next) at y));
+          goes = λ o″ q m c y. rw eq (out-ahead hd (p .words) (p .is) (rw (add-zero next) at y));
         }
 
   module _ {m f : ℕ} (n : ListNode ws (at + 3) m f) where
@@ -214,7 +220,7 @@ module _ {text ws : List ℕ} {at w next : ℕ} {t : Tree} {us : Trees} (h : Lis
 
       -- A call: the head comes behind the other items.
       pub in-call : (count : ℕ) {o o′ : List ℕ} {u j have want : ℕ} → isApply text (in-second .first) ≡ false → Put o w (38 ∷ 0 ∷ (getD ws (at + 1) 0 - 1) ∷ []) o′ u → j ≡ length (treeWords t) → have ≡ getD ws (at + 1) 0 - 1 → want ≡ getD ws (at + 1) 0 - 1
-          → PlannedList text count ws at w next (tcons t us) h (toldOf count t) o o′ (Go (record { first = at + 3 + j; have = have; want = want; last = at + 3; plain = false; names = 0; fresh = 0; words = u }))
+          → PlannedList text count ws at w next (tcons t us) h (toldOf count t) o o′ (Go (appRun (at + 3 + j) have want (at + 3) u))
       unfolding endW
       in-call count {want = want} x p js hs wants =
           let others : getD ws (at + 1) 0 - 1 ≡ trees us = omega (arith, ap-many) in
@@ -223,7 +229,7 @@ module _ {text ws : List ℕ} {at w next : ℕ} {t : Tree} {us : Trees} (h : Lis
           ∙ ap (λ (u : Tree). ahead (38 ∷ 0 ∷ trees us ∷ []) (after (operandsW text count us (trees us) (h .scopes) next) (λ m. told count (ParseExpr.child text u .nested (h .scopes) m)))) (sym in-tree)
           ∙ rw (others, wants ∙ others) refl in
           ap-run count (38 ∷ 0 ∷ (getD ws (at + 1) 0 - 1) ∷ []) p js hs want (at + 3) (seenLast t)
-          (record { rest = treesWords us ++ h .rest; words = ap-head; beyond = omega arith }, refl)
+          (record { rest = treesWords us ++ h .rest; words = ap-head; beyond = omega arith }, refl, refl)
           (omega (arith, h .shallow, ap-deep, le-max-left (nesting t) (nestings us))) (omega arith) told-as
 
       module _ {j : ℕ} (js : j ≡ length (treeWords (in-first .first))) where
@@ -277,11 +283,11 @@ module _ {text ws : List ℕ} {at w next : ℕ} {t : Tree} {us : Trees} (h : Lis
 
             -- It is read: the function is left to do.
             pub in-apply : (count : ℕ) {o o₁ o₂ : List ℕ} {v u i have : ℕ} → Put o w (38 ∷ 1 ∷ 0 ∷ []) o₁ v → GotAt sortWords (parseSort text (in-third .first)) v o₁ o₂ u → i ≡ length (treeWords t) → have ≡ getD ws (at + 1) 0 - 1
-                → PlannedList text count ws at w next (tcons t us) h (toldOf count t) o o₂ (Go (record { first = at + 3 + i; have = have; want = 1; last = 0; plain = false; names = 0; fresh = 0; words = u }))
+                → PlannedList text count ws at w next (tcons t us) h (toldOf count t) o o₂ (Go (appRun (at + 3 + i) have 1 0 u))
             unfolding endW repeated pick
             in-apply count p g is hs =
                 let z : length (38 ∷ 1 ∷ 0 ∷ sortWords (g .value)) ≡ suc (suc (suc (length (sortWords (g .value))))) = refl in
-                ap-run count (38 ∷ 1 ∷ 0 ∷ sortWords (g .value)) (put-append (38 ∷ 1 ∷ 0 ∷ []) (sortWords (g .value)) p (g .put)) is hs 1 0 noLast refl
+                ap-run count (38 ∷ 1 ∷ 0 ∷ sortWords (g .value)) (put-append (38 ∷ 1 ∷ 0 ∷ []) (sortWords (g .value)) p (g .put)) is hs 1 0 noLast (refl, refl)
                 (omega (arith, h .shallow, ap-deep)) (omega (arith, third-length, sort-short text (in-third .first) (g .is)))
                 (ap (toldOf count) in-three ∙ apply-got text count us (h .scopes) next (in-first .first) (in-second .first) x (in-third .first) (in-third .others) (g .is)
                 ∙ ap (ahead (38 ∷ 1 ∷ 0 ∷ sortWords (g .value))) (sym (after-done (operandsW text count us 1 (h .scopes) next))))

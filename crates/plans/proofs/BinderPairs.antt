@@ -20,6 +20,7 @@ use Rattle.grammar.specs.ParseExpr.{nameOf, sortIn, Binders, binders}
 use Rattle.sorts.specs.Rows.{isGot}
 use Rattle.places.specs.Spot.{Spot, Small}
 use Rattle.scopes.specs.Scopes.{Named, none, more}
+use Rattle.scopes.proofs.Variables.{low-wrapped, high-wrapped}
 use Rattle.writing.specs.Laid.{laid}
 use Rattle.places.specs.Outcome.{bound, Put, OutcomeAt, wroteAt, refusedAt}
 use Rattle.plans.specs.Plans.{factor}
@@ -169,7 +170,7 @@ read-from text (tcons t ts) = go (is-pair t) (read-from text ts)
     both x (got o) e (bad r) h = tt
     both x (got o) e (got bs) h =
         record {
-          named = subst (λ (u : Tree). Named (tcons u ts) (x .name ∷ bs .names)) (sym (x .is)) (more {u = x .sort} (h .named));
+          named = subst (λ (u : Tree). Named (tcons u ts) (x .name ∷ bs .names)) (sym (x .is)) (more {us = tcons (x .sort) tnil} (h .named));
           many = ap suc (h .many);
           short = λ c n. omega (arith, ap length (words-more c n (x .name) o bs), length-append (two (c + n) ++ sortWords o) (bindersWords c (suc n) bs), length-append (two (c + n)) (sortWords o), sort-short text (x .sort) e, h .short c (suc n), pair-size t x, trees-size t ts);
         }
@@ -179,12 +180,6 @@ read-from text (tcons t ts) = go (is-pair t) (read-from text ts)
     go (not e) h = rw (binders-bad text t ts e) tt
 
 -- ---- the loop over binders
-
-low-wrapped : (v k : ℕ) → k ≡ v % 2 ^ 64 → k % 2 ^ 32 ≡ v % 2 ^ 32
-low-wrapped v k e = omega arith
-
-high-wrapped : (v k : ℕ) → k ≡ v % 2 ^ 64 → k / 2 ^ 32 % 2 ^ 32 ≡ v / 2 ^ 32 % 2 ^ 32
-high-wrapped v k e = omega arith
 
 wrapped-more : (v k k′ : ℕ) → k ≡ v % 2 ^ 64 → k′ ≡ (k + 1) % 2 ^ 64 → k′ ≡ suc v % 2 ^ 64
 wrapped-more v k k′ p q = omega arith
@@ -301,8 +296,8 @@ module _ {text ws : List ℕ} {at n from w : ℕ} {h : BinderRow ws at n w} {o :
                     wrapped-more (count + (next + i)) k k′ (g .num count next c) ke ∙ ap (λ (x : ℕ). x % 2 ^ 64) one);
                 goes = λ count next c o″ q x.
                     (let kk = g .num count next c in
-                    let la′ : a ≡ (count + (next + i)) % 2 ^ 32 = la ∙ low-wrapped (count + (next + i)) k kk in
-                    let hb′ : b ≡ (count + (next + i)) / 2 ^ 32 % 2 ^ 32 = hb ∙ high-wrapped (count + (next + i)) k kk in
+                    let la′ : a ≡ (count + (next + i)) % 2 ^ 32 = la ∙ sym (low-wrapped (count + (next + i)) k kk) in
+                    let hb′ : b ≡ (count + (next + i)) / 2 ^ 32 % 2 ^ 32 = hb ∙ sym (high-wrapped (count + (next + i)) k kk) in
                     let put′ : Put m v (two (count + (next + i))) m₁ u = rw (la′, hb′) at put in
                     let one : next + (i + 1) ≡ suc (next + i) = omega arith in
                     g .goes count next c o″ q (rw binders-here (out-binder count (next + i) (the-pair .name) put′ t (rw one at x))));

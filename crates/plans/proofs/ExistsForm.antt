@@ -23,6 +23,7 @@ use Rattle.grammar.specs.Written.{W, kindWords, told, ahead, after, operandsW, 
 use Rattle.places.specs.Spot.{Spot}
 use Rattle.scopes.specs.Scopes.{inner}
 use Rattle.places.specs.Outcome.{bound, Put}
+use Rattle.plans.specs.Late.{filled}
 use Rattle.plans.specs.Plans.{Parsed, refused, Listed, PlannedList, factor, most}
 use Rattle.plans.specs.BinderWords.{BinderRow, bindersWords}
 use Rattle.plans.specs.declared.progress.Progress.the-variants.{Refused}
@@ -164,8 +165,8 @@ module _ {text ws : List ℕ} {at w next : ℕ} {s : Span} {us : Trees} (h : Lis
       pub ex-go : (count : ℕ) {o o₁ o₂ : List ℕ} {v u j fresh : ℕ} → Put o w (51 ∷ m ∷ []) o₁ v → GotAt (bindersWords count next) (binders text (ex-list .items)) v o₁ o₂ u
           → j ≡ length (treeWords (ex-pair .first)) → fresh ≡ m
           → PlannedList text count ws at w next (tcons (atom (symbol s)) us) h (toldOf count us) o o₂
-          (Go (record { first = at + 6 + j; have = 1; want = 1; last = 0; plain = false; names = f; fresh = fresh; words = u }))
-      unfolding inner pick trees nestings
+          (Go (record { first = at + 6 + j; have = 1; want = 1; last = 0; plain = false; names = f; fresh = fresh; pair = 0; words = u }))
+      unfolding inner pick trees nestings filled
       ex-go count {o} {o₂ = o₂} {u = u} {j = j} {fresh = fresh} p g js fr =
           let bs = g .value in
           let r : ReadFrom (ex-list .items) bs = every-got (ReadFrom (ex-list .items)) (read-from text (ex-list .items)) (g .is) in
@@ -183,7 +184,7 @@ module _ {text ws : List ℕ} {at w next : ℕ} {s : Span} {us : Trees} (h : Lis
             many = refl;
             beyond = omega arith;
             final = noLast;
-            ends = refl;
+            ends = (refl, refl);
             bind = record {
               names = bs .names;
               pairs = ex-list .items;
@@ -195,7 +196,7 @@ module _ {text ws : List ℕ} {at w next : ℕ} {s : Span} {us : Trees} (h : Lis
             shallow = omega (arith, h .shallow, ex-deep, ns, le-max-right (nesting (ex-pair .first)) (max (nesting (ex-pair .second)) 0));
             endShallow = omega (arith, h .shallow, ex-deep);
             room = omega (arith, p .is, g .put .is, r .short count next, r .many, fn, ex-length, us-length);
-            goes = λ o″ q y.
+            goes = λ o″ q i c y.
                 rw (told-list count ∙ exists-got text count (atom (symbol s)) (h .scopes) next (ex-list .items) (ex-pair .second) (g .is), hd)
                 (out-ahead ((51 ∷ m ∷ []) ++ bindersWords count next bs) (all .words) (all .is) (rw (ne, fn) at y));
           }

@@ -12,22 +12,24 @@ use Rattle.reading.specs.Tree.{symbol, Tree, Trees, atom, list, tnil, tcons, tr
 use Rattle.reading.specs.Answer.{got, bad, malformed, Res, ok, no}
 use Rattle.grammar.specs.Scope.{Scope, repeated}
 use Rattle.grammar.specs.Item.{raise, wordsOf}
-use Rattle.grammar.specs.Expr.{Expr, kindItems}
+use Rattle.grammar.specs.Expr.{Expr, kLetFresh, kindItems}
 use Rattle.grammar.specs.ParseSort.{inSymbol, inAtom, symbolIn}
 use Rattle.grammar.specs.ParseExpr
 use Rattle.grammar.specs.ParseExpr.{childAt, nestedAt, letForm, atomChild, throughName, throughValue}
-use Rattle.grammar.specs.Written.{W, told, ahead, after, operandsW, endW, Last, noLast, seenLast}
+use Rattle.grammar.specs.Written.{kindWords, told, after, operandsW, endW, Last, noLast, boundLast}
 use Rattle.places.specs.Spot.{Seen}
-use Rattle.scopes.specs.Scopes.{inner}
+use Rattle.scopes.specs.Scopes.{Pairs, none, more, inner}
 use Rattle.places.specs.Outcome.{Put}
-use Rattle.plans.specs.Plans.{Parsed, Listed, PlannedList, EndsAt, endNesting, endSize, most}
+use Rattle.plans.specs.Late.{filled}
+use Rattle.plans.specs.Plans.{Parsed, Listed, PlannedList, Counts, EndsAt, endNesting, endSize, most}
+use Rattle.plans.specs.declared.progress.Progress.{Progress}
 use Rattle.plans.specs.declared.plan.Plan.the-variants.{Go}
 use Rattle.plans.specs.declared.plan.Run.{Run}
-use Rattle.grammar.proofs.FormsWritten.{after-done, let-told}
+use Rattle.grammar.proofs.FormsWritten.{letBehind, let-told, let-short}
 use Rattle.grammar.proofs.TreeHead.{no-symbol}
 use Rattle.places.proofs.Spots.{word0, as-list}
 use Rattle.places.proofs.Rows.{Leading, lead-spot, leading, lead-count, lead-size, lead-nesting, lead-next, list-inside, as-symbol}
-use Rattle.plans.proofs.Laid.{out-ahead}
+use Rattle.plans.proofs.Laid.{out-behind, out-missing, kind-filled}
 use Rattle.places.proofs.FirstTree.{none-left}
 use Rattle.plans.proofs.ListPlans.{unbound, head-count, head-others, head-shallow, head-most}
 use Rattle.plans.proofs.TreePlans.{three-there}
@@ -70,28 +72,14 @@ module _ (text : List ℕ) (s : Span) (sc : List Scope) (n : ℕ) where
   unfolding letForm childAt ParseExpr.child
   let-unnamed t ts e = rw e refl
 
-  let-named : (count : ℕ) (t v : Tree) (ts : Trees) {x : Span} → ParseExpr.child text t .letName ≡ got x → ParseExpr.child text t .letValue ≡ ParseExpr.child text v .nested
-      → told count (letOf (tcons t ts)) ≡ ahead (48 ∷ x .start ∷ x .len ∷ []) (operandsW text count (tcons v ts) 2 sc n)
-  unfolding letForm childAt nestedAt ParseExpr.child kindItems raise wordsOf
-  let-named count t v ts {x} e k = rw (e, k) (let-told text count x v ts sc n)
+  let-named : (t v : Tree) (ts : Trees) {x : Span} → ParseExpr.child text t .letName ≡ got x → ParseExpr.child text t .letValue ≡ ParseExpr.child text v .nested
+      → letOf (tcons t ts) ≡ letBehind text x v ts sc n
+  unfolding letForm childAt nestedAt ParseExpr.child
+  let-named t v ts {x} e k = rw (e, k) refl
 
--- The value, which stands behind the name at f, and what comes behind it.
-abbrev pub letRun : ℕ → ℕ → ℕ → ℕ → Run
-letRun f want last u = record { first = f + 3; have = 1; want = want; last = last; plain = false; names = 0; fresh = 0; words = u }
-
--- The value, and the body behind it.
-module _ (text : List ℕ) (count : ℕ) (v : Tree) (sc : List Scope) (n : ℕ) where
-  pub value-body : (b : Tree) (bs : Trees) → after (operandsW text count (tcons v tnil) 1 sc n) (λ m. endW text count (seenLast b) sc [] m) ≡ operandsW text count (tcons v (tcons b bs)) 2 sc n
-  unfolding operandsW endW
-  value-body b bs = ap (λ x. after x (λ m. told count (ParseExpr.child text b .nested sc m))) (after-done (told count (ParseExpr.child text v .nested sc n))) ∙ go (told count (ParseExpr.child text v .nested sc n))
-    where
-      go : (x : W) → after x (λ m. told count (ParseExpr.child text b .nested sc m)) ≡ after x (λ m. after (told count (ParseExpr.child text b .nested sc m)) (λ k. ok [] k))
-      go (ok ws m) = ap (ahead ws) (sym (after-done (told count (ParseExpr.child text b .nested sc m))))
-      go (no r) = refl
-
-  pub value-alone : after (operandsW text count (tcons v tnil) 2 sc n) (λ m. endW text count noLast sc [] m) ≡ operandsW text count (tcons v tnil) 2 sc n
-  unfolding endW repeated pick
-  value-alone = after-done (operandsW text count (tcons v tnil) 2 sc n)
+-- The value, which stands behind the name at f, and what comes behind it, where the pair's name is bound.
+abbrev pub letRun : ℕ → ℕ → ℕ → ℕ → ℕ → Run
+letRun f want last pair u = record { first = f + 3; have = 1; want = want; last = last; plain = false; names = 0; fresh = 0; pair = pair; words = u }
 
 -- ---- a let at a place
 
@@ -177,11 +165,33 @@ module _ {text ws : List ℕ} {at w next : ℕ} (s : Span) (us : Trees) (h : Lis
                 let y : length (treeWords (let-name .tree)) ≡ 3 = rw (as-symbol (lead-spot let-name) n) refl in
                 omega (arith, z, y, k .short, length-append (treeWords (let-name .tree)) (treeWords (let-value .tree) ++ treesWords (let-value .others)), length-append (treeWords (let-value .tree)) (treesWords (let-value .others)), length-append (treeWords (let-value .tree)) [])
 
-            module _ (count : ℕ) {u : ℕ} {o o′ : List ℕ} (p : Put o w (48 ∷ name .start ∷ name .len ∷ []) o′ u) where
+            -- The pair, as an entry of the open scopes has it.
+            abbrev pair : Tree
+            pair = list (tcons (atom (symbol name)) (tcons (let-value .tree) (let-value .others)))
+
+            pair-words : drop q ws ≡ treesWords (tcons pair tnil) ++ k .spot .rest
+            unfolding treesWords
+            pair-words =
+                k .spot .words ∙ ap (λ t. treeWords t ++ k .spot .rest) (pair-is ∙ ap (λ t. list (tcons t (tcons (let-value .tree) (let-value .others)))) (as-symbol (lead-spot let-name) n))
+                ∙ ap (λ l. l ++ k .spot .rest) (sym (append-nil (treeWords pair)))
+
+            abbrev pair-place : Pairs ws q 1
+            pair-place = record { names = name ∷ []; pairs = tcons pair tnil; rest = k .spot .rest; words = pair-words; named = more none; many = refl }
+
+            module _ (count : ℕ) {u : ℕ} {o o′ : List ℕ} (p : Put o w (52 ∷ []) o′ u) where
+              -- What the list is written as, the others being what stands behind the pair.
+              told-as : (bs : Trees) → let-pair .others ≡ bs → told count whole ≡ told count (letBehind text name (let-value .tree) bs (h .scopes) next)
+              told-as bs e =
+                  ap (λ ts. told count (letOf text s (h .scopes) next ts)) (let-pair .is)
+                  ∙ ap (told count) (let-named text s (h .scopes) next (let-pair .tree) (let-value .tree) (let-pair .others) named the-value)
+                  ∙ ap (λ ts. told count (letBehind text name (let-value .tree) ts (h .scopes) next)) e
+
               -- The value is an operand; what comes behind it.
-              module _ (want last : ℕ) (final : Last) (ends : EndsAt ws at last false final) (deep : endNesting final ≤ nestings (let-pair .others)) (size : endSize final ≤ length (treesWords (let-pair .others)))
-                  (same : after (operandsW text count (tcons (let-value .tree) tnil) want (h .scopes) next) (λ j. endW text count final (h .scopes) [] j) ≡ operandsW text count (tcons (let-value .tree) (let-pair .others)) 2 (h .scopes) next) where
-                made : PlannedList text count ws at w next (tcons (atom (symbol s)) us) h (told count whole) o o′ (Go (letRun f want last u))
+              module _ (want last bind : ℕ) (final : Last) (ends : EndsAt ws at w (letRun f want last bind (u + 2)) final) (deep : endNesting final ≤ nestings (let-pair .others)) (size : endSize final ≤ length (treesWords (let-pair .others)) + 1)
+                  (goes : (o″ : List ℕ) (q : Progress) (m : ℕ) → Counts (operandsW text count (tcons (let-value .tree) tnil) want (h .scopes) next) m
+                  → Parsed (after (operandsW text count (tcons (let-value .tree) tnil) want (h .scopes) next) (λ j. endW text count final (h .scopes) [] j)) (u + 2) (filled bind (w + 1) (count + m) o′) o″ (most w next (list (tcons (atom (symbol s)) us))) q
+                  → Parsed (told count whole) w o o″ (most w next (list (tcons (atom (symbol s)) us))) q) where
+                made : PlannedList text count ws at w next (tcons (atom (symbol s)) us) h (told count whole) o o′ (Go (letRun f want last bind (u + 2)))
                 unfolding inner pick trees
                 made = record {
                   items = tcons (let-value .tree) tnil;
@@ -195,28 +205,35 @@ module _ {text ws : List ℕ} {at w next : ℕ} (s : Span) (us : Trees) (h : Lis
                   shallow = omega (arith, head-shallow s us h, lead-nesting let-pair, le-max-left (nesting (let-pair .tree)) (nestings (let-pair .others)), value-nesting);
                   endShallow = omega (arith, head-shallow s us h, lead-nesting let-pair, le-max-right (nesting (let-pair .tree)) (nestings (let-pair .others)), deep);
                   room = omega (arith, p .is, head-most s us h, lead-size let-pair, value-size, size);
-                  goes = λ o″ q z.
-                      rw (ap (λ ts. told count (letOf text s (h .scopes) next ts)) (let-pair .is) ∙ let-named text s (h .scopes) next count (let-pair .tree) (let-value .tree) (let-pair .others) named the-value)
-                      (out-ahead (48 ∷ name .start ∷ name .len ∷ []) {x = operandsW text count (tcons (let-value .tree) (let-pair .others)) 2 (h .scopes) next} (p .words) (p .is)
-                      (subst (λ x. Parsed x u o′ o″ (most w next (list (tcons (atom (symbol s)) us))) q) same
-                      (subst (λ m. Parsed (after (operandsW text count (tcons (let-value .tree) tnil) want (h .scopes) m) (λ j. endW text count final (h .scopes) [] j)) u o′ o″ (most w next (list (tcons (atom (symbol s)) us))) q) (add-zero next) z)));
+                  goes = λ o″ q m c z.
+                      goes o″ q m (subst (λ j. Counts (operandsW text count (tcons (let-value .tree) tnil) want (h .scopes) j) m) (add-zero next) c)
+                      (subst (λ j. Parsed (after (operandsW text count (tcons (let-value .tree) tnil) want (h .scopes) j) (λ i. endW text count final (h .scopes) [] i)) (u + 2) (filled bind (w + 1) (count + m) o′) o″ (most w next (list (tcons (atom (symbol s)) us))) q) (add-zero next) z);
                 }
 
               -- Without a body: it is refused when it is reached.
               pub made-alone : getD ws (at + 1) 0 < 3
-                  → PlannedList text count ws at w next (tcons (atom (symbol s)) us) h (told count whole) o o′ (Go (letRun f 2 0 u))
+                  → PlannedList text count ws at w next (tcons (atom (symbol s)) us) h (told count whole) o o′ (Go (letRun f 2 0 0 (u + 2)))
+              unfolding operandsW
               made-alone b =
                   let z = none-left (let-pair .others) (omega (arith, head-count s us h, lead-count let-pair)) in
-                  made 2 0 noLast refl (omega arith) (omega arith)
-                  (value-alone text count (let-value .tree) (h .scopes) next ∙ ap (λ ts. operandsW text count (tcons (let-value .tree) ts) 2 (h .scopes) next) (sym z))
+                  made 2 0 0 noLast (refl, refl) (omega arith) (omega arith)
+                  (λ o″ q m c y. rw (told-as tnil z ∙ let-short text count name (let-value .tree) (h .scopes) next) (out-missing (told count (ParseExpr.child text (let-value .tree) .nested (h .scopes) next)) (λ j. endW text count noLast (h .scopes) [] j) y))
 
               -- The body stands behind the pair.
               pub made-body : {j : ℕ} → 3 ≤ getD ws (at + 1) 0 → j ≡ length (treeWords (let-pair .tree))
-                  → PlannedList text count ws at w next (tcons (atom (symbol s)) us) h (told count whole) o o′ (Go (letRun f 1 (at + 6 + j) u))
+                  → PlannedList text count ws at w next (tcons (atom (symbol s)) us) h (told count whole) o o′ (Go (letRun f 1 (at + 6 + j) q (u + 2)))
+              unfolding kindItems raise wordsOf
               made-body {j} b e =
                   let l = lead-next let-pair e (omega (arith, head-count s us h)) in
-                  made 1 (at + 6 + j) (seenLast (l .tree))
-                  (record { rest = treesWords (l .others) ++ l .rest; words = l .words; beyond = omega arith }, refl)
+                  let front : ℕ → List ℕ = λ m. kindWords count (kLetFresh m) 2 in
+                  made 1 (at + 6 + j) q (boundLast name (l .tree))
+                  (
+                    record { rest = treesWords (l .others) ++ l .rest; words = l .words; beyond = omega arith },
+                    refl,
+                    record { place = pair-place; named = refl; there = omega (arith, k .forward); free = omega (arith, p .is); alone = refl },
+                  )
                   (omega (arith, lead-nesting l, le-max-left (nesting (l .tree)) (nestings (l .others))))
                   (omega (arith, lead-size l))
-                  (value-body text count (let-value .tree) (h .scopes) next (l .tree) (l .others) ∙ ap (λ ts. operandsW text count (tcons (let-value .tree) ts) 2 (h .scopes) next) (sym (l .is)))
+                  (λ o″ a m c y.
+                  rw (told-as (tcons (l .tree) (l .others)) (l .is) ∙ let-told text count name (let-value .tree) (l .tree) (l .others) (h .scopes) next)
+                  (out-behind (operandsW text count (tcons (let-value .tree) tnil) 1 (h .scopes) next) front (λ i. endW text count (boundLast name (l .tree)) (h .scopes) [] i) m c (kind-filled q (count + m) (omega (arith, k .forward)) p) (omega (arith, p .is)) y))

@@ -24,6 +24,7 @@ use Rattle.grammar.specs.Written.{W, kindWords, told, ahead, after, operandsW, 
 use Rattle.places.specs.Spot.{Spot}
 use Rattle.scopes.specs.Scopes.{Pairs, none, inner}
 use Rattle.places.specs.Outcome.{Put}
+use Rattle.plans.specs.Late.{filled}
 use Rattle.plans.specs.Plans.{Parsed, refused, Listed, Filled, Headed, PlannedList, factor, most}
 use Rattle.plans.specs.declared.plan.Plan.{Plan}
 use Rattle.plans.specs.declared.plan.Plan.the-variants.{Stop, Go}
@@ -114,11 +115,11 @@ module _ (text : List ℕ) (count : ℕ) (ws : List ℕ) (at w next : ℕ) (s : 
 
   -- The operands behind the name.
   abbrev pub behindRun : ℕ → ℕ → Run
-  behindRun want u = record { first = at + 6; have = getD ws (at + 1) 0 - 1; want = want; last = 0; plain = false; names = 0; fresh = 0; words = u }
+  behindRun want u = record { first = at + 6; have = getD ws (at + 1) 0 - 1; want = want; last = 0; plain = false; names = 0; fresh = 0; pair = 0; words = u }
 
   pub made-behind : (k : Kind) (n : ℕ) (hd : List ℕ) {u : ℕ} → kindWords count k n ≡ hd → length hd ≤ 9 → Put o w hd o′ u
       → Made (told count (nodeForm k n (ParseExpr.children text (tcons (atom (symbol s)) us)) (h .scopes) next)) (Go (behindRun n u))
-  unfolding inner pick endW repeated
+  unfolding inner pick endW repeated filled
   made-behind k n hd {u} kw l p = record {
     items = us;
     rest = h .rest;
@@ -126,12 +127,12 @@ module _ (text : List ℕ) (count : ℕ) (ws : List ℕ) (at w next : ℕ) (s : 
     many = omega (arith, head-count s us h);
     beyond = omega arith;
     final = noLast;
-    ends = refl;
+    ends = (refl, refl);
     bind = unbound ws;
     shallow = head-shallow s us h;
     endShallow = omega (arith, head-shallow s us h);
     room = omega (arith, p .is, head-most s us h);
-    goes = λ o″ q z.
+    goes = λ o″ q m c z.
         rw (node-told text count k n (atom (symbol s)) us (h .scopes) next, kw)
         (out-ahead hd {x = operandsW text count us n (h .scopes) next} (p .words) (p .is)
         (subst (λ x. Parsed x u o′ o″ (most w next (list (tcons (atom (symbol s)) us))) q) (after-done (operandsW text count us n (h .scopes) next))
@@ -140,7 +141,7 @@ module _ (text : List ℕ) (count : ℕ) (ws : List ℕ) (at w next : ℕ) (s : 
 
 -- The one operand behind the name, which is not seen through.
 abbrev pub onlyRun : ℕ → ℕ → Run
-onlyRun at u = record { first = at + 6; have = 0; want = 0; last = at + 6; plain = true; names = 0; fresh = 0; words = u }
+onlyRun at u = record { first = at + 6; have = 0; want = 0; last = at + 6; plain = true; names = 0; fresh = 0; pair = 0; words = u }
 
 module _ (text : List ℕ) (count : ℕ) where
   -- What is written of that operand.
@@ -151,7 +152,7 @@ module _ (text : List ℕ) (count : ℕ) where
   module _ (ws : List ℕ) (at w next : ℕ) (s : Span) (o o′ : List ℕ) (x : W) (hd : List ℕ) (u : ℕ) where
     pub made-only : (us : Trees) (h : Listed text ws at w next (tcons (atom (symbol s)) us)) → x ≡ ahead hd (onlyOf us (h .scopes) next) → length hd ≤ 9 → Put o w hd o′ u
         → PlannedList text count ws at w next (tcons (atom (symbol s)) us) h x o o′ (pick (ltb (getD ws (at + 1) 0) 2) (Stop 8) (Go (onlyRun at u)))
-    unfolding pick endW inner trees treeWords nesting operandsW
+    unfolding pick endW inner trees treeWords nesting operandsW filled
     made-only tnil h e l p = rw (e, lt-ltb (getD ws (at + 1) 0) 2 (omega (arith, head-count s tnil h))) (refused refl)
     made-only (tcons t ts) h e l p =
         rw (le-ltb (getD ws (at + 1) 0) 2 (omega (arith, head-count s (tcons t ts) h)))
@@ -162,12 +163,12 @@ module _ (text : List ℕ) (count : ℕ) where
           many = refl;
           beyond = omega arith;
           final = plainLast t;
-          ends = (record { rest = treesWords ts ++ h .rest; words = head-others s (tcons t ts) h ∙ append-assoc (treeWords t) (treesWords ts) (h .rest); beyond = omega arith }, refl);
+          ends = (record { rest = treesWords ts ++ h .rest; words = head-others s (tcons t ts) h ∙ append-assoc (treeWords t) (treesWords ts) (h .rest); beyond = omega arith }, refl, refl);
           bind = unbound ws;
           shallow = omega (arith, head-shallow s (tcons t ts) h);
           endShallow = omega (arith, head-shallow s (tcons t ts) h, le-max-left (nesting t) (nestings ts));
           room = omega (arith, p .is, head-most s (tcons t ts) h, length-append (treeWords t) (treesWords ts));
-          goes = λ o″ q z.
+          goes = λ o″ q m c z.
               rw e
               (out-ahead hd {x = told count (ParseExpr.child text t .plainly (h .scopes) next)} (p .words) (p .is)
               (subst (λ y. Parsed y u o′ o″ (most w next (list (tcons (atom (symbol s)) (tcons t ts)))) q) (ahead-nil (told count (ParseExpr.child text t .plainly (h .scopes) next)))

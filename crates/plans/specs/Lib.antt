@@ -1,3 +1,4 @@
+pub mod Late
 pub mod Plans
 pub mod BinderWords
 pub mod Whole

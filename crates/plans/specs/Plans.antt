@@ -2,7 +2,7 @@
 use Prim.Native.Nat.{ℕ, _+_, _*_, _≤_, _<_}
 use mathlib.Core.Path.{_≡_}
 use mathlib.Core.Bool.{Bool, true, false}
-use mathlib.Core.List.{List, _++_}
+use mathlib.Core.List.{List, [], _∷_, _++_}
 use lib.ListN.{length, drop}
 use Rattle.reading.specs.Limits.{maxBytes, maxLists}
 use Rattle.reading.specs.Bytes.{Span}
@@ -10,11 +10,12 @@ use Rattle.reading.specs.Tree.{symbol, Tree, Trees, atom, list, tcons, trees, t
 use Rattle.reading.specs.Answer.{Refusal, number, ok, no}
 use Rattle.grammar.specs.Scope.{Scope}
 use Rattle.grammar.specs.ParseExpr.{child}
-use Rattle.grammar.specs.Written.{W, told, after, operandsW, endW, Last, noLast, seenLast, plainLast}
+use Rattle.grammar.specs.Written.{W, told, after, operandsW, endW, Last, noLast, seenLast, plainLast, boundLast}
 use Rattle.places.specs.Spot.{Spot}
 use Rattle.scopes.specs.Scopes.{Pairs, Opened, inner, slots}
 use Rattle.writing.specs.Laid.{laid}
 use Rattle.places.specs.Outcome.{bound}
+use Rattle.plans.specs.Late.{filled}
 use Rattle.plans.specs.declared.progress.Progress.{Progress}
 use Rattle.plans.specs.declared.progress.Progress.the-variants.{Done, Refused}
 use Rattle.plans.specs.declared.plan.Plan.{Plan}
@@ -96,24 +97,41 @@ pub record EndSpot (ws : List ℕ) (at l : ℕ) (t : Tree) : Type 0 where
   pub words : drop l ws ≡ treeWords t ++ rest
   pub beyond : at < l
 
--- The place of one tree more, 0 if there is none, and whether it is not seen through.
-abbrev pub EndsAt : List ℕ → ℕ → ℕ → Bool → Last → Type 0
-EndsAt ws at l p noLast = l ≡ 0
-EndsAt ws at l p (seenLast t) = EndSpot ws at l t × (p ≡ false)
-EndsAt ws at l p (plainLast t) = EndSpot ws at l t × (p ≡ true)
+-- The pair of a let that is written from w on: its name is bound behind the operands, and the words of its number are still free.
+pub record BoundPair (ws : List ℕ) (w : ℕ) (r : Run) (s : Span) : Type 0 where
+  pub place : Pairs ws (r .pair) 1
+  pub named : place .names ≡ s ∷ []
+  pub there : 0 < r .pair
+  pub free : w + 3 ≤ r .words
+  pub alone : r .names ≡ 0
 
--- How deep that tree nests, and how many words it has.
+-- The place of one tree more, 0 if there is none; whether it is not seen through; and the pair whose name is bound in it, 0 if there is none.
+abbrev pub EndsAt : List ℕ → ℕ → ℕ → Run → Last → Type 0
+EndsAt ws at w r noLast = (r .last ≡ 0) × (r .pair ≡ 0)
+EndsAt ws at w r (seenLast t) = EndSpot ws at (r .last) t × (r .plain ≡ false) × (r .pair ≡ 0)
+EndsAt ws at w r (plainLast t) = EndSpot ws at (r .last) t × (r .plain ≡ true) × (r .pair ≡ 0)
+EndsAt ws at w r (boundLast s t) = EndSpot ws at (r .last) t × (r .plain ≡ false) × BoundPair ws w r s
+
+-- How deep that tree nests, and how many words it has; one more for a number that is taken before it.
 abbrev pub endNesting : Last → ℕ
 endNesting noLast = 0
 endNesting (seenLast t) = nesting t
 endNesting (plainLast t) = nesting t
+endNesting (boundLast s t) = nesting t
 
 abbrev pub endSize : Last → ℕ
 endSize noLast = 0
 endSize (seenLast t) = length (treeWords t)
 endSize (plainLast t) = length (treeWords t)
+endSize (boundLast s t) = length (treeWords t) + 1
 
--- What is left to do of x, that a tree at a place is to be written as: operands, and what comes behind them.
+-- The next number behind words, if they are written.
+abbrev pub Counts : W → ℕ → Type 0
+Counts (ok ws n) m = n ≡ m
+Counts (no e) m = Unit {0}
+
+-- What is left to do of x, that a tree at a place is to be written as: operands, and what comes behind them. The number of a let is laid
+-- behind its kind's word before the body is read.
 pub record Running (text : List ℕ) (count : ℕ) (ws : List ℕ) (at depth next : ℕ) (sc : List Scope) (x : W) (w : ℕ) (o o′ : List ℕ) (b : ℕ) (r : Run) : Type 0 where
   pub items : Trees
   pub rest : List ℕ
@@ -121,14 +139,15 @@ pub record Running (text : List ℕ) (count : ℕ) (ws : List ℕ) (at depth nex
   pub many : r .have ≡ trees items
   pub beyond : at < r .first
   pub final : Last
-  pub ends : EndsAt ws at (r .last) (r .plain) final
+  pub ends : EndsAt ws at w r final
   pub bind : Pairs ws (r .names) (r .fresh)
   pub shallow : depth + 1 + nestings items ≤ maxLists
   pub endShallow : depth + 1 + endNesting final ≤ maxLists
   pub room : r .words + (next + r .fresh) + factor * length (treesWords items) + factor * endSize final ≤ b
-  pub goes : (o″ : List ℕ) (q : Progress)
+  pub goes : (o″ : List ℕ) (q : Progress) (m : ℕ)
+      → Counts (operandsW text count items (r .want) (inner (r .names) (bind .names) next sc) (next + r .fresh)) m
       → Parsed (after (operandsW text count items (r .want) (inner (r .names) (bind .names) next sc) (next + r .fresh))
-      (λ m. endW text count final (inner (r .names) (bind .names) next sc) (bind .names) m)) (r .words) o′ o″ b q
+      (λ n. endW text count final (inner (r .names) (bind .names) next sc) (bind .names) n)) (r .words) (filled (r .pair) (w + 1) (count + m) o′) o″ b q
       → Parsed x w o o″ b q
 
 -- What a plan says of x: it is refused, it is written, or what is left to do.

@@ -68,6 +68,7 @@ pub fn app_plan(
                 plain: false,
                 names: 0,
                 fresh: 0,
+                pair: 0,
                 words: u,
             }),
         };
@@ -81,6 +82,7 @@ pub fn app_plan(
         plain: false,
         names: 0,
         fresh: 0,
+        pair: 0,
         words: v,
     })
 }

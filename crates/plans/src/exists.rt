@@ -49,6 +49,7 @@ pub fn exists_plan(
             plain: false,
             names: first,
             fresh: length_to_long(n),
+            pair: 0,
             words: u,
         }),
     }

@@ -32,7 +32,7 @@ use words::tree_kinds::SYMBOL;
 // So many operands behind the name that a list of n items begins with.
 fn behind(n: u32, at: usize, want: usize, words: usize) -> Plan
     requires { ⌜ (0 < n) × (at < 2 ^ 63) ⌝ }
-    ensures { λ r. ⌜ r ≡ Go (record { first = at + 6; have = n - 1; want = want; last = 0; plain = false; names = 0; fresh = 0; words = words }) ⌝ }
+    ensures { λ r. ⌜ r ≡ Go (record { first = at + 6; have = n - 1; want = want; last = 0; plain = false; names = 0; fresh = 0; pair = 0; words = words }) ⌝ }
 {
     Plan::Go(Run {
         first: at + 6,
@@ -42,6 +42,7 @@ fn behind(n: u32, at: usize, want: usize, words: usize) -> Plan
         plain: false,
         names: 0,
         fresh: 0,
+        pair: 0,
         words: words,
     })
 }
@@ -49,7 +50,7 @@ fn behind(n: u32, at: usize, want: usize, words: usize) -> Plan
 // The one item behind it, which is not seen through.
 fn only(n: u32, at: usize, words: usize) -> Plan
     requires { ⌜ at < 2 ^ 63 ⌝ }
-    ensures { λ r. ⌜ r ≡ pick (ltb n 2) (Stop 8) (Go (record { first = at + 6; have = 0; want = 0; last = at + 6; plain = true; names = 0; fresh = 0; words = words })) ⌝ }
+    ensures { λ r. ⌜ r ≡ pick (ltb n 2) (Stop 8) (Go (record { first = at + 6; have = 0; want = 0; last = at + 6; plain = true; names = 0; fresh = 0; pair = 0; words = words })) ⌝ }
 {
     if n < 2 {
         return Plan::Stop(8);
@@ -62,6 +63,7 @@ fn only(n: u32, at: usize, words: usize) -> Plan
         plain: true,
         names: 0,
         fresh: 0,
+        pair: 0,
         words: words,
     })
 }

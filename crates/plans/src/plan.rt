@@ -12,8 +12,8 @@ use words::expr_kinds::STRING;
 use words::tree_kinds;
 
 // Operands that are left to read: where the first is, how many there are, how many are wanted; where one more stands behind them and
-// whether it is not seen through; the place of the first pair of a new scope, 0 if there is none, and how many pairs it has; the place behind
-// the words that are written.
+// whether it is not seen through; the place of the first pair of a new scope, 0 if there is none, and how many pairs it has; the place of the
+// pair whose name is bound behind the operands, 0 if there is none; the place behind the words that are written.
 pub struct Run {
     pub first: usize,
     pub have: usize,
@@ -22,6 +22,7 @@ pub struct Run {
     pub plain: bool,
     pub names: usize,
     pub fresh: u64,
+    pub pair: usize,
     pub words: usize,
 }
 

@@ -1,5 +1,5 @@
--- Demand 3 of document 01: one claim about every list of calls on one reader. It speaks of the replies that the methods' contracts promise.
--- The comments in quotation marks are the paper's words.
+-- Demand 3 of document 01, with the words that C-17 of document 02 gives it: one claim about every list of calls on one reader. It speaks of the
+-- replies that the methods' contracts promise. The comments in quotation marks are the papers' words.
 use Prim.Native.Nat.{ℕ, _+_, _≤_, _<_}
 use mathlib.Core.Path.{_≡_}
 use mathlib.Core.Logic.{_⊎_}
@@ -41,7 +41,7 @@ abbrev pub Gives : Call → ℕ → Final Term → Reply → Type 0
 Gives call c (accepts m n) reply = Accepts call c m n reply
 Gives call c (refuses r) reply = Refuses call c r reply
 
--- A turn at the count c has an answer, and every fresh number of it is bound by a parameter or an enclosing exists of that answer.
+-- A turn at the count c has an answer, and every fresh number of it is bound by a parameter or "an enclosing exists or let" of that answer.
 pub record Answered (c : ℕ) (t : Turn) : Type 0 where
   pub answer : Final Term
   pub gives : Gives (t .call) c answer (t .reply)
@@ -93,7 +93,7 @@ pub data Alike (old new : Call) (c : ℕ) (ro rn : Reply) : Type 0 where
 -- "Demand 3 is a single claim about the whole list of calls": a list, which may be empty, of calls of the six operations, each with any text
 -- and slices of any lengths and words, on a reader that was opened at a count.
 pub record Demand3 (opened : ℕ) (turns : List Turn) : Type 0 where
-  -- every call is answered, and every fresh number of every answer is bound by a parameter or an enclosing exists of that answer
+  -- every call is answered, and every fresh number of every answer is bound by a parameter or an enclosing exists or let of that answer
   pub answered : AllAnswered opened turns
   -- no number is bound twice in the whole list, and the count is what the reader was opened at plus all that accepted answers bound
   pub numbers : Exactly opened (boundIn opened turns answered) (lastCount opened turns)

@@ -31,12 +31,12 @@ pub record PairAt (ws : List ℕ) (p n : ℕ) (names : List Span) : Type 0 where
 pair-at : (ws : List ℕ) (p n : ℕ) (pairs : Trees) (names : List Span) (rest : List ℕ) → Named pairs names → drop p ws ≡ treesWords pairs ++ rest → n ≡ length names → 0 < n → PairAt ws p n names
 unfolding treeWords atomWords
 pair-at ws p n tnil [] rest none e m h = absurd (omega arith)
-pair-at ws p n (tcons t ts) (s ∷ ss) rest (more {u = u} x) e m h =
-    let t : Tree = list (tcons (atom (symbol s)) (tcons u tnil)) in
+pair-at ws p n (tcons t ts) (s ∷ ss) rest (more {us = us} x) e m h =
+    let t : Tree = list (tcons (atom (symbol s)) us) in
     let w : drop p ws ≡ treeWords t ++ (treesWords ts ++ rest) = e ∙ append-assoc (treeWords t) (treesWords ts) rest in
     let sp : Spot ws p = record { tree = t; rest = treesWords ts ++ rest; words = w } in
     let k : getD ws (p + 2) 0 + 3 ≡ length (treeWords t) = list-size sp (word0 sp) in
-    let z : getD ws (p + 2) 0 ≡ suc (suc (suc (length (treeWords u ++ [])))) = word sp 2 in
+    let z : getD ws (p + 2) 0 ≡ suc (suc (suc (length (treesWords us)))) = word sp 2 in
     record {
       left = record {
         names = ss;

@@ -17,10 +17,10 @@ use Rattle.scopes.specs.declared.entries.Found.{Found}
 use Rattle.scopes.specs.declared.entries.Found.the-variants as found
 
 -- A number of 64 bits has the words of the number that it was wrapped from.
-low-wrapped : (v k : ℕ) → k ≡ v % 2 ^ 64 → v % 2 ^ 32 ≡ k % 2 ^ 32
+pub low-wrapped : (v k : ℕ) → k ≡ v % 2 ^ 64 → v % 2 ^ 32 ≡ k % 2 ^ 32
 low-wrapped v k e = omega arith
 
-high-wrapped : (v k : ℕ) → k ≡ v % 2 ^ 64 → v / 2 ^ 32 % 2 ^ 32 ≡ k / 2 ^ 32 % 2 ^ 32
+pub high-wrapped : (v k : ℕ) → k ≡ v % 2 ^ 64 → v / 2 ^ 32 % 2 ^ 32 ≡ k / 2 ^ 32 % 2 ^ 32
 high-wrapped v k e = omega arith
 
 -- A symbol as an expression, by what is found out about its bytes w.

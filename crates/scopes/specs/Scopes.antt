@@ -1,4 +1,5 @@
--- The code's open scopes: entries of a slice, each the place of its first pair in the tree, how many pairs there are, and its first fresh number.
+-- The code's open scopes, of parameters, exists and let alike: entries of a slice, each the place of its first pair in the tree, how many
+-- pairs there are, and its first fresh number.
 use Prim.Native.Nat.{ℕ, zero, suc, _+_, _*_, _%_, _^_, _<_, _≤_}
 use mathlib.Core.Path.{_≡_}
 use mathlib.Core.List.{List, [], _∷_, _++_}
@@ -12,12 +13,12 @@ use Rattle.grammar.specs.Scope.{Scope, sameName}
 use Rattle.scopes.specs.declared.entries.Found.{Found}
 use Rattle.scopes.specs.declared.entries.Found.the-variants.{At, Nothing}
 
--- Trees that are pairs of a name and a sort, and the names.
+-- Trees that are lists beginning with a name, as `(name sort)` and the `(name value)` of a let do, and the names.
 pub data Named : Trees → List Span → Type 0 where
   none : Named tnil []
-  more : {s : Span} {u : Tree} {ts : Trees} {ss : List Span} → Named ts ss → Named (tcons (list (tcons (atom (symbol s)) (tcons u tnil))) ts) (s ∷ ss)
+  more : {s : Span} {us ts : Trees} {ss : List Span} → Named ts ss → Named (tcons (list (tcons (atom (symbol s)) us)) ts) (s ∷ ss)
 
--- So many pairs of a name and a sort, from a place on.
+-- So many of them from a place on.
 pub record Pairs (ws : List ℕ) (at n : ℕ) : Type 0 where
   pub names : List Span
   pub pairs : Trees

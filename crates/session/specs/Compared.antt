@@ -27,8 +27,8 @@ readsOrSorts expression = false
 readsOrSorts bind = false
 readsOrSorts solution = false
 
--- "a parameter encloses the solution's expression, an exists its body": each fresh number that an answer at the count c uses is bound by
--- one that encloses it.
+-- "a parameter encloses the solution's expression, an exists its body", "a let enclosing its body": each fresh number that an answer at the
+-- count c uses is bound by one that encloses it.
 abbrev pub ScopedTerm : ℕ → Term → Type 0
 ScopedTerm c (aRead all r) = Unit {0}
 ScopedTerm c (aSort s) = Unit {0}

@@ -12,7 +12,7 @@ use Rattle.reading.specs.Bytes.{ascii, sameBytes, Span, bytesAt, just}
 use Rattle.reading.specs.Number.{valueOf, isDigit}
 use Rattle.reading.specs.Answer.{Ans, got, check, unwritable}
 use Rattle.grammar.specs.Sort.{cSet, cMap, cData, Sort, Sorts, sInt, sBool, sReal, sStr, sBitVec, sSize, sVar, sFunc, sAbs, sApp, snil, scons, sorts}
-use Rattle.grammar.specs.Expr.{opNumber, relNumber, Binder, Kind, kNum, kBool, kStr, kBitVec, kFresh, kNamed, kNeg, kBin, kIf, kAnd, kOr, kNot, kImp, kIff, kAtom, kLet, kTheory, kIsCtor, kExists, Expr, Exprs, node, app, enil, econs, Solution}
+use Rattle.grammar.specs.Expr.{opNumber, relNumber, Binder, Kind, kNum, kBool, kStr, kBitVec, kFresh, kNamed, kNeg, kBin, kIf, kAnd, kOr, kNot, kImp, kIff, kAtom, kLet, kTheory, kIsCtor, kExists, kLetFresh, Expr, Exprs, node, app, enil, econs, Solution}
 use Rattle.grammar.proofs.AnswerHolds.{Every, then-every, any-every}
 use Rattle.writing.specs.Digits.{decimal}
 use Rattle.writing.proofs.DecimalBack.{decimal-back}
@@ -262,6 +262,7 @@ module _ (text : List ℕ) where
   fields-clean (kTheory k) = tt
   fields-clean (kIsCtor x) = then-every (symbolOf text "n " (x .span)) _ Fine CleanForm (name-clean (x .span)) λ n h. (under-run, (refl, (h, tt)))
   fields-clean (kExists bs) = then-every (varsOf text bs) _ CleanVars CleanForm (vars-clean bs) λ vs c. c
+  fields-clean (kLetFresh k) = fresh-fine k
 
   head-kind-clean : (k : Kind) → Every (headKind text k) CleanIdent
   unfolding headKind
@@ -284,6 +285,7 @@ module _ (text : List ℕ) where
   head-kind-clean (kTheory k) = function-clean k
   head-kind-clean (kIsCtor x) = tt
   head-kind-clean (kExists bs) = tt
+  head-kind-clean (kLetFresh k) = tt
 
   head-clean : (h : Expr) → Every (headOf text h) CleanIdent
   unfolding headOf

@@ -12,7 +12,7 @@ use Rattle.reading.specs.Bytes.{Span, bytesAt, Maybe}
 use Rattle.reading.specs.Number.{Wide, valueOf}
 use Rattle.reading.specs.Answer.{Ans, got, bad, andThen, check, unwritable, unprintable}
 use Rattle.grammar.specs.Sort.{Ctor, cSet, cMap, cData, Sort, Sorts, sSize, sApp, sorts}
-use Rattle.grammar.specs.Expr.{Kind, kNum, kBool, kStr, kBitVec, kFresh, kNamed, kNeg, kBin, kIf, kAnd, kOr, kNot, kImp, kIff, kAtom, kLet, kTheory, kIsCtor, kExists, Expr, Exprs, node, app, enil, econs, leaf, Solution}
+use Rattle.grammar.specs.Expr.{Kind, kNum, kBool, kStr, kBitVec, kFresh, kNamed, kNeg, kBin, kIf, kAnd, kOr, kNot, kImp, kIff, kAtom, kLet, kTheory, kIsCtor, kExists, kLetFresh, Expr, Exprs, node, app, enil, econs, leaf, Solution}
 use Rattle.grammar.proofs.AnswerHolds.{Every}
 use Rattle.smt.specs.Term.{tcons}
 use Rattle.smt.specs.Writer.{fitsWidth, functionOf, widthOf, Form, application, writable, allWritable, bytesOf, symbolOf, sortOf, sortsOf, varsOf, fieldsOf, headKind, headOf, termOf, termsOf, solutionTerm, written}
@@ -162,6 +162,7 @@ module _ (text : List ℕ) where
   got-head-kind (kTheory k) g = got-function k g
   got-head-kind (kIsCtor x) g = absurd g
   got-head-kind (kExists bs) g = absurd g
+  got-head-kind (kLetFresh k) g = absurd g
 
   got-head : (h : Expr) → Got (headOf text h) → IsHead h
   unfolding headOf

@@ -7,7 +7,7 @@ use lib.Dec.{ltb, eqb}
 use lib.ListN.{length}
 use Rattle.reading.specs.Pick.{pick}
 use Rattle.reading.specs.Limits.{maxNodes}
-use Rattle.grammar.specs.Expr.{opAdd, opSub, opMul, opDiv, opMod, relEq, relNe, relGt, relGe, relLt, relLe, Kind, kNum, kBool, kStr, kBitVec, kFresh, kNamed, kNeg, kBin, kIf, kAnd, kOr, kNot, kImp, kIff, kAtom, kLet, kTheory, kIsCtor, kExists, Expr, Exprs, node, app, enil, econs, exprs, Solution}
+use Rattle.grammar.specs.Expr.{opAdd, opSub, opMul, opDiv, opMod, relEq, relNe, relGt, relGe, relLt, relLe, Kind, kNum, kBool, kStr, kBitVec, kFresh, kNamed, kNeg, kBin, kIf, kAnd, kOr, kNot, kImp, kIff, kAtom, kLet, kTheory, kIsCtor, kExists, kLetFresh, Expr, Exprs, node, app, enil, econs, exprs, Solution}
 use Rattle.grammar.specs.Shape.{HasOperands}
 use Rattle.judging.specs.Judge.{reads, fails, FromWords, _>>=_, fail, word, wordBelow, among, orFail, choose, twoWords, fourWords, several, Plan, operandsOf, argumentsOf, plan, spanWithin, nameWithin, bindersAt, kinds, header, sortIf, planned, exprDeep, atEnd, exprAt, judgeSolution}
 use Rattle.judging.proofs.Spell.{Post, chain-post, post-any, post-reads}
@@ -82,6 +82,7 @@ module _ (limit : ℕ) where
       & behind (wordBelow 42) _ (λ k. says (kTheory k) 0 refl)
       & behind (nameWithin limit) _ (λ x. says (kIsCtor x) 1 refl)
       & behind word _ (λ n. behind (bindersAt limit n) _ (λ bs. says (kExists bs) 1 refl))
+      & behind twoWords _ (λ k. says (kLetFresh k) 2 refl)
       & last
 
   pub header-fits : Fitting (header limit)

@@ -12,14 +12,14 @@ use Rattle.reading.specs.Bytes.{ascii, sameBytes, Span, bytesAt, Maybe, lookup,
 use Rattle.reading.specs.Number.{valueOf}
 use Rattle.reading.specs.Answer.{Ans, got, bad, andThen, check, unwritable}
 use Rattle.grammar.specs.Sort.{cSet, cMap, cData, Sort, Sorts, sInt, sBool, sReal, sStr, sBitVec, sSize, sVar, sFunc, sAbs, sApp, snil, scons, sorts}
-use Rattle.grammar.specs.Expr.{relEq, Binder, Kind, kNum, kBool, kStr, kBitVec, kFresh, kNamed, kNeg, kBin, kIf, kAnd, kOr, kNot, kImp, kIff, kAtom, kLet, kTheory, kIsCtor, kExists, Expr, Exprs, node, app, enil, econs, Solution}
+use Rattle.grammar.specs.Expr.{relEq, Binder, Kind, kNum, kBool, kStr, kBitVec, kFresh, kNamed, kNeg, kBin, kIf, kAnd, kOr, kNot, kImp, kIff, kAtom, kLet, kTheory, kIsCtor, kExists, kLetFresh, Expr, Exprs, node, app, enil, econs, Solution}
 use Rattle.grammar.proofs.AnswerHolds.{Every, check-every, then-every}
 use Rattle.smt.specs.SexpBack.{then}
 use Rattle.smt.specs.Term.{Ident, plainIdent, SmtSort, SmtSorts, Var, Term, tnum, tstr, tid, tapp, Terms, tnil, tcons, terms, Closed, closedBytes}
 use Rattle.smt.specs.TermBack.{readClosed}
 use Rattle.smt.specs.Writer.{plainly, freshSymbol, bitsIdent, fitsWidth, widthOf, Form, alone, operator, folded, letting, some, applying, folding, quantified, formed, application, allWritable, bytesOf, symbolOf, sortOf, sortsOf, varsOf, fieldsOf, headKind, headOf, termOf, termsOf, solutionTerm, written}
-use Rattle.smt.specs.Meant.{dataSort, MeantSorts, onil, ocons, MeantVar, MeantKind, mNum, mBool, mStr, mIf, mAnd, mOr, mNot, mImp, mAtom, mLet, mIsCtor, Meant, says, calls, Meants, mnil, mcons, meants}
-use Rattle.smt.specs.Meaning.{ownFresh, ownName, lettered, ownOf, joining, variable, value, sense, plainSorts, ownSorted, namedSort, sortSense, sortMeaning, sortsMeaning, varsMeaning, meaning, meanings, closedMeaning, readSolution}
+use Rattle.smt.specs.Meant.{dataSort, MeantSorts, onil, ocons, MeantVar, MeantKind, mNum, mBool, mStr, mIf, mAnd, mOr, mNot, mImp, mAtom, mLet, mIsCtor, mLetFresh, Meant, says, calls, Meants, mnil, mcons, meants}
+use Rattle.smt.specs.Meaning.{Own, ownFresh, ownName, lettered, ownOf, letOnly, joining, variable, value, sense, plainSorts, ownSorted, namedSort, sortSense, sortMeaning, sortsMeaning, varsMeaning, meaning, meanings, closedMeaning, readSolution}
 use Rattle.smt.specs.Shape.{joined, bound, called, sortShape, sortsShape, varsShape, nodeShape, exprShape, exprsShape, shape}
 use Rattle.smt.specs.Claims.{ReadsBack}
 use Rattle.smt.proofs.Tests.{pick-known}
@@ -117,15 +117,15 @@ folded-means u k unit i p q ts es c = go ts es c
     go (tcons t (tcons v vs)) (mcons e (mcons f fs)) c =
         applied-means i t (tcons v vs) e (mcons f fs) (says k (mcons e (mcons f fs))) (c .0) (c .1) (joining-says i k q e f fs)
 
-letting-means : (w x : List ℕ) → ownOf w ≡ just (ownName x) → FormSays (says (mLet x)) (letting w)
+letting-means : (w : List ℕ) (own : Own) (k : MeantKind) → ownOf w ≡ just own → letOnly own ≡ just k → FormSays (says k) (letting w)
 unfolding formed meaning
-letting-means w x h tnil es c = tt
-letting-means w x h (tcons t tnil) es c = tt
-letting-means w x h (tcons t (tcons u tnil)) mnil c = absurd c
-letting-means w x h (tcons t (tcons u tnil)) (mcons e mnil) c = absurd (c .1)
-letting-means w x h (tcons t (tcons u tnil)) (mcons e (mcons f mnil)) c = rw (c .0, c .1 .0, h) refl
-letting-means w x h (tcons t (tcons u tnil)) (mcons e (mcons f (mcons g gs))) c = absurd (c .1 .1)
-letting-means w x h (tcons t (tcons u (tcons v vs))) es c = tt
+letting-means w own k h l tnil es c = tt
+letting-means w own k h l (tcons t tnil) es c = tt
+letting-means w own k h l (tcons t (tcons u tnil)) mnil c = absurd c
+letting-means w own k h l (tcons t (tcons u tnil)) (mcons e mnil) c = absurd (c .1)
+letting-means w own k h l (tcons t (tcons u tnil)) (mcons e (mcons f mnil)) c = rw (c .0, c .1 .0, h, l) refl
+letting-means w own k h l (tcons t (tcons u tnil)) (mcons e (mcons f (mcons g gs))) c = absurd (c .1 .1)
+letting-means w own k h l (tcons t (tcons u (tcons v vs))) es c = tt
 
 quantified-means : (vs : List Var) (bs : List MeantVar) (t : Term) (e : Meant) → MeansVars vs bs → meaning t ≡ just e → meaning (quantified vs t) ≡ just (bound bs (mcons e mnil))
 unfolding meaning
@@ -262,12 +262,13 @@ module _ (text : List ℕ) where
   fields-mean kImp = operator-means _ (plainly "=>") 2 (operator-says (plainly "=>") mImp 2 imp-sense)
   fields-mean kIff = operator-means _ (plainly "=") 2 (operator-says (plainly "=") (mAtom relEq) 2 equal-sense)
   fields-mean (kAtom r) = operator-means _ _ 2 (atom-says r)
-  fields-mean (kLet x) = named-form (kLet x) (x .span) letting (letting-means _ (bytesAt text (x .span)) (name-own (bytesAt text (x .span))))
+  fields-mean (kLet x) = named-form (kLet x) (x .span) letting (letting-means _ (ownName (bytesAt text (x .span))) _ (name-own (bytesAt text (x .span))) refl)
   fields-mean (kTheory k) = tt
   fields-mean (kIsCtor x) =
       named-form (kIsCtor x) (x .span) _ (operator-means _ _ 1 (operator-says _ (mIsCtor (bytesAt text (x .span))) 1 (test-sense (bytesAt text (x .span)))))
   fields-mean (kExists bs) =
       then-every (varsOf text bs) _ (VarsMean bs) (FormSays (nodeShape text (kExists bs))) (vars-mean bs) λ vs c. some-means vs (varsShape text bs) c
+  fields-mean (kLetFresh k) = letting-means (freshSymbol k) (ownFresh k) (mLetFresh k) (fresh-own k) refl
 
   -- Heads.
   head-kind-calls : (k : Kind) → Every (headKind text k) (Calls (nodeShape text k mnil))
@@ -292,6 +293,7 @@ module _ (text : List ℕ) where
   head-kind-calls (kTheory k) = function-calls k
   head-kind-calls (kIsCtor x) = tt
   head-kind-calls (kExists bs) = tt
+  head-kind-calls (kLetFresh k) = tt
 
   head-calls : (h : Expr) → Every (headOf text h) (Calls (exprShape text h))
   unfolding headOf exprShape

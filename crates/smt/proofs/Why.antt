@@ -13,7 +13,7 @@ use Rattle.reading.specs.Bytes.{Span, bytesAt, Maybe}
 use Rattle.reading.specs.Number.{Wide}
 use Rattle.reading.specs.Answer.{Refusal, tooLong, notUtf8, endsEarly, strayClose, unclosed, tooDeep, noRoom, malformed, decimalRead, repeatedName, badLiteral, badFunc, unwritable, unprintable, wrongWidth, Ans, got, bad, andThen, check}
 use Rattle.grammar.specs.Sort.{cSet, cMap, cData, Sort, Sorts, sInt, sBool, sReal, sStr, sBitVec, sSize, sVar, sFunc, sAbs, sApp, snil, scons, sorts}
-use Rattle.grammar.specs.Expr.{Binder, Kind, kNum, kBool, kStr, kBitVec, kFresh, kNamed, kNeg, kBin, kIf, kAnd, kOr, kNot, kImp, kIff, kAtom, kLet, kTheory, kIsCtor, kExists, Expr, Exprs, node, app, enil, econs, exprs, leaf, Solution}
+use Rattle.grammar.specs.Expr.{Binder, Kind, kNum, kBool, kStr, kBitVec, kFresh, kNamed, kNeg, kBin, kIf, kAnd, kOr, kNot, kImp, kIff, kAtom, kLet, kTheory, kIsCtor, kExists, kLetFresh, Expr, Exprs, node, app, enil, econs, exprs, leaf, Solution}
 use Rattle.grammar.specs.Shape.{HasOperands}
 use Rattle.smt.specs.Term.{Terms, tnil, tcons, terms}
 use Rattle.smt.specs.Writer.{fitsWidth, functionOf, widthOf, Form, alone, operator, folded, letting, some, applying, formed, application, writable, allWritable, bytesOf, symbolOf, sortOf, sortsOf, varsOf, fieldsOf, headKind, headOf, termOf, termsOf, solutionTerm, written}
@@ -188,6 +188,7 @@ HeadKind (kLet x) = ⊥
 HeadKind (kTheory k) = (9 ≤ k) × (k < 32)
 HeadKind (kIsCtor x) = ⊥
 HeadKind (kExists bs) = ⊥
+HeadKind (kLetFresh k) = ⊥
 
 abbrev Head : Expr → Type 0
 Head (node k enil) = HeadKind k
@@ -308,6 +309,7 @@ module _ (text : List ℕ) where
   fields-give (kIsCtor x) es h = name-gives (x .span) _ (exprs es) _ _ inCtorName λ w. (h, omega arith)
   fields-give (kExists bs) es h =
       then-gives (varsOf text bs) _ Any (λ f. Takes f (exprs es)) _ _ _ _ (vars-give bs) inVars byteInVars λ vs _. h
+  fields-give (kLetFresh k) es h = h
 
   -- The head of an application with arguments.
   head-kind-gives : (k : Kind) → Gives (headKind text k) Any (IsHead (leaf k) → ⊥) (Byte text (leaf k))
@@ -332,6 +334,7 @@ module _ (text : List ℕ) where
   head-kind-gives (kTheory k) = map-gives (functionOf k) Any _ ⊥ _ (Byte text (leaf (kTheory k))) (no-function k) (λ p. p) (λ c. absurd c)
   head-kind-gives (kIsCtor x) = is-head
   head-kind-gives (kExists bs) = is-head
+  head-kind-gives (kLetFresh k) = is-head
 
   head-gives : (h : Expr) → Gives (headOf text h) Any (IsHead h → ⊥) (Byte text h)
   unfolding headOf

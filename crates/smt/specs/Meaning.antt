@@ -10,7 +10,7 @@ use Rattle.smt.specs.SexpBack.{then, natural}
 use Rattle.smt.specs.Term.{Index, byNumber, bySymbol, Ident, SmtSort, SmtSorts, srt, rnil, rcons, Var, Term, tnum, tstr, tid, tapp, tlet, texists, Terms, tnil, tcons, Bindings, bnil, bcons, Closed}
 use Rattle.smt.specs.TermBack.{readClosed}
 use Rattle.smt.specs.Vocabulary.{operators, relations, bitVectors}
-use Rattle.smt.specs.Meant.{MeantSort, intSort, realSort, boolSort, stringSort, bitsSort, arraySort, dataSort, MeantSorts, onil, ocons, MeantVar, MeantKind, mNum, mBool, mStr, mBitVec, mFresh, mNamed, mNeg, mBin, mIf, mAnd, mOr, mNot, mImp, mAtom, mLet, mTheory, mIsCtor, mExists, Meant, says, calls, Meants, mnil, mcons, meants, MeantSolution}
+use Rattle.smt.specs.Meant.{MeantSort, intSort, realSort, boolSort, stringSort, bitsSort, arraySort, dataSort, MeantSorts, onil, ocons, MeantVar, MeantKind, mNum, mBool, mStr, mBitVec, mFresh, mNamed, mNeg, mBin, mIf, mAnd, mOr, mNot, mImp, mAtom, mLet, mTheory, mIsCtor, mExists, mLetFresh, Meant, says, calls, Meants, mnil, mcons, meants, MeantSolution}
 
 -- The first of two values that there is.
 abbrev pub orElse : {A : Type 0} → Maybe A → Maybe A → Maybe A
@@ -55,6 +55,12 @@ abbrev pub variableOnly : Own → Maybe MeantKind
 variableOnly (ownFresh k) = just (mFresh k)
 variableOnly (ownName w) = just (mNamed w)
 variableOnly (ownSort w) = nothing
+
+-- A let by the variable that it binds.
+abbrev pub letOnly : Own → Maybe MeantKind
+letOnly (ownFresh k) = just (mLetFresh k)
+letOnly (ownName w) = just (mLet w)
+letOnly (ownSort w) = nothing
 
 -- What an identifier is: a variable, which stands alone or is called; a value, which stands alone; a bit-vector function, which is called; an operator of
 -- just so many operands; one of at least two; and `-`, which is Neg of one operand and Sub of two.
@@ -174,9 +180,9 @@ varsMeaning (v ∷ vs) =
     then (varsMeaning vs) λ bs.
     just (record { var = k; sort = s } ∷ bs)
 
--- A let of one name.
+-- A let of one variable, which is a fresh one or a name.
 abbrev pub letMeaning : List ℕ → Bindings → Meant → Meant → Maybe Meant
-letMeaning w bnil e f = then (ownOf w) λ own. then (nameOnly own) λ name. just (says (mLet name) (mcons e (mcons f mnil)))
+letMeaning w bnil e f = then (ownOf w) λ own. then (letOnly own) λ k. just (says k (mcons e (mcons f mnil)))
 letMeaning w (bcons v t bs) e f = nothing
 
 -- A term.

@@ -39,6 +39,7 @@ pub data MeantKind : Type 0 where
   mTheory : ℕ → MeantKind
   mIsCtor : List ℕ → MeantKind
   mExists : List MeantVar → MeantKind
+  mLetFresh : ℕ → MeantKind
 
 -- An expression.
 mutual

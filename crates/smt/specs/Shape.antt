@@ -7,8 +7,8 @@ use mathlib.Core.List.{List, [], _∷_}
 use Rattle.reading.specs.Bytes.{bytesAt}
 use Rattle.reading.specs.Number.{valueOf}
 use Rattle.grammar.specs.Sort.{Ctor, cSet, cMap, cData, Sort, Sorts, sInt, sBool, sReal, sStr, sBitVec, sSize, sVar, sFunc, sAbs, sApp, snil, scons}
-use Rattle.grammar.specs.Expr.{relEq, Binder, Kind, kNum, kBool, kStr, kBitVec, kFresh, kNamed, kNeg, kBin, kIf, kAnd, kOr, kNot, kImp, kIff, kAtom, kLet, kTheory, kIsCtor, kExists, Expr, Exprs, node, app, enil, econs, Solution}
-use Rattle.smt.specs.Meant.{MeantSort, intSort, realSort, boolSort, stringSort, bitsSort, arraySort, dataSort, unsaid, MeantSorts, onil, ocons, MeantVar, MeantKind, mNum, mBool, mStr, mBitVec, mFresh, mNamed, mNeg, mBin, mIf, mAnd, mOr, mNot, mImp, mAtom, mLet, mTheory, mIsCtor, mExists, Meant, says, calls, Meants, mnil, mcons, MeantSolution}
+use Rattle.grammar.specs.Expr.{relEq, Binder, Kind, kNum, kBool, kStr, kBitVec, kFresh, kNamed, kNeg, kBin, kIf, kAnd, kOr, kNot, kImp, kIff, kAtom, kLet, kTheory, kIsCtor, kExists, kLetFresh, Expr, Exprs, node, app, enil, econs, Solution}
+use Rattle.smt.specs.Meant.{MeantSort, intSort, realSort, boolSort, stringSort, bitsSort, arraySort, dataSort, unsaid, MeantSorts, onil, ocons, MeantVar, MeantKind, mNum, mBool, mStr, mBitVec, mFresh, mNamed, mNeg, mBin, mIf, mAnd, mOr, mNot, mImp, mAtom, mLet, mTheory, mIsCtor, mExists, mLetFresh, Meant, says, calls, Meants, mnil, mcons, MeantSolution}
 
 -- No operand, by a constant; one, which stands alone; or more.
 abbrev pub joined : Bool → MeantKind → Meants → Meant
@@ -99,6 +99,7 @@ module _ (text : List ℕ) where
   nodeShape (kTheory k) es = says (mTheory k) es
   nodeShape (kIsCtor x) es = says (mIsCtor (bytesAt text (x .span))) es
   nodeShape (kExists bs) es = bound (varsShape bs) es
+  nodeShape (kLetFresh k) es = says (mLetFresh k) es
 
   -- An output sort is skipped.
   unfoldable mutual

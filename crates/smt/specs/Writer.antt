@@ -9,7 +9,7 @@ use Rattle.reading.specs.Bytes.{ascii, Span, bytesAt, Named, named}
 use Rattle.reading.specs.Number.{Wide, valueOf}
 use Rattle.reading.specs.Answer.{Ans, got, bad, andThen, check, unwritable, unprintable}
 use Rattle.grammar.specs.Sort.{cSet, cMap, cData, Sort, Sorts, sInt, sBool, sReal, sStr, sBitVec, sSize, sVar, sFunc, sAbs, sApp, snil, scons, sorts}
-use Rattle.grammar.specs.Expr.{opNumber, relNumber, Binder, Kind, kNum, kBool, kStr, kBitVec, kFresh, kNamed, kNeg, kBin, kIf, kAnd, kOr, kNot, kImp, kIff, kAtom, kLet, kTheory, kIsCtor, kExists, Expr, Exprs, node, app, enil, econs, Solution}
+use Rattle.grammar.specs.Expr.{opNumber, relNumber, Binder, Kind, kNum, kBool, kStr, kBitVec, kFresh, kNamed, kNeg, kBin, kIf, kAnd, kOr, kNot, kImp, kIff, kAtom, kLet, kTheory, kIsCtor, kExists, kLetFresh, Expr, Exprs, node, app, enil, econs, Solution}
 use Rattle.writing.specs.Digits.{decimal}
 use Rattle.smt.specs.Term.{byNumber, bySymbol, Ident, plainIdent, SmtSort, SmtSorts, srt, rnil, rcons, Var, Term, Terms, tnum, tstr, tid, tapp, tlet, texists, tnil, tcons, terms, bnil, Closed, closedBytes}
 use Rattle.smt.specs.Vocabulary.{operators, relations, bitVectors}
@@ -173,6 +173,7 @@ module _ (text : List ℕ) where
   fieldsOf (kTheory k) = bad unwritable
   fieldsOf (kIsCtor x) = andThen (symbolOf "n " (x .span)) λ name. got (operator (record { name = ascii "is"; indices = bySymbol name ∷ [] }) 1)
   fieldsOf (kExists bs) = andThen (varsOf bs) λ vs. got (some vs)
+  fieldsOf (kLetFresh k) = got (letting (freshSymbol k))
 
   -- The head of an application with arguments: a variable or a bit-vector function.
   unfoldable pub headKind : Kind → Ans Ident
@@ -195,6 +196,7 @@ module _ (text : List ℕ) where
   headKind (kTheory k) = functionOf k
   headKind (kIsCtor x) = bad unwritable
   headKind (kExists bs) = bad unwritable
+  headKind (kLetFresh k) = bad unwritable
 
   unfoldable pub headOf : Expr → Ans Ident
   headOf (node k enil) = headKind k

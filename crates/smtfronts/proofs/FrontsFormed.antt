@@ -9,7 +9,7 @@ use Rattle.reading.specs.Pick.{pick}
 use Rattle.reading.specs.Number.{valueOf}
 use Rattle.reading.specs.Answer.{Ans, got, bad, unwritable}
 use Rattle.reading.proofs.Picks.{pick-holds}
-use Rattle.grammar.specs.Expr.{Kind, kNum, kBool, kStr, kBitVec, kFresh, kNamed, kNeg, kBin, kIf, kAnd, kOr, kNot, kImp, kIff, kAtom, kLet, kTheory, kIsCtor, kExists}
+use Rattle.grammar.specs.Expr.{Kind, kNum, kBool, kStr, kBitVec, kFresh, kNamed, kNeg, kBin, kIf, kAnd, kOr, kNot, kImp, kIff, kAtom, kLet, kTheory, kIsCtor, kExists, kLetFresh}
 use Rattle.grammar.specs.Shape.{HasOperands}
 use Rattle.grammar.proofs.AnswerHolds.{Every, any-every}
 use Rattle.smt.specs.Term.{Ident, Var, Term, Terms, tid, tapp, tlet, bnil, tnil, tcons, terms}
@@ -87,6 +87,7 @@ module _ (text : List ℕ) (n : ℕ) where
   kind-takes (kTheory k) h = tt
   kind-takes (kIsCtor x) h = any-every (symbolOf text "n " (x .span)) _ (Takes n) λ name. (h, omega arith)
   kind-takes (kExists bs) h = any-every (varsOf text bs) _ (Takes n) λ vs. h
+  kind-takes (kLetFresh k) h = h
 
 -- What holds of every answer holds of the one that is got.
 pub every-got : {A : Type 0} (Q : A → Type 0) {x : Ans A} {a : A} → Every x Q → x ≡ got a → Q a

@@ -9,7 +9,7 @@ use Rattle.reading.specs.Pick.{pick}
 use Rattle.reading.specs.Bytes.{ascii, Span}
 use Rattle.reading.specs.Number.{Wide, valueOf}
 use Rattle.reading.specs.Answer.{Ans, got, bad, andThen, unwritable}
-use Rattle.grammar.specs.Expr.{BinOp, opNumber, opAdd, opSub, opMul, opDiv, opMod, Relation, relNumber, relEq, relNe, relGt, relGe, relLt, relLe, Binder, Kind, kNum, kBool, kStr, kBitVec, kFresh, kNamed, kNeg, kBin, kIf, kAnd, kOr, kNot, kImp, kIff, kAtom, kLet, kTheory, kIsCtor, kExists}
+use Rattle.grammar.specs.Expr.{BinOp, opNumber, opAdd, opSub, opMul, opDiv, opMod, Relation, relNumber, relEq, relNe, relGt, relGe, relLt, relLe, Binder, Kind, kNum, kBool, kStr, kBitVec, kFresh, kNamed, kNeg, kBin, kIf, kAnd, kOr, kNot, kImp, kIff, kAtom, kLet, kTheory, kIsCtor, kExists, kLetFresh}
 use Rattle.nodes.specs.Node.{nodeOf}
 use Rattle.nodes.specs.declared.kind.Node.the-variants as told
 use Rattle.writing.specs.Digits.{decimal}
@@ -21,7 +21,7 @@ use Rattle.smt.proofs.Text.{barred-text, fresh-text, operator-text, relation-te
 use Rattle.smtnames.specs.Pieces.{joined, nameText, freshText, stringText, varsText}
 use Rattle.smtoperators.specs.Operators.{operatorText}
 use Rattle.smtbools.specs.Bools.{foldedText}
-use Rattle.smtfronts.specs.Fronts.{frontOf, frontText, bitsText, nodeText, Numbered, existsText}
+use Rattle.smtfronts.specs.Fronts.{frontOf, frontText, bitsText, letFreshText, nodeText, Numbered, existsText}
 use Rattle.smtfunctions.proofs.Symbols.{own-bare}
 
 -- Operators and relations have numbers in their tables.
@@ -60,6 +60,7 @@ node-numbered (kLet x) = tt
 node-numbered (kTheory k) = tt
 node-numbered (kIsCtor x) = tt
 node-numbered (kExists bs) = tt
+node-numbered (kLetFresh k) = tt
 
 -- A constructor test.
 test-print : (name : List ℕ) → ascii "((_ is " ++ ((124 ∷ 110 ∷ 32 ∷ name ++ (124 ∷ [])) ++ ascii ") ") ≡ operatorText (print (identSx (record { name = ascii "is"; indices = bySymbol (ascii "n " ++ name) ∷ [] })))
@@ -143,7 +144,7 @@ exists-front text (b ∷ bs) n = go (sortOf text (b .sort)) (varsOf text bs)
 
 -- Every other kind.
 pub node-front : (text : List ℕ) (k : Kind) (n : ℕ) → ((m : ℕ) → nodeOf k ≡ told.Exists m → ⊥) → nodeText text (nodeOf k) n ≡ frontText text k n
-unfolding frontText fieldsOf frontOf freshText print termSx
+unfolding frontText fieldsOf frontOf freshText letFreshText print termSx
 node-front text (kNum v) n h = refl
 node-front text (kBool true) n h = ap got (sym (own-bare .yes))
 node-front text (kBool false) n h = ap got (sym (own-bare .no))
@@ -164,3 +165,4 @@ node-front text (kLet x) n h = let-front n text (x .span)
 node-front text (kTheory k) n h = refl
 node-front text (kIsCtor x) n h = test-front n text (x .span)
 node-front text (kExists bs) n h = absurd (h (length bs) refl)
+node-front text (kLetFresh k) n h = ap (λ l. got (ascii "(let ((" ++ (l ++ (32 ∷ [])))) (sym (fresh-text k))

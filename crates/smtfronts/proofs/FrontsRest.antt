@@ -11,7 +11,7 @@ use Rattle.smtseams.proofs.Rest.{Among}
 
 -- Every kind but variables and theory functions.
 abbrev callee-left : List ℕ
-callee-left = 0 ∷ 1 ∷ 2 ∷ 3 ∷ 6 ∷ 7 ∷ 8 ∷ 9 ∷ 10 ∷ 11 ∷ 12 ∷ 13 ∷ 14 ∷ 15 ∷ 17 ∷ 18 ∷ 19 ∷ []
+callee-left = 0 ∷ 1 ∷ 2 ∷ 3 ∷ 6 ∷ 7 ∷ 8 ∷ 9 ∷ 10 ∷ 11 ∷ 12 ∷ 13 ∷ 14 ∷ 15 ∷ 17 ∷ 18 ∷ 19 ∷ 20 ∷ []
 
 pub rest-callee : (text : List ℕ) (node : Node) → Among callee-left node → bad unwritable ≡ calleeText text node
 rest-callee text (told.Num a b c d) h = refl
@@ -33,11 +33,12 @@ rest-callee text (told.Let start len) h = refl
 rest-callee text (told.Theory k) h = absurd (miss callee-left 16 tt h)
 rest-callee text (told.IsCtor start len) h = refl
 rest-callee text (told.Exists m) h = refl
+rest-callee text (told.LetFresh k) h = refl
 rest-callee text told.Other h = refl
 
 -- Every kind but an exists.
 abbrev front-left : List ℕ
-front-left = 0 ∷ 1 ∷ 2 ∷ 3 ∷ 4 ∷ 5 ∷ 6 ∷ 7 ∷ 8 ∷ 9 ∷ 10 ∷ 11 ∷ 12 ∷ 13 ∷ 14 ∷ 15 ∷ 16 ∷ 17 ∷ 19 ∷ []
+front-left = 0 ∷ 1 ∷ 2 ∷ 3 ∷ 4 ∷ 5 ∷ 6 ∷ 7 ∷ 8 ∷ 9 ∷ 10 ∷ 11 ∷ 12 ∷ 13 ∷ 14 ∷ 15 ∷ 16 ∷ 17 ∷ 19 ∷ 20 ∷ []
 
 pub rest-front : (node : Node) (m : ℕ) → Among front-left node → node ≡ told.Exists m → ⊥
 rest-front node m h e = miss front-left 18 tt (subst (Among front-left) e h)

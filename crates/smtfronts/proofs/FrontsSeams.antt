@@ -10,7 +10,7 @@ use Rattle.reading.specs.Bytes.{ascii, Span}
 use Rattle.reading.specs.Number.{valueOf}
 use Rattle.reading.specs.Answer.{Ans, got, bad, andThen, unwritable}
 use Rattle.reading.proofs.Picks.{pick-holds}
-use Rattle.grammar.specs.Expr.{Kind, kNum, kBool, kStr, kBitVec, kFresh, kNamed, kNeg, kBin, kIf, kAnd, kOr, kNot, kImp, kIff, kAtom, kLet, kTheory, kIsCtor, kExists}
+use Rattle.grammar.specs.Expr.{Kind, kNum, kBool, kStr, kBitVec, kFresh, kNamed, kNeg, kBin, kIf, kAnd, kOr, kNot, kImp, kIff, kAtom, kLet, kTheory, kIsCtor, kExists, kLetFresh}
 use Rattle.grammar.proofs.AnswerHolds.{Every, any-every}
 use Rattle.nodes.specs.Node.{nodeOf}
 use Rattle.smt.specs.Sexp.{print}
@@ -56,6 +56,7 @@ kind-stands text n (kExists (b ∷ bs)) = go (sortOf text (b .sort)) (varsOf tex
     go (got s) (got vs) = (refl, lt-ltb 0 (suc (length bs)) (omega arith))
     go (got s) (bad r) = tt
     go (bad r) y = tt
+kind-stands text n (kLetFresh k) = (refl, refl)
 
 module _ (text : List ℕ) (k : Kind) (n : ℕ) {f : Form} (e : fieldsOf text k ≡ got f) where
   -- Between the operands.
@@ -96,3 +97,4 @@ node-callee text (kLet x) = refl
 node-callee text (kTheory k) = refl
 node-callee text (kIsCtor x) = refl
 node-callee text (kExists bs) = refl
+node-callee text (kLetFresh k) = refl

@@ -56,6 +56,10 @@ frontText text k n = andThen (fieldsOf text k) λ f. got (frontOf f n)
 unfoldable pub bitsText : Wide → ℕ → Ans (List ℕ)
 bitsText v width = pick (fitsWidth v width) (got (ascii "(_ bv" ++ (decimal (valueOf v) ++ (32 ∷ decimal width ++ (41 ∷ []))))) (bad unwritable)
 
+-- A let of a fresh variable, up to its value.
+unfoldable pub letFreshText : ℕ → List ℕ
+letFreshText k = ascii "(let ((" ++ (freshText k ++ (32 ∷ []))
+
 -- In front of the operands by what the code is told of a kind; the binders of an exists are not told.
 abbrev pub nodeText : List ℕ → Node → ℕ → Ans (List ℕ)
 nodeText text (told.Num a b c d) n = got (decimal (valueOf (record { a = a; b = b; c = c; d = d })))
@@ -77,6 +81,7 @@ nodeText text (told.Let start len) n = joined (got (ascii "(let ((")) (joined (n
 nodeText text (told.Theory k) n = bad unwritable
 nodeText text (told.IsCtor start len) n = joined (got (ascii "((_ is ")) (joined (nameText text 110 (record { start = start; len = len })) (got (ascii ") ")))
 nodeText text (told.Exists m) n = bad unwritable
+nodeText text (told.LetFresh k) n = got (letFreshText k)
 nodeText text told.Other n = bad unwritable
 
 -- Operators and relations have numbers in their tables.
@@ -100,6 +105,7 @@ Numbered (told.Let start len) = Unit {0}
 Numbered (told.Theory k) = Unit {0}
 Numbered (told.IsCtor start len) = Unit {0}
 Numbered (told.Exists m) = Unit {0}
+Numbered (told.LetFresh k) = Unit {0}
 Numbered told.Other = Unit {0}
 
 -- An exists up to its body; without variables it is its body.
@@ -128,4 +134,5 @@ calleeText text (told.Let start len) = bad unwritable
 calleeText text (told.Theory k) = functionText k
 calleeText text (told.IsCtor start len) = bad unwritable
 calleeText text (told.Exists m) = bad unwritable
+calleeText text (told.LetFresh k) = bad unwritable
 calleeText text told.Other = bad unwritable

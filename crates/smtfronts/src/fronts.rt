@@ -7,7 +7,8 @@ ghost use Rattle.judging.specs.Judge.{reads, operandsOf, bindersAt, header};
 ghost use Rattle.nodes.specs.Node.{nodeOf};
 ghost use Rattle.nodes.specs.declared.kind.Node.the-variants as told;
 ghost use Rattle.writing.specs.Quads.{asWide};
-ghost use Rattle.smtfronts.specs.Fronts.{frontText, bitsText, existsText, Numbered, nodeText};
+ghost use Rattle.writing.specs.Wrote.{WroteBytes};
+ghost use Rattle.smtfronts.specs.Fronts.{frontText, bitsText, existsText, letFreshText, Numbered, nodeText};
 ghost use Rattle.smtnames.specs.Written.{TellsPiece};
 use nodes::kind::Node;
 use smtbools::boolean;
@@ -36,6 +37,15 @@ fn let_front(text: &[u8], start: u32, len: u32, out: &mut [u8], place: usize) ->
         Written::To(p) => Written::To(byte(out, p, 32)),
         Written::No(r) => Written::No(r),
     }
+}
+
+// A let of a fresh variable, up to its value.
+fn fresh_let_front(k: u64, out: &mut [u8], place: usize) -> usize
+    ensures { λ r. ⌜ WroteBytes (now (out .entry)) place (letFreshText k) (now (out .exit)) r ⌝ }
+{
+    let a = bytes(b"(let ((", out, place);
+    let b = fresh(k, out, a);
+    byte(out, b, 32)
 }
 
 // A constructor test, up to its operand.
@@ -103,6 +113,7 @@ fn plain_front(node: Node, n: u32, text: &[u8], out: &mut [u8], place: usize) ->
         Node::Theory(_) => Written::No(15),
         Node::IsCtor(start, len) => test_front(text, start, len, out, place),
         Node::Exists(_) => Written::No(15),
+        Node::LetFresh(k) => Written::To(fresh_let_front(k, out, place)),
         Node::Other => Written::No(15),
     }
 }

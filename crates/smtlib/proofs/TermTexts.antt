@@ -7,7 +7,7 @@ use native.Mathlib.Omega.{arith}
 use Rattle.reading.specs.Bytes.{Maybe}
 use Rattle.reading.specs.Answer.{Refusal, unwritable, Ans, got, bad, andThen}
 use Rattle.grammar.specs.Sort.{Sort}
-use Rattle.grammar.specs.Expr.{Kind, kNum, kBool, kStr, kBitVec, kFresh, kNamed, kNeg, kBin, kIf, kAnd, kOr, kNot, kImp, kIff, kAtom, kLet, kTheory, kIsCtor, kExists, Expr, Exprs, node, app, enil, econs, exprs}
+use Rattle.grammar.specs.Expr.{Kind, kNum, kBool, kStr, kBitVec, kFresh, kNamed, kNeg, kBin, kIf, kAnd, kOr, kNot, kImp, kIff, kAtom, kLet, kTheory, kIsCtor, kExists, kLetFresh, Expr, Exprs, node, app, enil, econs, exprs}
 use Rattle.grammar.specs.Shape.{HasOperands}
 use Rattle.smt.specs.Sexp.{print}
 use Rattle.smt.specs.Term.{Ident, identSx, Term, Terms, tnil, tcons, termSx, terms}
@@ -152,6 +152,7 @@ module _ (text : List ℕ) where
   head-operands (kTheory k) e es h = absurd (omega (arith, h))
   head-operands (kIsCtor x) e es h = refl
   head-operands (kExists bs) e es h = refl
+  head-operands (kLetFresh k) e es h = refl
 
   pub head-kind : (k : Kind) (es : Exprs) → HasOperands k (exprs es) → headKind text k ≡ headOf text (node k es)
   unfolding headOf

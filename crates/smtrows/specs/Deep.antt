@@ -27,7 +27,8 @@ rows =
     -- at the 129th node: the kind first, then the depth, then the fields
     ∷ row (inNots 128 []) (refused 14)
     ∷ row (inNots 128 (31 ∷ [])) (refused 14)
-    ∷ row (inNots 128 (52 ∷ [])) (refused 14)
+    ∷ row (inNots 128 (53 ∷ [])) (refused 14)
+    ∷ row (inNots 128 (52 ∷ [])) (refused 6)
     ∷ row (inNots 128 (37 ∷ [])) (refused 6)
     ∷ row (inNots 128 (37 ∷ 1 ∷ 1 ∷ [])) (refused 6)
     -- a span outside the text is 14 at its place: before a later 6, and behind an earlier one

@@ -6,7 +6,7 @@ use mathlib.Core.Bool.{true, false}
 use mathlib.Core.List.{List, [], _∷_, map}
 use Rattle.reading.specs.Bytes.{ascii, Maybe, nothing, just}
 use Rattle.grammar.specs.Expr.{opSub, opDiv, relEq, relNe, relLt}
-use Rattle.smt.specs.Meant.{MeantSort, intSort, boolSort, realSort, stringSort, bitsSort, arraySort, dataSort, onil, ocons, MeantVar, MeantKind, mNum, mBool, mStr, mBitVec, mFresh, mNamed, mNeg, mBin, mIf, mAnd, mOr, mNot, mImp, mAtom, mLet, mTheory, mIsCtor, mExists, Meant, says, calls, Meants, mnil, mcons, MeantSolution}
+use Rattle.smt.specs.Meant.{MeantSort, intSort, boolSort, realSort, stringSort, bitsSort, arraySort, dataSort, onil, ocons, MeantVar, MeantKind, mNum, mBool, mStr, mBitVec, mFresh, mNamed, mNeg, mBin, mIf, mAnd, mOr, mNot, mImp, mAtom, mLet, mTheory, mIsCtor, mExists, mLetFresh, Meant, says, calls, Meants, mnil, mcons, MeantSolution}
 use Rattle.smt.specs.Meaning.{readSolution}
 use Rattle.smt.specs.Compute.{smtComputes}
 
@@ -43,6 +43,8 @@ rows =
     ∷ row "() (and true (or false true))" [] (says mAnd (two (leaf (mBool true)) (says mOr (two (leaf (mBool false)) (leaf (mBool true))))))
     ∷ row "() (=> true (ite true false true))" [] (says mImp (two (leaf (mBool true)) (says mIf (mcons (leaf (mBool true)) (two (leaf (mBool false)) (leaf (mBool true)))))))
     ∷ row "() (let ((|n x| 1)) |n x|)" [] (says (mLet (ascii "x")) (two (leaf (mNum 1)) (leaf (mNamed (ascii "x")))))
+    ∷ row "() (let ((|v 3| 1)) (< |v 3| 2))" [] (says (mLetFresh 3) (two (leaf (mNum 1)) (says (mAtom relLt) (two (leaf (mFresh 3)) (leaf (mNum 2))))))
+    ∷ row "() (let ((|v 4294967296| (let ((|v 1| 1)) |v 1|))) (let ((|n x| 2)) |v 4294967296|))" [] (says (mLetFresh 4294967296) (two (says (mLetFresh 1) (two (leaf (mNum 1)) (leaf (mFresh 1)))) (says (mLet (ascii "x")) (two (leaf (mNum 2)) (leaf (mFresh 4294967296))))))
     ∷ row "() (exists ((|v 1| Int)) ((_ is |n Cons|) |v 1|))" [] (says (mExists (var 1 intSort ∷ [])) (one (says (mIsCtor (ascii "Cons")) (one (leaf (mFresh 1))))))
     ∷ row "() (|n f| \"a b\" (_ bv5 3))" [] (calls (two (leaf (mStr (ascii "a b"))) (leaf (mBitVec 5 3))) (leaf (mNamed (ascii "f"))))
     ∷ row "() (bvadd |v 7|)" [] (calls (one (leaf (mFresh 7))) (leaf (mTheory 27)))
@@ -76,7 +78,7 @@ quotes-read = refl
 abbrev pub strange : List String
 strange =
     "" ∷ "()" ∷ "true" ∷ "() true false" ∷ "true ()" ∷ "() ()" ∷ "() (not true" ∷ "() (not true))" ∷ "() |n x" ∷ "() \"a" ∷ "() 007" ∷ "() 5x" ∷ "() -5" ∷ "() (-5)"
-    ∷ "() let" ∷ "() exists" ∷ "() (let true)" ∷ "() (let () true)" ∷ "() (exists () true)" ∷ "() (_ bv5)" ∷ "() (_ bv05 3)" ∷ "() (_ bv5 3 4)" ∷ "() ((_ is |s T|) true)" ∷ "((x Int)) true" ∷ "((|v 0|)) true" ∷ "((|v 0| Set)) true"
+    ∷ "() let" ∷ "() exists" ∷ "() (let true)" ∷ "() (let () true)" ∷ "() (let ((x 1)) true)" ∷ "() (let ((|s T| 1)) true)" ∷ "() (let ((|v 03| 1)) true)" ∷ "() (let ((|v 3| 1) (|v 4| 2)) true)" ∷ "() (exists () true)" ∷ "() (_ bv5)" ∷ "() (_ bv05 3)" ∷ "() (_ bv5 3 4)" ∷ "() ((_ is |s T|) true)" ∷ "((x Int)) true" ∷ "((|v 0|)) true" ∷ "((|v 0| Set)) true"
     ∷ "((|v 0| (Array Int))) true" ∷ "((|v 0| (_ BitVec))) true" ∷ "((|n x| Int)) true" ∷ "() x" ∷ "() |v 03|" ∷ "() |v x|" ∷ "() |s T|" ∷ "() and" ∷ "() bvadd" ∷ "() (and true)" ∷ "() (not true false)" ∷ "() (< 1 2 3)" ∷ "() (true 1)" ∷ "() (5 1)" ∷ "() ((|n f| 1) 2)" ∷ "() \\" ∷ []
 
 pub strange-read : readAll strange ≡ map (λ t. nothing) strange

@@ -160,6 +160,32 @@ pub others-hold : answers others ≡ expected others
 unfolding answers
 others-hold = refl
 
+-- A let of a fresh number: the number may be any, also one that is bound already; binding and body are written where they stand.
+abbrev pub freshLets : List Row
+freshLets =
+    on (1 ∷ 0 ∷ 0 ∷ 1 ∷ 52 ∷ 1 ∷ 0 ∷ 32 ∷ 1 ∷ 0 ∷ 0 ∷ 0 ∷ 47 ∷ 4 ∷ 36 ∷ 1 ∷ 0 ∷ 32 ∷ 2 ∷ 0 ∷ 0 ∷ 0 ∷ []) "" (bytes "((|v 0| Int)) (let ((|v 1| 1)) (< |v 1| 2))")
+    ∷ on (0 ∷ 52 ∷ 0 ∷ 1 ∷ 33 ∷ 1 ∷ 36 ∷ 0 ∷ 1 ∷ []) "" (bytes "() (let ((|v 4294967296| true)) |v 4294967296|)")
+    ∷ on (0 ∷ 52 ∷ 4294967295 ∷ 4294967295 ∷ 33 ∷ 1 ∷ 33 ∷ 0 ∷ []) "" (bytes "() (let ((|v 18446744073709551615| true)) false)")
+    ∷ on (0 ∷ 52 ∷ 3 ∷ 0 ∷ 36 ∷ 3 ∷ 0 ∷ 36 ∷ 3 ∷ 0 ∷ []) "" (bytes "() (let ((|v 3| |v 3|)) |v 3|)")
+    ∷ on (0 ∷ 52 ∷ 2 ∷ 0 ∷ 52 ∷ 1 ∷ 0 ∷ 33 ∷ 1 ∷ 36 ∷ 1 ∷ 0 ∷ 36 ∷ 2 ∷ 0 ∷ []) "" (bytes "() (let ((|v 2| (let ((|v 1| true)) |v 1|))) |v 2|)")
+    ∷ on (0 ∷ 52 ∷ 1 ∷ 0 ∷ 33 ∷ 1 ∷ 52 ∷ 1 ∷ 0 ∷ 36 ∷ 1 ∷ 0 ∷ 36 ∷ 1 ∷ 0 ∷ []) "" (bytes "() (let ((|v 1| true)) (let ((|v 1| |v 1|)) |v 1|))")
+    ∷ on (0 ∷ 48 ∷ 0 ∷ 1 ∷ 33 ∷ 1 ∷ 52 ∷ 1 ∷ 0 ∷ 37 ∷ 0 ∷ 1 ∷ 36 ∷ 1 ∷ 0 ∷ []) "x" (bytes "() (let ((|n x| true)) (let ((|v 1| |n x|)) |v 1|))")
+    ∷ on (0 ∷ 51 ∷ 0 ∷ 42 ∷ 1 ∷ 52 ∷ 1 ∷ 0 ∷ 33 ∷ 1 ∷ 36 ∷ 1 ∷ 0 ∷ []) "" (bytes "() (let ((|v 1| true)) |v 1|)")
+    ∷ on (0 ∷ 38 ∷ 0 ∷ 0 ∷ 52 ∷ 1 ∷ 0 ∷ 37 ∷ 0 ∷ 1 ∷ 36 ∷ 1 ∷ 0 ∷ []) "f" (bytes "() (let ((|v 1| |n f|)) |v 1|)")
+    ∷ on (0 ∷ 52 ∷ 1 ∷ 0 ∷ 37 ∷ 0 ∷ 1 ∷ 38 ∷ 0 ∷ 1 ∷ 33 ∷ 1 ∷ 36 ∷ 1 ∷ 0 ∷ []) "f" (bytes "() (let ((|v 1| |n f|)) (|v 1| true))")
+    ∷ on (0 ∷ 38 ∷ 0 ∷ 1 ∷ 33 ∷ 1 ∷ 52 ∷ 1 ∷ 0 ∷ 37 ∷ 0 ∷ 1 ∷ 36 ∷ 1 ∷ 0 ∷ []) "|" (refusal 15)
+    ∷ on (0 ∷ 52 ∷ 1 ∷ 0 ∷ 37 ∷ 0 ∷ 1 ∷ 49 ∷ 0 ∷ []) "|" (refusal 16)
+    ∷ on (0 ∷ 52 ∷ 1 ∷ 0 ∷ 49 ∷ 0 ∷ 37 ∷ 0 ∷ 1 ∷ []) "|" (refusal 15)
+    ∷ on (0 ∷ 52 ∷ 3 ∷ []) "" (refusal 14)
+    ∷ on (0 ∷ 52 ∷ 3 ∷ 0 ∷ 33 ∷ 1 ∷ []) "" (refusal 14)
+    ∷ onto 28 (0 ∷ 52 ∷ 3 ∷ 0 ∷ 33 ∷ 1 ∷ 36 ∷ 3 ∷ 0 ∷ []) "" (refusal 7)
+    ∷ onto 29 (0 ∷ 52 ∷ 3 ∷ 0 ∷ 33 ∷ 1 ∷ 36 ∷ 3 ∷ 0 ∷ []) "" (bytes "() (let ((|v 3| true)) |v 3|)")
+    ∷ []
+
+pub fresh-lets-hold : answers freshLets ≡ expected freshLets
+unfolding answers
+fresh-lets-hold = refl
+
 -- 16 for these bytes in names and in strings; only the bytes of the span count.
 abbrev pub unprintables : List Row
 unprintables =

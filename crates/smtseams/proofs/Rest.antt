@@ -14,9 +14,9 @@ use Rattle.smtseams.specs.Seams.{nodeLets, nodeCloses}
 abbrev pub Among : List ℕ → Node → Type 0
 Among ks node = OneOf ks (tagOf the-type node)
 
--- Every kind but a let.
+-- Every kind but the lets.
 abbrev lets-left : List ℕ
-lets-left = 0 ∷ 1 ∷ 2 ∷ 3 ∷ 4 ∷ 5 ∷ 6 ∷ 7 ∷ 8 ∷ 9 ∷ 10 ∷ 11 ∷ 12 ∷ 13 ∷ 14 ∷ 16 ∷ 17 ∷ 18 ∷ 19 ∷ []
+lets-left = 0 ∷ 1 ∷ 2 ∷ 3 ∷ 4 ∷ 5 ∷ 6 ∷ 7 ∷ 8 ∷ 9 ∷ 10 ∷ 11 ∷ 12 ∷ 13 ∷ 14 ∷ 16 ∷ 17 ∷ 18 ∷ 20 ∷ []
 
 pub rest-lets : (node : Node) → Among lets-left node → false ≡ nodeLets node
 rest-lets (told.Num a b c d) h = refl
@@ -38,11 +38,12 @@ rest-lets (told.Let start len) h = absurd (miss lets-left 15 tt h)
 rest-lets (told.Theory k) h = refl
 rest-lets (told.IsCtor start len) h = refl
 rest-lets (told.Exists m) h = refl
+rest-lets (told.LetFresh k) h = absurd (miss lets-left 19 tt h)
 rest-lets told.Other h = refl
 
--- The operators, a let and a constructor test.
+-- The operators, the lets and a constructor test.
 abbrev closes-left : List ℕ
-closes-left = 6 ∷ 7 ∷ 8 ∷ 11 ∷ 12 ∷ 13 ∷ 14 ∷ 15 ∷ 17 ∷ []
+closes-left = 6 ∷ 7 ∷ 8 ∷ 11 ∷ 12 ∷ 13 ∷ 14 ∷ 15 ∷ 17 ∷ 19 ∷ []
 
 pub rest-closes : (node : Node) (n : ℕ) → Among closes-left node → true ≡ nodeCloses node n
 rest-closes (told.Num a b c d) n h = absurd (miss closes-left 0 tt h)
@@ -64,4 +65,5 @@ rest-closes (told.Let start len) n h = refl
 rest-closes (told.Theory k) n h = absurd (miss closes-left 16 tt h)
 rest-closes (told.IsCtor start len) n h = refl
 rest-closes (told.Exists m) n h = absurd (miss closes-left 18 tt h)
-rest-closes told.Other n h = absurd (miss closes-left 19 tt h)
+rest-closes (told.LetFresh k) n h = refl
+rest-closes told.Other n h = absurd (miss closes-left 20 tt h)

@@ -38,6 +38,7 @@ nodeLets (told.Let start len) = true
 nodeLets (told.Theory k) = false
 nodeLets (told.IsCtor start len) = false
 nodeLets (told.Exists m) = false
+nodeLets (told.LetFresh k) = true
 nodeLets told.Other = false
 
 -- A parenthesis stands behind the operands.
@@ -61,6 +62,7 @@ nodeCloses (told.Let start len) n = true
 nodeCloses (told.Theory k) n = false
 nodeCloses (told.IsCtor start len) n = true
 nodeCloses (told.Exists m) n = ltb 0 m
+nodeCloses (told.LetFresh k) n = true
 nodeCloses told.Other n = false
 
 -- The parenthesis, if there is one.

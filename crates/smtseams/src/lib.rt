@@ -12,6 +12,7 @@ pub fn lets(node: Node) -> bool
 {
     match node {
         Node::Let(_, _) => true,
+        Node::LetFresh(_) => true,
         _ => false,
     }
 }

@@ -93,9 +93,9 @@ flatBounds =
     ∷ flatInto 128 (replicate 127 44 ++ (33 ∷ 1 ∷ [])) (refusal 7)
     ∷ flatInto 129 (replicate 128 44 ++ (33 ∷ 1 ∷ [])) (refusal 6)
     ∷ flatInto 129 (replicate 128 44 ++ (32 ∷ [])) (refusal 6)
-    ∷ flatInto 129 (replicate 128 44 ++ (51 ∷ [])) (refusal 6)
+    ∷ flatInto 129 (replicate 128 44 ++ (52 ∷ [])) (refusal 6)
     ∷ flatInto 129 (replicate 128 44 ++ (31 ∷ [])) (refusal 14)
-    ∷ flatInto 129 (replicate 128 44 ++ (52 ∷ [])) (refusal 14)
+    ∷ flatInto 129 (replicate 128 44 ++ (53 ∷ [])) (refusal 14)
     ∷ flatInto 129 (replicate 128 44) (refusal 14)
     -- heads of applications, which are joined
     ∷ flat (again 127 (38 ∷ 0 ∷ 0 ∷ []) ++ (33 ∷ 1 ∷ [])) (words (38 ∷ 0 ∷ 0 ∷ 33 ∷ 1 ∷ []))

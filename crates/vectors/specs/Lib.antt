@@ -4,5 +4,6 @@ pub mod Readings
 pub mod ReadingsParsed
 pub mod ReadingsLiterals
 pub mod ReadingsInfNan
+pub mod ReadingsLet
 pub mod Bounds
 pub mod Slices

@@ -69,7 +69,7 @@ refusalsAsMet =
     ∷ asked expression "(cast a 1.5)" (words (37 ∷ 6 ∷ 1 ∷ []))
     ∷ asked expression "(- a b 1.5)" (words (40 ∷ 1 ∷ 37 ∷ 3 ∷ 1 ∷ 37 ∷ 5 ∷ 1 ∷ []))
     ∷ asked expression "((as apply Int) f 1.5 ())" (words (38 ∷ 1 ∷ 0 ∷ 1 ∷ 37 ∷ 16 ∷ 1 ∷ []))
-    ∷ asked expression "(let (x 1 1.5) x 1.5)" (words (48 ∷ 6 ∷ 1 ∷ 32 ∷ 1 ∷ 0 ∷ 0 ∷ 0 ∷ 37 ∷ 15 ∷ 1 ∷ []))
+    ∷ asked expression "(let (x 1 1.5) x 1.5)" (words (52 ∷ 0 ∷ 0 ∷ 32 ∷ 1 ∷ 0 ∷ 0 ∷ 0 ∷ 36 ∷ 0 ∷ 0 ∷ []))
     ∷ asked solution "(1.5 () x)" (words (0 ∷ 37 ∷ 8 ∷ 1 ∷ []))
     ∷ asked expression "(exists () x y)" (refusal 8)
     ∷ asked solution "(lambda () x y)" (refusal 8)

@@ -42,7 +42,7 @@ infAndNan =
     -- names of an exists, a let, a solution and a bind, and arguments of a kvar; repeated they are 10
     ∷ asked expression "(exists ((inf Int)) inf)" (words (51 ∷ 1 ∷ 0 ∷ 0 ∷ 1 ∷ 36 ∷ 0 ∷ 0 ∷ []))
     ∷ asked expression "(exists ((inf Int)) (- inf))" (words (51 ∷ 1 ∷ 0 ∷ 0 ∷ 1 ∷ 39 ∷ 36 ∷ 0 ∷ 0 ∷ []))
-    ∷ asked expression "(let (inf 1) inf)" (words (48 ∷ 6 ∷ 3 ∷ 32 ∷ 1 ∷ 0 ∷ 0 ∷ 0 ∷ 37 ∷ 13 ∷ 3 ∷ []))
+    ∷ asked expression "(let (inf 1) inf)" (words (52 ∷ 0 ∷ 0 ∷ 32 ∷ 1 ∷ 0 ∷ 0 ∷ 0 ∷ 36 ∷ 0 ∷ 0 ∷ []))
     ∷ asked solution "(lambda ((inf Int)) (< inf 5))" (words (1 ∷ 0 ∷ 0 ∷ 1 ∷ 47 ∷ 4 ∷ 36 ∷ 0 ∷ 0 ∷ 32 ∷ 5 ∷ 0 ∷ 0 ∷ 0 ∷ []))
     ∷ asked solution "(lambda ((inf Int) (-inf Int)) -inf)" (words (2 ∷ 0 ∷ 0 ∷ 1 ∷ 1 ∷ 0 ∷ 1 ∷ 36 ∷ 1 ∷ 0 ∷ []))
     ∷ asked bind "((x Int) ($k nan))" (words (2 ∷ 1 ∷ 1 ∷ 1 ∷ 64 ∷ 10 ∷ 2 ∷ 1 ∷ 37 ∷ 13 ∷ 3 ∷ []))

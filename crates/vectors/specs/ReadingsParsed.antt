@@ -77,7 +77,7 @@ expressions =
     ∷ asked expression "(exists ((and Int)) (and))" (words (51 ∷ 1 ∷ 0 ∷ 0 ∷ 1 ∷ 36 ∷ 0 ∷ 0 ∷ []))
     ∷ asked expression "(not (nan))" (words (44 ∷ 37 ∷ 6 ∷ 3 ∷ []))
     ∷ asked expression "(((as apply Int) f) (a))" (words (38 ∷ 0 ∷ 1 ∷ 37 ∷ 21 ∷ 1 ∷ 38 ∷ 1 ∷ 0 ∷ 1 ∷ 37 ∷ 17 ∷ 1 ∷ []))
-    ∷ asked expression "(let ((x (1))) (x))" (words (48 ∷ 7 ∷ 1 ∷ 32 ∷ 1 ∷ 0 ∷ 0 ∷ 0 ∷ 37 ∷ 16 ∷ 1 ∷ []))
+    ∷ asked expression "(let ((x (1))) (x))" (words (52 ∷ 0 ∷ 0 ∷ 32 ∷ 1 ∷ 0 ∷ 0 ∷ 0 ∷ 36 ∷ 0 ∷ 0 ∷ []))
     ∷ asked expression "(exists () (x))" (words (51 ∷ 0 ∷ 37 ∷ 12 ∷ 1 ∷ []))
     -- the whole expression, a solution's body, `cast`, `cast_as_int`, `is$`, a literal's size, names and sorts are not
     ∷ asked expression "(x)" (refusal 8)
@@ -121,21 +121,17 @@ expressions =
     -- an application without arguments stays one when it is flattened, and the inner sort goes
     ∷ asked expression "(((as apply Int) f))" (words (38 ∷ 0 ∷ 0 ∷ 38 ∷ 1 ∷ 0 ∷ 1 ∷ 37 ∷ 17 ∷ 1 ∷ []))
     ∷ asked solution "(lambda () (((as apply Int) f)))" (words (0 ∷ 38 ∷ 0 ∷ 0 ∷ 37 ∷ 28 ∷ 1 ∷ []))
-    -- theory names win over scopes, keywords as heads over both; a let's name is a name always, and opens no scope
+    -- theory names win over scopes, keywords as heads over both
     ∷ asked expression "(exists ((bvadd Int)) bvadd)" (words (51 ∷ 1 ∷ 0 ∷ 0 ∷ 1 ∷ 49 ∷ 27 ∷ []))
     ∷ asked expression "(exists ((not Int)) (not not))" (words (51 ∷ 1 ∷ 0 ∷ 0 ∷ 1 ∷ 44 ∷ 36 ∷ 0 ∷ 0 ∷ []))
-    ∷ asked expression "(let (bvadd 1) bvadd)" (words (48 ∷ 6 ∷ 5 ∷ 32 ∷ 1 ∷ 0 ∷ 0 ∷ 0 ∷ 49 ∷ 27 ∷ []))
-    ∷ asked expression "(let (x 1) x)" (words (48 ∷ 6 ∷ 1 ∷ 32 ∷ 1 ∷ 0 ∷ 0 ∷ 0 ∷ 37 ∷ 11 ∷ 1 ∷ []))
-    ∷ asked expression "(exists ((x Int)) (let (x 1) x))" (words (51 ∷ 1 ∷ 0 ∷ 0 ∷ 1 ∷ 48 ∷ 24 ∷ 1 ∷ 32 ∷ 1 ∷ 0 ∷ 0 ∷ 0 ∷ 36 ∷ 0 ∷ 0 ∷ []))
     -- the innermost scope counts
     ∷ asked expression "(exists ((x Int)) (exists ((x Int)) x))" (words (51 ∷ 1 ∷ 0 ∷ 0 ∷ 1 ∷ 51 ∷ 1 ∷ 1 ∷ 0 ∷ 1 ∷ 36 ∷ 1 ∷ 0 ∷ []))
-    -- numbers: an exists before its body, arguments before the head, then before else, a value before its body
+    -- numbers: an exists before its body, arguments before the head, then before else
     ∷ asked expression "(exists ((x Int) (y Int)) (exists ((z Int)) (= x y)))" (words (51 ∷ 2 ∷ 0 ∷ 0 ∷ 1 ∷ 1 ∷ 0 ∷ 1 ∷ 51 ∷ 1 ∷ 2 ∷ 0 ∷ 1 ∷ 47 ∷ 0 ∷ 36 ∷ 0 ∷ 0 ∷ 36 ∷ 1 ∷ 0 ∷ []))
     ∷ asked expression "(((as apply Int) (exists ((x Int)) x)) (exists ((y Int)) y))"
     (words (38 ∷ 0 ∷ 1 ∷ 51 ∷ 1 ∷ 0 ∷ 0 ∷ 1 ∷ 36 ∷ 0 ∷ 0 ∷ 38 ∷ 1 ∷ 0 ∷ 1 ∷ 51 ∷ 1 ∷ 1 ∷ 0 ∷ 1 ∷ 36 ∷ 1 ∷ 0 ∷ []))
     ∷ asked expression "(if (exists ((x Int)) x) (exists ((y Int)) y) a)" (words (41 ∷ 51 ∷ 1 ∷ 0 ∷ 0 ∷ 1 ∷ 36 ∷ 0 ∷ 0 ∷ 51 ∷ 1 ∷ 1 ∷ 0 ∷ 1 ∷ 36 ∷ 1 ∷ 0 ∷ 37 ∷ 46 ∷ 1 ∷ []))
     ∷ asked expression "(if a (exists ((x Int)) x) (exists ((y Int)) y))" (words (41 ∷ 37 ∷ 4 ∷ 1 ∷ 51 ∷ 1 ∷ 0 ∷ 0 ∷ 1 ∷ 36 ∷ 0 ∷ 0 ∷ 51 ∷ 1 ∷ 1 ∷ 0 ∷ 1 ∷ 36 ∷ 1 ∷ 0 ∷ []))
-    ∷ asked expression "(let (v (exists ((x Int)) x)) (exists ((y Int)) y))" (words (48 ∷ 6 ∷ 1 ∷ 51 ∷ 1 ∷ 0 ∷ 0 ∷ 1 ∷ 36 ∷ 0 ∷ 0 ∷ 51 ∷ 1 ∷ 1 ∷ 0 ∷ 1 ∷ 36 ∷ 1 ∷ 0 ∷ []))
     -- the same after flattening, which writes the head's arguments first
     ∷ asks 0 (lending 128 64 64 solution (ascii "(lambda () ((((as apply Int) f) (exists ((x Int)) x)) (exists ((y Int)) y)))"))
     (words (0 ∷ 38 ∷ 0 ∷ 2 ∷ 51 ∷ 1 ∷ 1 ∷ 0 ∷ 1 ∷ 36 ∷ 1 ∷ 0 ∷ 51 ∷ 1 ∷ 0 ∷ 0 ∷ 1 ∷ 36 ∷ 0 ∷ 0 ∷ 37 ∷ 29 ∷ 1 ∷ []))
@@ -261,7 +257,7 @@ flattening =
     ∷ flatInto 129 (replicate 128 39 ++ (33 ∷ 1 ∷ [])) (refusal 6)
     ∷ flatInto 129 (replicate 128 39 ++ (33 ∷ [])) (refusal 6)
     ∷ flatInto 129 (replicate 128 39 ++ (31 ∷ [])) (refusal 14)
-    ∷ flatInto 129 (replicate 128 39 ++ (52 ∷ [])) (refusal 14)
+    ∷ flatInto 129 (replicate 128 39 ++ (53 ∷ [])) (refusal 14)
     ∷ flatInto 129 (replicate 128 39) (refusal 14)
     -- a count is not compared with the words that are left
     ∷ flat ((42 ∷ 4294967295 ∷ []) ++ replicate 127 39 ++ (33 ∷ 1 ∷ [])) (refusal 6)

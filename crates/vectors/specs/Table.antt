@@ -1,4 +1,5 @@
--- The bench table of document 01, with the literal of request C-13 and the `nan` of request C-14: every row that is marked P, and one claim about all of them.
+-- The bench table of document 01, with the literal of request C-13 and the `nan` of request C-14: every row that is marked P, a row for the let of
+-- request C-17, and one claim about all of them.
 use mathlib.Core.Path.{_≡_, refl}
 use mathlib.Core.List.{List, [], _∷_}
 use Rattle.session.specs.Session.{readOne, expression, sort, solution}
@@ -20,6 +21,7 @@ table =
     ∷ row solution "(lambda ((x Int) (x Int)) x)" (refusal 10)
     ∷ row solution "(lambda ((x Int) (x Int)) ())" (refusal 8)
     ∷ row solution "(lambda () (((as apply Int) f) a))" (words (0 ∷ 38 ∷ 0 ∷ 1 ∷ 37 ∷ 31 ∷ 1 ∷ 37 ∷ 28 ∷ 1 ∷ []))
+    ∷ row solution "(lambda ((x Int)) (let (x 1) (< x 2)))" (words (1 ∷ 0 ∷ 0 ∷ 1 ∷ 52 ∷ 1 ∷ 0 ∷ 32 ∷ 1 ∷ 0 ∷ 0 ∷ 0 ∷ 47 ∷ 4 ∷ 36 ∷ 1 ∷ 0 ∷ 32 ∷ 2 ∷ 0 ∷ 0 ∷ 0 ∷ []))
     ∷ []
 
 pub table-holds : answers table ≡ expected table

@@ -32,6 +32,7 @@ pub const IFF: u32 = 46;
 
 pub const ATOM: u32 = 47;
 
+// A let of a name, in words from elsewhere: the parser makes none.
 pub const LET: u32 = 48;
 
 pub const THEORY: u32 = 49;
@@ -40,5 +41,8 @@ pub const IS_CTOR: u32 = 50;
 
 pub const EXISTS: u32 = 51;
 
+// A let of a fresh number, as the parser makes it.
+pub const LET_FRESH: u32 = 52;
+
 // The word behind the last kind.
-pub const KINDS_END: u32 = EXISTS + 1;
+pub const KINDS_END: u32 = LET_FRESH + 1;

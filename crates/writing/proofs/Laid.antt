@@ -46,6 +46,12 @@ set-behind [] l u j v h = refl
 set-behind (w ∷ ws) l u j v h =
     set-behind ws (set l u w) (u + 1) j v (omega (arith, h)) ∙ ap (λ m. laid m (u + 1) ws) (sym (set-apart l u j v w (omega (arith, h))))
 
+-- Words laid in front of words, sooner or later.
+pub laid-early : (vs ws l : List ℕ) (i u : ℕ) → i + length vs ≤ u → laid (laid l u ws) i vs ≡ laid (laid l i vs) u ws
+unfolding laid
+laid-early [] ws l i u h = refl
+laid-early (v ∷ vs) ws l i u h = ap (λ m. laid m (i + 1) vs) (set-laid ws l i u v (omega arith)) ∙ laid-early vs ws (set l i v) (i + 1) u (omega arith)
+
 -- No output stays one, and a word in front stays in front.
 laid-empty : (ws : List ℕ) (w : ℕ) → laid [] w ws ≡ []
 unfolding laid

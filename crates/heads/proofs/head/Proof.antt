@@ -1,4 +1,4 @@
-use Rattle.heads.proofs.ReadHead.{at-32, at-33, at-34, at-35, at-36, at-37, at-38, at-39, at-40, at-41, at-42, at-43, at-44, at-45, at-46, at-47, at-48, at-49, at-50, head-high, head-kind, head-low, head-out, next}
+use Rattle.heads.proofs.ReadHead.{at-32, at-33, at-34, at-35, at-36, at-37, at-38, at-39, at-40, at-41, at-42, at-43, at-44, at-45, at-46, at-47, at-48, at-49, at-50, at-52, head-high, head-kind, head-low, head-out, next}
 use borrow.Author.Needs.{needs}
 use Rattle.heads.proofs.head.Statement.{statement}
 use Rattle.heads.proofs.head.Tie as tie
@@ -96,6 +96,12 @@ operands-requires-11 c κs = search needs
 quantified-requires : tie.Need-quantified-requires
 quantified-requires c κs = search needs
 
+skip-requires-4 : tie.Need-skip-requires-4
+skip-requires-4 c κs = search needs
+
+operands-requires-12 : tie.Need-operands-requires-12
+operands-requires-12 c κs = search needs
+
 returns-3 : tie.Need-returns-3
 returns-3 c = head-kind _ _ _ 32 (c .before .before .before .before .before .if1 .left) (c .before .before .match .keys1) (at-32 _ _ _ (c .before .skip .ensures) (c .operands .ensures))
 
@@ -157,9 +163,12 @@ returns-22 : tie.Need-returns-22
 returns-22 c = head-kind _ _ _ 51 (c .before .before .before .before .if1 .left) (c .before .match .keys20) (c .quantified .ensures)
 
 returns-23 : tie.Need-returns-23
-returns-23 c =
+returns-23 c = head-kind _ _ _ 52 (c .before .before .before .before .before .if1 .left) (c .before .before .match .keys21) (at-52 _ _ _ (c .before .skip4 .ensures) (c .operands12 .ensures))
+
+returns-24 : tie.Need-returns-24
+returns-24 c =
     let r = c .match .rest in
-    head-high _ _ _ (c .before .before .before .if1 .left) (next (next (next (next (next (next (next (next (next (next (next (next (next (next (next (next (next (next (next (next (c .before .if2 .left) (r .0 .0 .0 .0 .0 .0 .0 .0 .0 .0 .0 .0 .0 .0 .0 .0 .0 .0 .0 .1)) (r .0 .0 .0 .0 .0 .0 .0 .0 .0 .0 .0 .0 .0 .0 .0 .0 .0 .0 .1)) (r .0 .0 .0 .0 .0 .0 .0 .0 .0 .0 .0 .0 .0 .0 .0 .0 .0 .1)) (r .0 .0 .0 .0 .0 .0 .0 .0 .0 .0 .0 .0 .0 .0 .0 .0 .1)) (r .0 .0 .0 .0 .0 .0 .0 .0 .0 .0 .0 .0 .0 .0 .0 .1)) (r .0 .0 .0 .0 .0 .0 .0 .0 .0 .0 .0 .0 .0 .0 .1)) (r .0 .0 .0 .0 .0 .0 .0 .0 .0 .0 .0 .0 .0 .1)) (r .0 .0 .0 .0 .0 .0 .0 .0 .0 .0 .0 .0 .1)) (r .0 .0 .0 .0 .0 .0 .0 .0 .0 .0 .0 .1)) (r .0 .0 .0 .0 .0 .0 .0 .0 .0 .0 .1)) (r .0 .0 .0 .0 .0 .0 .0 .0 .0 .1)) (r .0 .0 .0 .0 .0 .0 .0 .0 .1)) (r .0 .0 .0 .0 .0 .0 .0 .1)) (r .0 .0 .0 .0 .0 .0 .1)) (r .0 .0 .0 .0 .0 .1)) (r .0 .0 .0 .0 .1)) (r .0 .0 .0 .1)) (r .0 .0 .1)) (r .0 .1)) (r .1))
+    head-high _ _ _ (c .before .before .before .if1 .left) (next (next (next (next (next (next (next (next (next (next (next (next (next (next (next (next (next (next (next (next (next (c .before .if2 .left) (r .0 .0 .0 .0 .0 .0 .0 .0 .0 .0 .0 .0 .0 .0 .0 .0 .0 .0 .0 .0 .1)) (r .0 .0 .0 .0 .0 .0 .0 .0 .0 .0 .0 .0 .0 .0 .0 .0 .0 .0 .0 .1)) (r .0 .0 .0 .0 .0 .0 .0 .0 .0 .0 .0 .0 .0 .0 .0 .0 .0 .0 .1)) (r .0 .0 .0 .0 .0 .0 .0 .0 .0 .0 .0 .0 .0 .0 .0 .0 .0 .1)) (r .0 .0 .0 .0 .0 .0 .0 .0 .0 .0 .0 .0 .0 .0 .0 .0 .1)) (r .0 .0 .0 .0 .0 .0 .0 .0 .0 .0 .0 .0 .0 .0 .0 .1)) (r .0 .0 .0 .0 .0 .0 .0 .0 .0 .0 .0 .0 .0 .0 .1)) (r .0 .0 .0 .0 .0 .0 .0 .0 .0 .0 .0 .0 .0 .1)) (r .0 .0 .0 .0 .0 .0 .0 .0 .0 .0 .0 .0 .1)) (r .0 .0 .0 .0 .0 .0 .0 .0 .0 .0 .0 .1)) (r .0 .0 .0 .0 .0 .0 .0 .0 .0 .0 .1)) (r .0 .0 .0 .0 .0 .0 .0 .0 .0 .1)) (r .0 .0 .0 .0 .0 .0 .0 .0 .1)) (r .0 .0 .0 .0 .0 .0 .0 .1)) (r .0 .0 .0 .0 .0 .0 .1)) (r .0 .0 .0 .0 .0 .1)) (r .0 .0 .0 .0 .1)) (r .0 .0 .0 .1)) (r .0 .0 .1)) (r .0 .1)) (r .1))
 
 pub head-spec : {M : Type 1} → statement M
 head-spec =
@@ -196,6 +205,8 @@ head-spec =
     span-end-requires-4
     operands-requires-11
     quantified-requires
+    skip-requires-4
+    operands-requires-12
     returns-3
     returns-4
     returns-5
@@ -216,4 +227,5 @@ head-spec =
     returns-20
     returns-21
     returns-22
-    returns-23)
+    returns-23
+    returns-24)

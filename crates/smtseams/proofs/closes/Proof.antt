@@ -5,98 +5,73 @@ use Rattle.smtseams.proofs.Rest.{rest-closes}
 use borrow.Author.Needs.{needs}
 use Rattle.smtseams.proofs.closes.Statement.{statement}
 use Rattle.smtseams.proofs.closes.Tie as tie
-use Rattle.smtseams.proofs.closes.Reads as reads
-use Rattle.smtseams.proofs.closes.Lts as lts
 
--- src/operands.rt:24:34
 enum-told : tie.Need-enum-told
 enum-told c = search needs
 
--- src/operands.rt:25:26
 enum-told-2 : tie.Need-enum-told-2
 enum-told-2 c = search needs
 
--- src/operands.rt:26:28
 enum-told-3 : tie.Need-enum-told-3
 enum-told-3 c = search needs
 
--- src/operands.rt:27:40
 enum-told-4 : tie.Need-enum-told-4
 enum-told-4 c = search needs
 
--- src/operands.rt:28:27
 enum-told-5 : tie.Need-enum-told-5
 enum-told-5 c = search needs
 
--- src/operands.rt:29:30
 enum-told-6 : tie.Need-enum-told-6
 enum-told-6 c = search needs
 
--- src/operands.rt:30:22
 enum-told-7 : tie.Need-enum-told-7
 enum-told-7 c = search needs
 
--- src/operands.rt:31:21
 enum-told-8 : tie.Need-enum-told-8
 enum-told-8 c = search needs
 
--- src/operands.rt:32:28
 enum-told-9 : tie.Need-enum-told-9
 enum-told-9 c = search needs
 
--- src/operands.rt:33:22
 enum-known-node : tie.Need-enum-known-node
 enum-known-node c = search needs
 
--- src/operands.rt:34:24
 enum-told-10 : tie.Need-enum-told-10
 enum-told-10 c = search needs
 
--- src/operands.rt:20:1
 returns : tie.Need-returns
 returns c = sym (ap (λ (x : Node). nodeCloses x (c .before .before .args .n)) (c .enum-told .given .1))
 
--- src/operands.rt:20:1
 returns-2 : tie.Need-returns-2
 returns-2 c = sym (ap (λ (x : Node). nodeCloses x (c .before .before .args .n)) (c .enum-told2 .given .1))
 
--- src/operands.rt:20:1
 returns-3 : tie.Need-returns-3
 returns-3 c = sym (ap (λ (x : Node). nodeCloses x (c .before .before .args .n)) (c .enum-told3 .given .1))
 
--- src/operands.rt:20:1
 returns-4 : tie.Need-returns-4
 returns-4 c = sym (ap (λ (x : Node). nodeCloses x (c .before .before .args .n)) (c .enum-told4 .given .1))
 
--- src/operands.rt:20:1
 returns-5 : tie.Need-returns-5
 returns-5 c = sym (ap (λ (x : Node). nodeCloses x (c .before .before .args .n)) (c .enum-told5 .given .1))
 
--- src/operands.rt:20:1
 returns-6 : tie.Need-returns-6
 returns-6 c = sym (ap (λ (x : Node). nodeCloses x (c .before .before .args .n)) (c .enum-told6 .given .1))
 
--- src/operands.rt:20:1
 returns-7 : tie.Need-returns-7
 returns-7 c = sym (ap (λ (x : Node). nodeCloses x (c .before .before .args .n)) (c .enum-told7 .given .1))
 
--- src/operands.rt:20:1
 returns-8 : tie.Need-returns-8
 returns-8 c = sym (ap (λ (x : Node). nodeCloses x (c .before .before .args .n)) (c .enum-told8 .given .1))
 
--- src/operands.rt:20:1
 returns-9 : tie.Need-returns-9
 returns-9 c = sym (ap (λ (x : Node). nodeCloses x (c .before .before .args .n)) (c .enum-told9 .given .1))
 
--- src/operands.rt:20:1
 returns-10 : tie.Need-returns-10
 returns-10 c = sym (ap (λ (x : Node). nodeCloses x (c .before .before .before .args .n)) (c .before .node .given .1))
 
--- src/operands.rt:20:1
 returns-11 : tie.Need-returns-11
 returns-11 c = sym (ap (λ (x : Node). nodeCloses x (c .before .before .args .n)) (c .enum-told10 .given .1))
 
--- src/operands.rt:20:1
 returns-12 : tie.Need-returns-12
 returns-12 c = rest-closes (c .before .args .node) (c .before .args .n) (c .match .keys12)
 
