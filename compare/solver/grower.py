@@ -104,7 +104,9 @@ class Grower:
     def variable(self, sort):
         known = self.visible(sort)
         if known and not self.one_in(5):
-            return self.random.choice(known)
+            # Often what is bound innermost.
+            inner = [v for v, _ in self.bound if v in known][-1:]
+            return self.random.choice(inner if inner and self.one_in(2) else known)
         name = self.new()
         self.free[name] = sort
         return name
@@ -179,7 +181,7 @@ class Grower:
             name = self.random.choice(self.bound)[0]
         if self.taken(name):
             return self.leaf(sort)
-        of = self.sort(1)
+        of = sort if self.one_in(2) else self.sort(1)
         binding = self.expr(of, depth)
         if self.taken(name):
             return binding if of == sort else self.leaf(sort)

@@ -23,48 +23,48 @@ NameFromAny ts s = (limit : ℕ) → AllWithin ts limit → SpanWithin s limit
 -- Kinds that have no field but codes.
 pub neg-plain : (ts : Trees) → PlainKind ts kNeg
 unfolding kindItems used bound wordsOf
-neg-plain ts = record { uses = λ n. refl; binds = λ n. refl; opens = refl; coded = λ limit numbers w. tt; size = λ n. omega arith; fits = tt }
+neg-plain ts = record { uses = λ n. refl; binds = λ n. refl; opens = refl; coded = λ limit numbers w. tt; size = λ n. omega arith; fits = tt; named = refl; made = tt }
 
 if-plain : (ts : Trees) → PlainKind ts kIf
 unfolding kindItems used bound wordsOf
-if-plain ts = record { uses = λ n. refl; binds = λ n. refl; opens = refl; coded = λ limit numbers w. tt; size = λ n. omega arith; fits = tt }
+if-plain ts = record { uses = λ n. refl; binds = λ n. refl; opens = refl; coded = λ limit numbers w. tt; size = λ n. omega arith; fits = tt; named = refl; made = tt }
 
 and-plain : (ts : Trees) → PlainKind ts kAnd
 unfolding kindItems used bound wordsOf
-and-plain ts = record { uses = λ n. refl; binds = λ n. refl; opens = refl; coded = λ limit numbers w. tt; size = λ n. omega arith; fits = tt }
+and-plain ts = record { uses = λ n. refl; binds = λ n. refl; opens = refl; coded = λ limit numbers w. tt; size = λ n. omega arith; fits = tt; named = refl; made = tt }
 
 or-plain : (ts : Trees) → PlainKind ts kOr
 unfolding kindItems used bound wordsOf
-or-plain ts = record { uses = λ n. refl; binds = λ n. refl; opens = refl; coded = λ limit numbers w. tt; size = λ n. omega arith; fits = tt }
+or-plain ts = record { uses = λ n. refl; binds = λ n. refl; opens = refl; coded = λ limit numbers w. tt; size = λ n. omega arith; fits = tt; named = refl; made = tt }
 
 not-plain : (ts : Trees) → PlainKind ts kNot
 unfolding kindItems used bound wordsOf
-not-plain ts = record { uses = λ n. refl; binds = λ n. refl; opens = refl; coded = λ limit numbers w. tt; size = λ n. omega arith; fits = tt }
+not-plain ts = record { uses = λ n. refl; binds = λ n. refl; opens = refl; coded = λ limit numbers w. tt; size = λ n. omega arith; fits = tt; named = refl; made = tt }
 
 imp-plain : (ts : Trees) → PlainKind ts kImp
 unfolding kindItems used bound wordsOf
-imp-plain ts = record { uses = λ n. refl; binds = λ n. refl; opens = refl; coded = λ limit numbers w. tt; size = λ n. omega arith; fits = tt }
+imp-plain ts = record { uses = λ n. refl; binds = λ n. refl; opens = refl; coded = λ limit numbers w. tt; size = λ n. omega arith; fits = tt; named = refl; made = tt }
 
 iff-plain : (ts : Trees) → PlainKind ts kIff
 unfolding kindItems used bound wordsOf
-iff-plain ts = record { uses = λ n. refl; binds = λ n. refl; opens = refl; coded = λ limit numbers w. tt; size = λ n. omega arith; fits = tt }
+iff-plain ts = record { uses = λ n. refl; binds = λ n. refl; opens = refl; coded = λ limit numbers w. tt; size = λ n. omega arith; fits = tt; named = refl; made = tt }
 
 pub bin-plain : (op : BinOp) (ts : Trees) → PlainKind ts (kBin op)
 unfolding kindItems used bound wordsOf
-bin-plain op ts = record { uses = λ n. refl; binds = λ n. refl; opens = refl; coded = λ limit numbers w. tt; size = λ n. omega arith; fits = tt }
+bin-plain op ts = record { uses = λ n. refl; binds = λ n. refl; opens = refl; coded = λ limit numbers w. tt; size = λ n. omega arith; fits = tt; named = refl; made = tt }
 
 rel-plain : (r : Relation) (ts : Trees) → PlainKind ts (kAtom r)
 unfolding kindItems used bound wordsOf
-rel-plain r ts = record { uses = λ n. refl; binds = λ n. refl; opens = refl; coded = λ limit numbers w. tt; size = λ n. omega arith; fits = tt }
+rel-plain r ts = record { uses = λ n. refl; binds = λ n. refl; opens = refl; coded = λ limit numbers w. tt; size = λ n. omega arith; fits = tt; named = refl; made = tt }
 
 pub bits-plain : (ts : Trees) (v : Wide) (width : ℕ) → LiteralFits (kBitVec v width) → PlainKind ts (kBitVec v width)
 unfolding kindItems used bound wordsOf
-bits-plain ts v width f = record { uses = λ n. refl; binds = λ n. refl; opens = refl; coded = λ limit numbers w. tt; size = λ n. omega arith; fits = f }
+bits-plain ts v width f = record { uses = λ n. refl; binds = λ n. refl; opens = refl; coded = λ limit numbers w. tt; size = λ n. omega arith; fits = f; named = refl; made = tt }
 
 -- A kind with a name from the trees.
 pub ctor-plain : (ts : Trees) (x : Span) → NameFromAny ts x → PlainKind ts (kIsCtor (varOf x))
 unfolding kindItems used bound wordsOf
-ctor-plain ts x f = record { uses = λ n. refl; binds = λ n. refl; opens = refl; coded = λ limit numbers w. f limit w; size = λ n. omega arith; fits = tt }
+ctor-plain ts x f = record { uses = λ n. refl; binds = λ n. refl; opens = refl; coded = λ limit numbers w. f limit w; size = λ n. omega arith; fits = tt; named = refl; made = tt }
 
 -- What a form asks of a name of l bytes: that its kind is plain and has its number of operands; that `is$` stands in it.
 abbrev pub FormFits : ℕ → Form → Type 0

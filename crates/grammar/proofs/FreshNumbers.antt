@@ -36,12 +36,12 @@ Good t sc n e m = Exactly n (bound (exprItems e)) m × ((c : ℕ) → Scoped e c
 abbrev pub GoodAll : Trees → List Scope → ℕ → Exprs → ℕ → Type 0
 GoodAll ts sc n es m = Exactly n (bound (exprsItems es)) m × ((c : ℕ) → ScopedAll es c (runs c sc))
 
-in-left : (k : ℕ) (l r : List ℕ) → In k l → In k (l ++ r)
+pub in-left : (k : ℕ) (l r : List ℕ) → In k l → In k (l ++ r)
 in-left k [] r h = absurd h
 in-left k (x ∷ xs) r (inl e) = inl e
 in-left k (x ∷ xs) r (inr h) = inr (in-left k xs r h)
 
-in-right : (k : ℕ) (l r : List ℕ) → In k r → In k (l ++ r)
+pub in-right : (k : ℕ) (l r : List ℕ) → In k r → In k (l ++ r)
 in-right k [] r h = h
 in-right k (x ∷ xs) r h = inr (in-right k xs r h)
 
@@ -54,7 +54,7 @@ unfolding bound binderItems numbered upFrom
 bound-numbered k [] = refl
 bound-numbered k (s ∷ ss) = ap (λ l. k ∷ l) (bound-front (sortWords s) (binderItems (numbered (suc k) ss)) ∙ bound-numbered (suc k) ss)
 
-used-numbered : (k : ℕ) (ss : List Sort) → used (binderItems (numbered k ss)) ≡ []
+pub used-numbered : (k : ℕ) (ss : List Sort) → used (binderItems (numbered k ss)) ≡ []
 unfolding used binderItems numbered
 used-numbered k [] = refl
 used-numbered k (s ∷ ss) = used-front (sortWords s) (binderItems (numbered (suc k) ss)) ∙ used-numbered (suc k) ss

@@ -26,3 +26,7 @@ pub mod FormsWritten
 pub mod TreeHead
 pub mod SortRefusals
 pub mod ExprRefusals
+pub mod ScopeNumbers
+pub mod LetNames
+pub mod ReadSo
+pub mod NamedLets

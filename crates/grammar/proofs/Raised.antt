@@ -4,10 +4,10 @@ use mathlib.Core.Path.{_≡_, refl}
 use mathlib.Core.List.{List, [], _∷_, _++_}
 use native.Mathlib.Omega.{arith}
 use Rattle.grammar.specs.Item.{raise, bound}
-use Rattle.grammar.specs.Expr.{Binder, Kind, kNum, kBool, kStr, kBitVec, kFresh, kNamed, kNeg, kBin, kIf, kAnd, kOr, kNot, kImp, kIff, kAtom, kLet, kTheory, kIsCtor, kExists, kLetFresh, Expr, Exprs, node, app, enil, econs, exprs, kindItems, outside}
+use Rattle.grammar.specs.Expr.{Binder, Kind, kNum, kBool, kStr, kBitVec, kFresh, kNamed, kNeg, kBin, kIf, kAnd, kOr, kNot, kImp, kIff, kAtom, kLet, kTheory, kIsCtor, kExists, kLetFresh, Expr, Exprs, node, app, enil, econs, exprs, kindItems, outside, EachKind, EachKindAll}
 use Rattle.grammar.specs.Shape.{HasOperands, BindersCoded, KindCoded, Coded, CodedAll}
 use Rattle.grammar.specs.Scoped.{Scoped, ScopedIn, ScopedAll}
-use Rattle.grammar.specs.Literals.{LiteralFits, LiteralsFit, AllLiteralsFit}
+use Rattle.grammar.specs.Literals.{LiteralFits, LiteralsFit}
 use Rattle.grammar.specs.Raise.{raiseBinders, raiseKind, raiseExpr, raiseExprs}
 use Rattle.grammar.proofs.Raise.{exprs-raise, kind-raise, raise-zero}
 
@@ -147,15 +147,19 @@ kind-fits-raise c (kIsCtor x) h = h
 kind-fits-raise c (kExists bs) h = h
 kind-fits-raise c (kLetFresh k) h = h
 
-mutual
-  unfolding raiseExpr
+-- What raising keeps of a kind it keeps of each node.
+module _ (P : Kind → Type 0) (c : ℕ) (keeps : (k : Kind) → P k → P (raiseKind c k)) where
+  mutual
+    unfolding raiseExpr
 
-  -- An expression whose literals fit has literals that fit when it is raised.
-  pub literals-raise : (c : ℕ) (e : Expr) → LiteralsFit e → LiteralsFit (raiseExpr c e)
-  literals-raise c (node k es) h = (kind-fits-raise c k (h .0), all-literals-raise c es (h .1))
-  literals-raise c (app o es e) h = (all-literals-raise c es (h .0), literals-raise c e (h .1))
+    pub kinds-raise : (e : Expr) → EachKind P e → EachKind P (raiseExpr c e)
+    kinds-raise (node k es) h = (keeps k (h .0), all-kinds-raise es (h .1))
+    kinds-raise (app o es e) h = (all-kinds-raise es (h .0), kinds-raise e (h .1))
 
-  -- The same for several expressions.
-  pub all-literals-raise : (c : ℕ) (es : Exprs) → AllLiteralsFit es → AllLiteralsFit (raiseExprs c es)
-  all-literals-raise c enil h = tt
-  all-literals-raise c (econs e es) h = (literals-raise c e (h .0), all-literals-raise c es (h .1))
+    all-kinds-raise : (es : Exprs) → EachKindAll P es → EachKindAll P (raiseExprs c es)
+    all-kinds-raise enil h = tt
+    all-kinds-raise (econs e es) h = (kinds-raise e (h .0), all-kinds-raise es (h .1))
+
+-- An expression whose literals fit has literals that fit when it is raised.
+pub literals-raise : (c : ℕ) (e : Expr) → LiteralsFit e → LiteralsFit (raiseExpr c e)
+literals-raise c e h = kinds-raise LiteralFits c (kind-fits-raise c) e h

@@ -82,9 +82,25 @@ unfoldable pub exprs : Exprs → ℕ
 exprs enil = 0
 exprs (econs e es) = suc (exprs es)
 
+-- Something holds of the kind of each node of an expression, of several.
+abbrev mutual
+  pub EachKind : (Kind → Type 0) → Expr → Type 0
+  EachKind P (node k es) = P k × EachKindAll P es
+  EachKind P (app o es h) = EachKindAll P es × EachKind P h
+
+  pub EachKindAll : (Kind → Type 0) → Exprs → Type 0
+  EachKindAll P enil = Unit {0}
+  EachKindAll P (econs e es) = EachKind P e × EachKindAll P es
+
 pub data Pred : Type 0 where
   kvar : KvarName → List VarName → Pred
   expr : Expr → Pred
+
+-- Something holds of each predicate that is an expression.
+abbrev pub PredsHold : (Expr → Type 0) → List Pred → Type 0
+PredsHold P [] = Unit {0}
+PredsHold P (kvar k xs ∷ ps) = PredsHold P ps
+PredsHold P (expr e ∷ ps) = P e × PredsHold P ps
 
 pub record Bind : Type 0 where
   pub name : VarName

@@ -8,6 +8,7 @@ pub mod ParseExpr
 pub mod ParseBind
 pub mod ParseSolution
 pub mod Literals
+pub mod Lets
 pub mod OtherRule
 pub mod Numbers
 pub mod Scoped

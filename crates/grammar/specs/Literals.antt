@@ -9,7 +9,7 @@ use Rattle.reading.specs.Bytes.{ascii, beginsWith, Span, bytesAt}
 use Rattle.reading.specs.Number.{wideOf, valueOf, allDigits, valueFrom}
 use Rattle.reading.specs.Tree.{quoted, Tree, atom}
 use Rattle.reading.specs.Answer.{got, ok}
-use Rattle.grammar.specs.Expr.{Kind, kNum, kBool, kStr, kBitVec, kFresh, kNamed, kNeg, kBin, kIf, kAnd, kOr, kNot, kImp, kIff, kAtom, kLet, kTheory, kIsCtor, kExists, kLetFresh, Expr, Exprs, node, app, leaf, enil, econs, Pred, kvar, expr, Bind, Solution}
+use Rattle.grammar.specs.Expr.{Kind, kNum, kBool, kStr, kBitVec, kFresh, kNamed, kNeg, kBin, kIf, kAnd, kOr, kNot, kImp, kIff, kAtom, kLet, kTheory, kIsCtor, kExists, kLetFresh, Expr, Exprs, leaf, EachKind, EachKindAll, PredsHold, Bind, Solution}
 use Rattle.grammar.specs.Scope.{Scope}
 use Rattle.grammar.specs.ParseExpr.{Child, childAt, digitsIn, widthOf, litForm, parseExpr}
 use Rattle.grammar.specs.ParseBind.{parseBind}
@@ -66,23 +66,15 @@ LiteralFits (kIsCtor x) = Unit {0}
 LiteralFits (kExists bs) = Unit {0}
 LiteralFits (kLetFresh k) = Unit {0}
 
--- So it is with every literal in an expression, and in predicates.
-abbrev mutual
-  pub LiteralsFit : Expr → Type 0
-  LiteralsFit (node k es) = LiteralFits k × AllLiteralsFit es
-  LiteralsFit (app o es h) = AllLiteralsFit es × LiteralsFit h
+-- So it is with every literal in an expression.
+abbrev pub LiteralsFit : Expr → Type 0
+LiteralsFit e = EachKind LiteralFits e
 
-  pub AllLiteralsFit : Exprs → Type 0
-  AllLiteralsFit enil = Unit {0}
-  AllLiteralsFit (econs e es) = LiteralsFit e × AllLiteralsFit es
-
-abbrev pub PredsFit : List Pred → Type 0
-PredsFit [] = Unit {0}
-PredsFit (kvar k xs ∷ ps) = PredsFit ps
-PredsFit (expr e ∷ ps) = LiteralsFit e × PredsFit ps
+abbrev pub AllLiteralsFit : Exprs → Type 0
+AllLiteralsFit es = EachKindAll LiteralFits es
 
 -- So it is in everything that is read.
 pub record LiteralsRead (text : List ℕ) (t : Tree) : Type 0 where
   pub ofExpr : (n m : ℕ) (e : Expr) → parseExpr text t n ≡ ok e m → LiteralsFit e
-  pub ofBind : (n m : ℕ) (b : Bind) → parseBind text t n ≡ ok b m → PredsFit (b .preds)
+  pub ofBind : (n m : ℕ) (b : Bind) → parseBind text t n ≡ ok b m → PredsHold LiteralsFit (b .preds)
   pub ofSolution : (n m : ℕ) (s : Solution) → parseSolution text t n ≡ ok s m → LiteralsFit (s .body)
