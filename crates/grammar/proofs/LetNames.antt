@@ -8,21 +8,20 @@ use native.Mathlib.Omega.{arith}
 use lib.Dec.{ltb}
 use lib.ListN.{length}
 use Rattle.reading.specs.Pick.{pick}
-use Rattle.reading.specs.Bytes.{ascii, sameBytes, beginsWith, Span, bytesAt, Maybe, nothing, just, lookup}
+use Rattle.reading.specs.Bytes.{ascii, sameBytes, Span, bytesAt, Maybe, nothing, just, lookup}
 use Rattle.reading.specs.Number.{Wide, valueOf, minusOf}
 use Rattle.reading.specs.Tree.{symbol, integer, Tree, Trees, atom, list, tnil, tcons}
 use Rattle.reading.specs.Answer.{got}
-use Rattle.reading.proofs.Bytes.{same-equal}
 use Rattle.reading.proofs.Picks.{pick-holds}
 use Rattle.grammar.specs.Sort.{sortWords}
 use Rattle.grammar.specs.Item.{used}
 use Rattle.grammar.specs.Expr.{kNum, kNeg, Expr, Exprs, node, leaf, oneOf, exprs, kindItems, exprItems, exprsItems, binderItems}
-use Rattle.grammar.specs.Names.{letIn, keywords, theory}
+use Rattle.grammar.specs.Names.{theory}
 use Rattle.grammar.specs.Scope
 use Rattle.grammar.specs.Scope.{Scope, numbered, orElse}
 use Rattle.grammar.specs.Numbers.{In}
 use Rattle.grammar.specs.ParseExpr
-use Rattle.grammar.specs.ParseExpr.{numeral, childAt, nestedAt, letForm, atomChild, orElseForm}
+use Rattle.grammar.specs.ParseExpr.{numeral, childAt, nestedAt, letForm, atomChild}
 use Rattle.grammar.specs.Lets.{Each, namesIn, namesInAll, numbersOf, Apart, LetBinds, LetsBind}
 use Rattle.grammar.proofs.Items.{used-append, used-front}
 use Rattle.grammar.proofs.AnswerHolds.{Post, IfThere, chain-post}
@@ -30,6 +29,7 @@ use Rattle.grammar.proofs.WalkKeeps.{Kept}
 use Rattle.grammar.proofs.FreshNumbers.{used-numbered}
 use Rattle.grammar.proofs.ScopeNumbers.{meant-of, apart-below, apart-name}
 use Rattle.grammar.proofs.Walk.{child-of}
+use Rattle.grammar.proofs.OtherRule.{let-form}
 
 -- What holds of each of two lists holds of each of both; and what follows from it.
 each-append : {A : Type 0} (P : A → Type 0) (a b : List A) → Each P a → Each P b → Each P (a ++ b)
@@ -224,15 +224,11 @@ module _ (text : List ℕ) where
         own = each-map (Known (record { names = s ∷ []; first = m } ∷ sc) (m + 1)) (λ j. In j (numbersOf text s sc) → ⊥) (used (exprItems w)) (known-own s sc n m a (p .rises)) (r .known);
       })
 
-  -- The name `let` means a let.
-  let-form : (w : List ℕ) → sameBytes w (ascii "let") ≡ true → orElseForm (beginsWith (ascii "is$") w) (lookup keywords w) ≡ letIn
-  unfolding beginsWith lookup keywords sameBytes pick
-  let-form w e = rw (same-equal w (ascii "let") e) refl
-
+  -- A list that begins with `let` is read as a let.
   let-read : (t : Span) (us : Trees) (sc : List Scope) (n : ℕ) → sameBytes (bytesAt text t) (ascii "let") ≡ true
       → ParseExpr.child text (list (tcons (atom (symbol t)) us)) .plainly sc n ≡ letForm (ParseExpr.children text (tcons (atom (symbol t)) us)) sc n
   unfolding ParseExpr.child ParseExpr.listChild ParseExpr.listExpr ParseExpr.headed ParseExpr.atomHeaded ParseExpr.formOf ParseExpr.parseForm childAt atomChild
-  let-read t us sc n e = ap (λ f. ParseExpr.parseForm text f t (ParseExpr.children text (tcons (atom (symbol t)) us)) sc n) (let-form (bytesAt text t) e)
+  let-read t us sc n e = ap (λ f. ParseExpr.parseForm text f t (ParseExpr.children text (tcons (atom (symbol t)) us)) sc n) (sym (let-form (bytesAt text t) e))
 
 -- Every let binds its name.
 pub lets-bind : LetsBind

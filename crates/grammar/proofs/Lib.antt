@@ -30,3 +30,4 @@ pub mod ScopeNumbers
 pub mod LetNames
 pub mod ReadSo
 pub mod NamedLets
+pub mod BindsCounted

@@ -1,16 +1,16 @@
 -- What another rule for the lists that begin with one name does not change, proved.
 use Prim.Native.Nat.{ℕ}
 use mathlib.Core.Bool.{Bool, true, false}
-use mathlib.Core.Path.{_≡_, refl, sym, ap, ap₂, _∙_}
+use mathlib.Core.Path.{_≡_, refl, ap, ap₂, _∙_}
 use mathlib.Core.List.{List, _∷_}
 use Rattle.reading.specs.Pick.{pick}
-use Rattle.reading.specs.Bytes.{ascii, sameBytes, beginsWith, bytesAt, lookup}
+use Rattle.reading.specs.Bytes.{ascii, sameBytes, beginsWith, Span, bytesAt, lookup}
 use Rattle.reading.specs.Tree.{symbol, quoted, integer, decimal, boolean, Tree, Trees, atom, list, tnil, tcons}
 use Rattle.reading.proofs.Bytes.{same-equal}
-use Rattle.grammar.specs.Names.{lit, keywords}
+use Rattle.grammar.specs.Names.{lit, letIn, keywords}
 use Rattle.grammar.specs.ParseExpr
-use Rattle.grammar.specs.ParseExpr.{P, Child, childAt, atomChild, orElseForm}
-use Rattle.grammar.specs.OtherRule.{NotFirst, Without, AllWithout, headedBy, listExprBy, listChildBy, childBy, childrenBy, litName, LiteralsByRule, OtherwiseAlike}
+use Rattle.grammar.specs.ParseExpr.{P, Child, childAt, atomChild, letForm, orElseForm}
+use Rattle.grammar.specs.OtherRule.{NotFirst, Without, AllWithout, headedBy, listExprBy, listChildBy, childBy, childrenBy, litName, letName, LiteralsByRule, LetsByRule, OtherwiseAlike}
 
 module _ (text name : List ℕ) (rule : List Child → P) where
   -- The lists of a tree are read alike by their first items.
@@ -65,39 +65,48 @@ module _ (text name : List ℕ) (rule : List Child → P) where
 pub otherwise-alike : OtherwiseAlike
 otherwise-alike text name rule t h = alike text name rule t (without text name rule t h)
 
-module _ (text : List ℕ) where
-  -- The name `lit` means a literal.
-  lit-form : (w : List ℕ) → sameBytes w litName ≡ true → orElseForm (beginsWith (ascii "is$") w) (lookup keywords w) ≡ lit
-  unfolding beginsWith lookup keywords sameBytes pick
-  lit-form w e = rw (same-equal w litName e) refl
-
-  -- So every list is read alike with the rule of literals for that name.
-  first-lit : (t : Tree) (cs : List Child) → headedBy text litName (ParseExpr.litForm text) t cs ≡ ParseExpr.headed text t cs
-  unfolding headedBy pick ParseExpr.headed ParseExpr.atomHeaded ParseExpr.formOf ParseExpr.parseForm
-  first-lit (atom (symbol s)) cs = go (sameBytes (bytesAt text s) litName) refl
+-- The rule that a name means, and all trees.
+module _ (text name : List ℕ) (rule : List Child → P) (means : (s : Span) (cs : List Child) → sameBytes (bytesAt text s) name ≡ true → rule cs ≡ ParseExpr.parseForm text (ParseExpr.formOf text s) s cs) where
+  first-alike : (t : Tree) (cs : List Child) → headedBy text name rule t cs ≡ ParseExpr.headed text t cs
+  unfolding headedBy pick ParseExpr.headed ParseExpr.atomHeaded
+  first-alike (atom (symbol s)) cs = go (sameBytes (bytesAt text s) name) refl
     where
-      go : (b : Bool) → sameBytes (bytesAt text s) litName ≡ b → pick b (ParseExpr.litForm text cs) (ParseExpr.parseForm text (ParseExpr.formOf text s) s cs) ≡ ParseExpr.parseForm text (ParseExpr.formOf text s) s cs
-      go true e = ap (λ f. ParseExpr.parseForm text f s cs) (sym (lit-form (bytesAt text s) e))
+      go : (b : Bool) → sameBytes (bytesAt text s) name ≡ b → pick b (rule cs) (ParseExpr.parseForm text (ParseExpr.formOf text s) s cs) ≡ ParseExpr.parseForm text (ParseExpr.formOf text s) s cs
+      go true e = means s cs e
       go false e = refl
-  first-lit (atom (quoted s)) cs = refl
-  first-lit (atom (integer w)) cs = refl
-  first-lit (atom (decimal s)) cs = refl
-  first-lit (atom (boolean b)) cs = refl
-  first-lit (list ts) cs = refl
+  first-alike (atom (quoted s)) cs = refl
+  first-alike (atom (integer w)) cs = refl
+  first-alike (atom (decimal s)) cs = refl
+  first-alike (atom (boolean b)) cs = refl
+  first-alike (list ts) cs = refl
 
-  firsts : (ts : Trees) → FirstAlike text litName (ParseExpr.litForm text) ts
+  firsts : (ts : Trees) → FirstAlike text name rule ts
   firsts tnil = tt
-  firsts (tcons t ts) = first-lit t
+  firsts (tcons t ts) = first-alike t
 
   mutual
-    all-trees : (t : Tree) → Alike text litName (ParseExpr.litForm text) t
+    all-trees : (t : Tree) → Alike text name rule t
     all-trees (atom a) = tt
     all-trees (list ts) = (firsts ts, all-lists ts)
 
-    all-lists : (ts : Trees) → AllAlike text litName (ParseExpr.litForm text) ts
+    all-lists : (ts : Trees) → AllAlike text name rule ts
     all-lists tnil = tt
     all-lists (tcons t ts) = (all-trees t, all-lists ts)
 
--- The rule of literals, and all trees.
+-- The names `lit` and `let` mean a literal and a let.
+lit-form : (w : List ℕ) → sameBytes w litName ≡ true → lit ≡ orElseForm (beginsWith (ascii "is$") w) (lookup keywords w)
+unfolding beginsWith lookup keywords sameBytes pick
+lit-form w e = rw (same-equal w litName e) refl
+
+pub let-form : (w : List ℕ) → sameBytes w letName ≡ true → letIn ≡ orElseForm (beginsWith (ascii "is$") w) (lookup keywords w)
+unfolding beginsWith lookup keywords sameBytes pick
+let-form w e = rw (same-equal w letName e) refl
+
 pub literals-by-rule : LiteralsByRule
-literals-by-rule text t = alike text litName (ParseExpr.litForm text) t (all-trees text t)
+unfolding ParseExpr.formOf ParseExpr.parseForm
+literals-by-rule text t =
+    alike text litName (ParseExpr.litForm text) t (all-trees text litName (ParseExpr.litForm text) (λ s cs e. ap (λ f. ParseExpr.parseForm text f s cs) (lit-form (bytesAt text s) e)) t)
+
+pub lets-by-rule : LetsByRule
+unfolding ParseExpr.formOf ParseExpr.parseForm
+lets-by-rule text t = alike text letName letForm t (all-trees text letName letForm (λ s cs e. ap (λ f. ParseExpr.parseForm text f s cs) (let-form (bytesAt text s) e)) t)

@@ -8,6 +8,7 @@ use Rattle.grammar.specs.Expr.{Binder, Kind, kNum, kBool, kStr, kBitVec,
 use Rattle.grammar.specs.Shape.{HasOperands, BindersCoded, KindCoded, Coded, CodedAll}
 use Rattle.grammar.specs.Scoped.{Scoped, ScopedIn, ScopedAll}
 use Rattle.grammar.specs.Literals.{LiteralFits, LiteralsFit}
+use Rattle.grammar.specs.Lets.{NoNamedLet, NoNamedLets}
 use Rattle.grammar.specs.Raise.{raiseBinders, raiseKind, raiseExpr, raiseExprs}
 use Rattle.grammar.proofs.Raise.{exprs-raise, kind-raise, raise-zero}
 
@@ -163,3 +164,30 @@ module _ (P : Kind → Type 0) (c : ℕ) (keeps : (k : Kind) → P k → P (rais
 -- An expression whose literals fit has literals that fit when it is raised.
 pub literals-raise : (c : ℕ) (e : Expr) → LiteralsFit e → LiteralsFit (raiseExpr c e)
 literals-raise c e h = kinds-raise LiteralFits c (kind-fits-raise c) e h
+
+-- A let of a number stays one.
+kind-unnamed-raise : (c : ℕ) (k : Kind) → NoNamedLet k → NoNamedLet (raiseKind c k)
+unfolding raiseKind
+kind-unnamed-raise c (kNum v) h = h
+kind-unnamed-raise c (kBool b) h = h
+kind-unnamed-raise c (kStr s) h = h
+kind-unnamed-raise c (kBitVec v width) h = h
+kind-unnamed-raise c (kFresh j) h = h
+kind-unnamed-raise c (kNamed x) h = h
+kind-unnamed-raise c kNeg h = h
+kind-unnamed-raise c (kBin op) h = h
+kind-unnamed-raise c kIf h = h
+kind-unnamed-raise c kAnd h = h
+kind-unnamed-raise c kOr h = h
+kind-unnamed-raise c kNot h = h
+kind-unnamed-raise c kImp h = h
+kind-unnamed-raise c kIff h = h
+kind-unnamed-raise c (kAtom r) h = h
+kind-unnamed-raise c (kLet x) h = h
+kind-unnamed-raise c (kTheory j) h = h
+kind-unnamed-raise c (kIsCtor x) h = h
+kind-unnamed-raise c (kExists bs) h = h
+kind-unnamed-raise c (kLetFresh j) h = h
+
+pub named-lets-raise : (c : ℕ) (e : Expr) → NoNamedLets e → NoNamedLets (raiseExpr c e)
+named-lets-raise c e h = kinds-raise NoNamedLet c (kind-unnamed-raise c) e h

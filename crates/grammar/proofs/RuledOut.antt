@@ -1,8 +1,8 @@
--- What the notions of fresh numbers and of literals rule out, a case each.
+-- What the notions of fresh numbers, of lets and of literals rule out, a case each.
 use Prim.Native.Nat.{ℕ, _+_, _≤_, _<_, _%_, _/_, _^_}
-use mathlib.Core.Path.{_≡_, refl, ap}
-use mathlib.Core.Logic.{⊎-elim}
-use mathlib.Core.Bool.{Bool, true, false}
+use mathlib.Core.Path.{_≡_, refl, sym, ap, subst, _∙_}
+use mathlib.Core.Logic.{⊎-elim, inl}
+use mathlib.Core.Bool.{Bool, true, false, false≢true}
 use mathlib.Core.List.{List, [], _∷_}
 use native.Mathlib.Omega.{arith}
 use lib.Dec.{ltb}
@@ -10,13 +10,16 @@ use lib.ListN.{length, drop, getD}
 use borrow.Author.Tests.{eq-eqb, ltb-true, ltb-false}
 use Rattle.reading.specs.Limits.{maxNumber}
 use Rattle.reading.specs.Pick.{pick}
+use Rattle.reading.specs.Bytes.{sameBytes, Span, bytesAt}
 use Rattle.reading.specs.Number.{wideOf, valueOf}
 use Rattle.grammar.specs.Sort.{sInt, sortWords}
 use Rattle.grammar.specs.Item.{Item, plain, uses, binds, raise, wordsOf, used, bound}
-use Rattle.grammar.specs.Expr.{Expr, leaf, node, oneOf, econs, exprs, Binder, binderItems, kindItems, kFresh, kBool, kBitVec, kAnd, kExists}
-use Rattle.grammar.specs.Numbers.{hit, times, Exactly}
+use Rattle.grammar.specs.Expr.{VarName, Expr, leaf, node, oneOf, econs, exprs, Binder, binderItems, kindItems, exprItems, kFresh, kNamed, kBool, kBitVec, kAnd, kLet, kExists, kLetFresh}
+use Rattle.grammar.specs.Scope.{Scope, varOf, sameName}
+use Rattle.grammar.specs.Numbers.{In, hit, times, Exactly}
 use Rattle.grammar.specs.Scoped.{Scoped, ScopedSolution}
 use Rattle.grammar.specs.Literals.{LiteralsFit}
+use Rattle.grammar.specs.Lets.{Each, namesIn, numbersAmong, numbersOf, LetBinds, NoNamedLets}
 
 -- The variable with a fresh number, and an exists that binds one number.
 abbrev variable : ℕ → Expr
@@ -41,6 +44,48 @@ bound-by-another c h = ⊎-elim (λ (e : _). omega arith) (λ e. e) (h .1 .0 .0 
 pub bound-beside : (c : ℕ) → Scoped (node kAnd (econs (exists1 0 (leaf (kBool true))) (oneOf (variable 0)))) c [] → ⊥
 unfolding kindItems exprs raise used bound
 bound-beside c h = h .1 .1 .0 .0 .0
+
+-- A let encloses its body, and neither its binding nor what stands beside it.
+abbrev let1 : ℕ → Expr → Expr → Expr
+let1 k v b = node (kLetFresh k) (econs v (oneOf b))
+
+pub let-in-body : (c : ℕ) → Scoped (let1 0 (leaf (kBool true)) (variable 0)) c []
+unfolding kindItems exprs raise used bound
+let-in-body c = (tt, ((tt, tt), (((inl refl, tt), tt), tt)))
+
+pub let-in-binding : (c : ℕ) → Scoped (let1 0 (variable 0) (leaf (kBool true))) c [] → ⊥
+unfolding kindItems exprs raise used bound
+let-in-binding c h = h .1 .0 .0 .0
+
+pub let-beside : (c : ℕ) → Scoped (node kAnd (econs (let1 0 (leaf (kBool true)) (variable 0)) (oneOf (variable 0)))) c [] → ⊥
+unfolding kindItems exprs raise used bound
+let-beside c h = h .1 .1 .0 .0 .0
+
+-- In a let of a name under a parameter of the same name, the body uses neither the name nor the parameter's number.
+abbrev x₁ : Span
+x₁ = record { start = 0; len = 1 }
+
+abbrev parameter : List Scope
+parameter = record { names = x₁ ∷ []; first = 0 } ∷ []
+
+abbrev textX : List ℕ
+textX = 120 ∷ []
+
+pub let-of-a-name : (v : Expr) → LetBinds textX x₁ parameter (let1 1 v (leaf (kNamed (varOf x₁)))) → ⊥
+unfolding namesIn sameName sameBytes bytesAt pick
+let-of-a-name v h =
+    let e : h .body ≡ leaf (kNamed (varOf x₁)) = cc in
+    false≢true (sym (subst (λ b. Each (λ x. sameName textX x x₁ ≡ false) (namesIn b)) e (h .unnamed) .0) ∙ refl)
+
+pub let-of-the-parameter : (v : Expr) → LetBinds textX x₁ parameter (let1 1 v (variable 0)) → ⊥
+unfolding sameName sameBytes bytesAt numbersOf numbersAmong pick exprItems kindItems exprs used
+let-of-the-parameter v h =
+    let e : h .body ≡ variable 0 = cc in
+    subst (λ b. Each (λ j. In j (numbersOf textX x₁ parameter) → ⊥) (used (exprItems b))) e (h .own) .0 (inl refl)
+
+-- A let of a name is none that is read.
+pub named-let : (x : VarName) (v b : Expr) → NoNamedLets (node kAnd (oneOf (node (kLet x) (econs v (oneOf b))))) → ⊥
+named-let x v b h = h .1 .0 .0
 
 -- Nor a solution whose expression uses a number that no parameter binds.
 pub no-parameter : (c : ℕ) → ScopedSolution c (record { params = []; body = variable 0 }) → ⊥

@@ -7,7 +7,7 @@ use Rattle.reading.specs.Pick.{pick}
 use Rattle.reading.specs.Bytes.{ascii, sameBytes, bytesAt}
 use Rattle.reading.specs.Tree.{Atom, symbol, quoted, integer, decimal, boolean, Tree, Trees, atom, list, tnil, tcons}
 use Rattle.reading.specs.Answer.{_>>=_, chain, lifted}
-use Rattle.grammar.specs.ParseExpr.{P, Child, childAt, atomChild, atomExpr, litForm, headed, listOf, child}
+use Rattle.grammar.specs.ParseExpr.{P, Child, childAt, atomChild, atomExpr, letForm, litForm, headed, listOf, child}
 
 module _ (text name : List ℕ) where
   -- An item that is the symbol of this name.
@@ -60,15 +60,21 @@ module _ (text name : List ℕ) where
       childrenBy tnil = []
       childrenBy (tcons t ts) = childBy t ∷ childrenBy ts
 
--- The name that a literal begins with.
+-- The names that a literal and a let begin with.
 abbrev pub litName : List ℕ
 litName = ascii "lit"
 
--- With the rule of literals for that name this is the parser.
+abbrev pub letName : List ℕ
+letName = ascii "let"
+
+-- With the rule of literals for the one name, or the rule of lets for the other, this is the parser.
 abbrev pub LiteralsByRule : Type 0
 LiteralsByRule = (text : List ℕ) (t : Tree) → childBy text litName (litForm text) t ≡ child text t
 
--- With any rule for any name it reads every tree without the name as the parser does; so what was or will be said of `lit` changes nothing
--- in expressions, binds and solutions without one, all of which are read by `child`.
+abbrev pub LetsByRule : Type 0
+LetsByRule = (text : List ℕ) (t : Tree) → childBy text letName letForm t ≡ child text t
+
+-- With any rule for any name it reads every tree without the name as the parser does; so what was or will be said of `lit` or `let` changes
+-- nothing in expressions, binds and solutions without one, all of which are read by `child`.
 abbrev pub OtherwiseAlike : Type 0
 OtherwiseAlike = (text name : List ℕ) (rule : List Child → P) (t : Tree) → Without text name t → childBy text name rule t ≡ child text t

@@ -55,8 +55,8 @@ pub fn let_plan(text: &[u8], tree: &[u32], at: usize, next: u64, out: &mut [u32]
         want: 1,
         last: at + 6 + words_at(tree, at + 6),
         plain: false,
-        names: 0,
-        fresh: 0,
+        names: 0, // the value is read outside
+        fresh: 0, // and its numbers come first
         pair: pair,
         words: v,
     })

@@ -149,6 +149,7 @@ module _ (Q : ℕ → Type 0) (six : Q (number tooDeep)) (fourteen : Q notWords)
         & then (wordBelow 42) (a-below 42) (λ k. reads-on _)
         & then (nameWithin limit) a-name (λ x. reads-on _)
         & then word a-word (λ n. then (bindersAt limit n) (some-binders n) λ bs. reads-on _)
+        & then twoWords a-two (λ k. reads-on _)
         & last
 
     a-header : Only (header limit)

@@ -17,7 +17,7 @@ use Rattle.grammar.proofs.Raise.{solution-raise}
 use Rattle.flattening.specs.Uncurry.{flattened}
 use Rattle.flattening.specs.Operations.{flatItems, solutionFits, solutionFinal}
 use Rattle.flattening.proofs.SolutionBack.{RaisedBack, raised-back}
-use Rattle.flattening.proofs.FlatLiterals.{flat-fit}
+use Rattle.flattening.proofs.FlatKinds.{flat-fit}
 use Rattle.judging.specs.Judge.{reads, judgeSolution}
 use Rattle.smt.specs.Unwritable.{Part, aFunctionBelow9, aFunctionFrom32, aFunctionAlone, aValueTooLarge, aWidthOfZero, inVars, inOperands, inArguments, inHeadAlone, anotherHead, Parts, inFirst, inLater, SolutionPart, inParams, inBody}
 use Rattle.refusals.specs.Literals.{IsLiteral, AmongLiterals, LiteralPart, LiteralsWritable}
