@@ -145,8 +145,7 @@ module _ (text : List ℕ) where
   on-let s u ts sc n m p x v b l g h =
       let own : Exactly m (m ∷ []) (m + 1) = exactly-up m 1 in
       let inner : Exactly m (m ∷ bound (exprItems b ++ [])) p = exactly-append m (m + 1) p (m ∷ []) (bound (exprItems b ++ [])) own (h .0) in
-      let all : Exactly n (bound (exprItems v) ++ (m ∷ bound (exprItems b ++ []))) p = exactly-append n m p (bound (exprItems v)) (m ∷ bound (exprItems b ++ [])) (g .0) inner in
-      (
+      let all : Exactly n (bound (exprItems v) ++ (m ∷ bound (exprItems b ++ []))) p = exactly-append n m p (bound (exprItems v)) (m ∷ bound (exprItems b ++ [])) (g .0) inner in (
         rw (bound-append (exprItems v) (exprItems b ++ [])) (exactly-same n (m ∷ (bound (exprItems v) ++ bound (exprItems b ++ []))) (bound (exprItems v) ++ (m ∷ bound (exprItems b ++ []))) p (same-swap (m ∷ []) (bound (exprItems v)) (bound (exprItems b ++ []))) all),
         λ c. (tt, (g .1 c, h .1 c)),
       )

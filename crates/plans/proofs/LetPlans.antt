@@ -226,8 +226,7 @@ module _ {text ws : List ℕ} {at w next : ℕ} (s : Span) (us : Trees) (h : Lis
               made-body {j} b e =
                   let l = lead-next let-pair e (omega (arith, head-count s us h)) in
                   let front : ℕ → List ℕ = λ m. kindWords count (kLetFresh m) 2 in
-                  made 1 (at + 6 + j) q (boundLast name (l .tree))
-                  (
+                  made 1 (at + 6 + j) q (boundLast name (l .tree)) (
                     record { rest = treesWords (l .others) ++ l .rest; words = l .words; beyond = omega arith },
                     refl,
                     record { place = pair-place; named = refl; there = omega (arith, k .forward); free = omega (arith, p .is); alone = refl },
