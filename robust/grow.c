@@ -31,7 +31,8 @@ const char *const dictionary[] = {
     "lambda", "exists", "let", "not", "or", "and", "lit", "if", "-", "+", "*", "/", "mod", "=", "!=", "<", "<=", ">", ">=", "<=>", "=>", "cast",
     "cast_as_int", "is$", "is$C", "as", "apply", "(as apply Int)", "((as apply Int) f)", "$", "$k", "func", "function", "Set_Set", "Map_t",
     "Array_t", "BitVec", "(BitVec Size3)", "Int", "int", "Bool", "bool", "Real", "real", "Str", "str", "true", "false", "x", "y", "z", "(x Int)",
-    "((x Int))", "((x Int) (y Int))", "(let (x 1) x)", "(let (x x) (and x y))", "(x 1)", "Size", "Size1", "Size3", "Size4294967295", "Size4294967296", "Size+8", "@(0)", "@(18446744073709551615)",
+    "((x Int))", "((x Int) (y Int))", "(let (x 1) x)", "(let (x x) (and x y))", "(x 1)",
+    "Size", "Size1", "Size3", "Size4294967295", "Size4294967296", "Size+8", "@(0)", "@(18446744073709551615)",
     "@(18446744073709551616)", "@)", "0", "1", "64", "65", "-1", "+5", "4294967296", "18446744073709551616",
     "170141183460469231731687303715884105727", "170141183460469231731687303715884105728", "-170141183460469231731687303715884105728",
     "-170141183460469231731687303715884105729", "999999999999999999", "1000000000000000000", "1.5", ".5", "5.", "1e5", "1E-5", "inf", "-Infinity",
@@ -45,7 +46,8 @@ const size_t dictionary_size = COUNT(dictionary);
 // %X stands for a text of the rule X. The first rules of each list end the growth.
 static const char *const exprs[] = {
     "%N", "%N", "%I", "true", "\"a b\"", "%T", "false", "(not %E)", "(and%A)", "(or%A)", "(if %E %E %E)", "(%O %E %E)", "(%O %E %E)", "(- %E)",
-    "(let (%N %E) %E)", "(let ((%N %E)) %E)", "(let (x %E) (%O x %E))", "((let (%N %E) %N)%A)", "(let (%T %E) %T)", "(exists (%B) %E)", "(exists (%B) %E)", "(%T %E)", "(%T %E %E)", "((as apply %S) %E)",
+    "(let (%N %E) %E)", "(let ((%N %E)) %E)", "(let (x %E) (%O x %E))", "((let (%N %E) %N)%A)", "(let (%T %E) %T)",
+    "(exists (%B) %E)", "(exists (%B) %E)", "(%T %E)", "(%T %E %E)", "((as apply %S) %E)",
     "(((as apply %S) %E)%A)", "((%E %E) %E)", "((not %E)%A)", "(is$C %E)", "(cast %E)", "(lit \"#b%D\" (BitVec %Z))", "%L", "%L", "(%E)", "(%N%A)",
 };
 static const char *const sorts[] = {

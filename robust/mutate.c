@@ -64,7 +64,9 @@ static size_t item(const u8 *text, size_t len, size_t *at)
 // Wraps an item in lists of one form, up to past the limit of nesting.
 static size_t wrap(u8 *text, size_t len, size_t room)
 {
-    static const char *const forms[] = {"(", "(not ", "(and x ", "(Set_Set ", "(exists ((x Int)) ", "(let (x 1) ", "(let (x x) ", "((as apply Int) ", "(- ", "(A "};
+    static const char *const forms[] = {
+        "(", "(not ", "(and x ", "(Set_Set ", "(exists ((x Int)) ", "(let (x 1) ", "(let (x x) ", "((as apply Int) ", "(- ", "(A ",
+    };
     const char *form = forms[below(sizeof forms / sizeof forms[0])];
     size_t at, n = item(text, len, &at), times = below(4) ? 1 : 1 + below(66);
     for (; n > 0 && times > 0 && len + strlen(form) + 1 <= room; times--) {

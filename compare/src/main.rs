@@ -11,7 +11,7 @@
 //!     compare bench-smtlib          the time of writing solutions as SMT-LIB terms, beside that of reading them
 //!     compare beside SHARED SEED MILLIONS [WORD ..]  so many million random calls of all functions against another archive, of which SHARED
 //!                                   is a shared object, behind all small texts; texts that contain one of the words are passed over, and
-//!                                   lists that contain the number 52 where one of the words is `kind:52`
+//!                                   words in which an expression of the kind 52 is met where one of the words is `kind:52`
 //!     compare bench-beside SHARED SHARED [TEXT ..]  the time of solution by the first against that by the second, of made texts and of these;
 //!                                   and that of read one, of solutions of nested lists and of these
 //!     compare reading SEED MILLIONS so many million for read one and read all against sexp.rs, behind all short texts

@@ -17,21 +17,17 @@ const NAME: &str = "the other archive";
 /// How a word begins that is the number of a kind.
 const KIND: &str = "kind:";
 
-/// The other archive, and what is passed over: a text that contains one of these words, in upper or lower case, and a list that contains one of
-/// these numbers.
+/// The other archive, and what is passed over: a text that contains one of these words, in upper or lower case, and words in which an expression
+/// of one of these kinds is met.
 struct Beside<'a> {
     other: &'a Archive,
     words: Vec<&'a str>,
-    numbers: Vec<u32>,
+    kinds: Vec<u32>,
 }
 
 impl Beside<'_> {
     fn passes_over(&self, text: &[u8]) -> bool {
         self.words.iter().any(|word| text.windows(word.len()).any(|part| part.eq_ignore_ascii_case(word.as_bytes())))
-    }
-
-    fn passes_over_words(&self, words: &[u32]) -> bool {
-        self.numbers.iter().any(|number| words.contains(number))
     }
 
     /// The calls of an operation on a text, by both.
@@ -45,7 +41,7 @@ impl Beside<'_> {
 
     /// The same of flattening.
     fn words(&self, words: &[u32], r: &mut Random, tally: &mut Tally) -> Result<(), String> {
-        if self.passes_over_words(words) {
+        if self.kinds.iter().any(|kind| paper::meets(*kind, words)) {
             tally.except();
             return Ok(());
         }
@@ -54,7 +50,7 @@ impl Beside<'_> {
 
     /// The same of writing a solution as a term.
     fn solution(&self, words: &[u32], text: &[u8], r: &mut Random, tally: &mut Tally) -> Result<(), String> {
-        if self.passes_over(text) || self.passes_over_words(words) {
+        if self.passes_over(text) || self.kinds.iter().any(|kind| paper::solution_meets(*kind, words, text)) {
             tally.except();
             return Ok(());
         }
@@ -64,15 +60,15 @@ impl Beside<'_> {
 
 /// Holds all functions of the other archive against the linked ones, in so many random calls and behind all texts up to these sizes, and prints
 /// how they ended. Half of the random calls are those that parse; the other four functions share the rest. Texts that contain one of the words
-/// are passed over, and lists of words that contain the number of a word such as `kind:52`.
+/// are passed over, and words to flatten or to write in which an expression of the kind 52 is met where one of the words is `kind:52`.
 pub fn run(other: &Archive, words: &[&str], most: Small, calls: u64, r: &mut Random) -> Result<Tally, String> {
     if words.contains(&"") {
         return Err("a word that texts may contain, and not an empty one".to_string());
     }
     let (kinds, words): (Vec<&str>, Vec<&str>) = words.iter().partition(|word| word.starts_with(KIND));
     let number = |word: &str| word[KIND.len()..].parse().map_err(|_| format!("a number behind {KIND}, and not {word}"));
-    let numbers = kinds.into_iter().map(number).collect::<Result<_, _>>()?;
-    let beside = Beside { other, words, numbers };
+    let kinds = kinds.into_iter().map(number).collect::<Result<_, _>>()?;
+    let beside = Beside { other, words, kinds };
     let text = |op, text: &[u8], r: &mut Random, tally: &mut Tally| beside.text(op, text, r, tally);
     let mut all = Tally::default();
     for op in [Operation::ReadOne, Operation::ReadAll] {

@@ -11,7 +11,7 @@ pub struct Grower<'r> {
     pub words: Vec<u32>,
     /// How many more nodes may have children; then come leaves only.
     room: usize,
-    /// Whether there is no let of a number, by intent, so that the source has an answer to the words.
+    /// Whether there is no let of a number, by intent, so that the source and archives from before such a let have an answer to the words.
     plain: bool,
 }
 

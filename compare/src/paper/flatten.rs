@@ -17,6 +17,14 @@ pub fn flatten(words: &[u32], out: usize) -> Result<Answer, Refusal> {
     Ok(Answer { a: flat.len() as u64, b: 0, count: 0, words: flat })
 }
 
+/// Whether an expression of this kind is met in words to flatten, which may be refused behind it.
+pub fn meets(kind: u32, words: &[u32]) -> bool {
+    let mut judge = Judge::alone(words);
+    let judged = judge.expr(0);
+    drop(judged);
+    judge.met(kind)
+}
+
 /// An application whose flattened head is an application takes that head's head, its arguments followed by its own, and its own sort.
 fn uncurry(node: Node) -> Node {
     let all = |nodes: Vec<_>| nodes.into_iter().map(uncurry).collect::<Vec<_>>();

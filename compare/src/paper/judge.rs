@@ -25,17 +25,24 @@ pub struct Judge<'w> {
     at: usize,
     /// How many bytes the text has that is lent with the words, if one is.
     text: Option<usize>,
+    /// The kinds of expressions that were met, a bit for each.
+    kinds: u64,
 }
 
 impl<'w> Judge<'w> {
     /// Of words that are lent alone, any span will do.
     pub fn alone(words: &'w [u32]) -> Self {
-        Judge { words, at: 0, text: None }
+        Judge { words, at: 0, text: None, kinds: 0 }
     }
 
     /// Of words that are lent with a text, spans lie inside it.
     pub fn with_text(words: &'w [u32], text: &[u8]) -> Self {
-        Judge { words, at: 0, text: Some(text.len()) }
+        Judge { words, at: 0, text: Some(text.len()), kinds: 0 }
+    }
+
+    /// Whether an expression of this kind was met.
+    pub fn met(&self, kind: u32) -> bool {
+        self.kinds.checked_shr(kind).unwrap_or(0) & 1 == 1
     }
 
     /// No words are left over.
@@ -111,6 +118,7 @@ impl<'w> Judge<'w> {
     pub fn expr(&mut self, inside: usize) -> Result<Node<'w>, Refusal> {
         let first = self.at;
         let kind = Some(self.word()?).filter(|k| (32..=52).contains(k)).ok_or(NO_WORDS)?;
+        self.kinds |= 1 << kind;
         if inside >= MAX_NODES {
             return Err(TOO_DEEP);
         }

@@ -19,14 +19,14 @@ mod words;
 use crate::call::{Answer, Call, Operation, Refusal};
 use crate::model::Model;
 use expr::Parser;
-pub use flatten::flatten;
+pub use flatten::{flatten, meets};
 pub use judge::MAX_NODES;
 use read::Tree;
 pub use read::{MAX_BYTES, MAX_LISTS};
 use refusal::*;
 pub use scope::scoped;
 pub use script::script;
-pub use smtlib::smtlib;
+pub use smtlib::{smtlib, solution_meets};
 pub use words::Fresh;
 use words::Words;
 

@@ -14,6 +14,14 @@ pub fn smtlib(words: &[u32], text: &[u8], out: usize) -> Written {
     Ok(format!("{list} {term}"))
 }
 
+/// Whether an expression of this kind is met in a solution's words, which may be refused behind it.
+pub fn solution_meets(kind: u32, words: &[u32], text: &[u8]) -> bool {
+    let mut judge = Judge::with_text(words, text);
+    let judged = judge.binders().and_then(|_| judge.expr(0));
+    drop(judged);
+    judge.met(kind)
+}
+
 /// The list and the term, which have a space between them.
 pub fn parts(words: &[u32], text: &[u8], out: usize) -> Result<(String, String), Refusal> {
     let mut judge = Judge::with_text(words, text);

@@ -79,7 +79,8 @@ const BIND_FRAMES: &[Frame] = &[
 const SOLUTION_FRAMES: &[Frame] = &[
     ("", ""), ("(lambda () ", ")"), ("(lambda ((x Int)) ", ")"), ("(lambda ((x Int) (x Int)) ", ")"), ("(lambda ", " x)"), ("(lambda (", ") x)"),
     ("(lambda ((x ", ")) x)"), ("(", " () x)"), ("(lambda () (", " a))"), ("(lambda () (", " ((as apply Int) f)))"),
-    ("(lambda () (((as apply Int) ", ") a))"), ("(lambda ((x Int)) (((not f) x) ", "))"), ("(lambda ((x Int)) (let (x x) ", "))"), ("(lambda ((x Int)) (let ", " x))"),
+    ("(lambda () (((as apply Int) ", ") a))"), ("(lambda ((x Int)) (((not f) x) ", "))"),
+    ("(lambda ((x Int)) (let (x x) ", "))"), ("(lambda ((x Int)) (let ", " x))"),
 ];
 
 const PIECES: &[&str] = &["(", ")", "Int ", "func ", "and ", "1 ", "\"", "@"];

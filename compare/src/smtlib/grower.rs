@@ -11,7 +11,9 @@ const ODD: &[u8] = &[0, 9, 10, 31, b'"', b'\\', b'|', 127, 128, 0xc3, 255];
 const WIDTHS: &[u32] = &[1, 2, 3, 8, 31, 32, 33, 63, 64, 65, 96, 127, 128, 129, 160, 1 << 31, u32::MAX];
 /// Leaves and nodes that may stand anywhere.
 const LEAVES: &[u32] = &[32, 33, 34, 35, 36, 37, 37];
-const NODES: &[u32] = &[38, 38, 38, 39, 40, 41, 42, 42, 43, 43, 44, 45, 46, 47, 47, 48, 50, 51, 51, 52, 52];
+const NODES: &[u32] = &[38, 38, 38, 39, 40, 41, 42, 42, 43, 43, 44, 45, 46, 47, 47, 48, 50, 51, 51];
+/// The same with lets of numbers.
+const ALL_NODES: &[u32] = &[38, 38, 38, 39, 40, 41, 42, 42, 43, 43, 44, 45, 46, 47, 47, 48, 50, 51, 51, 52, 52];
 
 /// Words, and the text that is lent with them.
 pub type Lent = (Vec<u32>, Vec<u8>);
@@ -57,12 +59,14 @@ struct Grower<'r> {
     room: usize,
     /// At one in so many places something is wrong; at none if there is no number.
     faults: Option<usize>,
+    /// Whether there is no let of a number, by intent, so that archives from before such a let have an answer to the words, too.
+    plain: bool,
 }
 
 impl<'r> Grower<'r> {
     fn new(r: &'r mut Random, faults: Option<usize>) -> Self {
-        let room = 1 + r.below(30);
-        let mut g = Grower { r, words: Vec::new(), text: Vec::new(), room, faults };
+        let (room, plain) = (1 + r.below(30), r.one_in(3));
+        let mut g = Grower { r, words: Vec::new(), text: Vec::new(), room, faults, plain };
         let most = if g.r.one_in(40) { 400 } else { 30 };
         let bytes = g.r.below(most);
         g.text = (0..bytes).map(|_| g.byte()).collect();
@@ -265,7 +269,7 @@ impl<'r> Grower<'r> {
             return self.leaf();
         }
         self.room -= 1;
-        let (kind, depth) = (self.r.pick(NODES), depth - 1);
+        let (kind, depth) = (self.r.pick(if self.plain { NODES } else { ALL_NODES }), depth - 1);
         if kind == 38 {
             return self.application(depth);
         }
@@ -343,12 +347,12 @@ impl<'r> Grower<'r> {
                 self.put(&[38, 0, 1]);
                 return vec![37, 0, 0];
             }
-            12 => {
+            12 if !self.plain => {
                 self.put(&[52]);
                 self.number();
                 self.leaf();
             }
-            13 => {
+            13 if !self.plain => {
                 self.put(&[52]);
                 self.number();
                 return vec![36, 1, 0];

@@ -16,6 +16,17 @@ use Rattle.grammar.specs.Lets.{numbersAmong, numbersOf, Apart}
 use Rattle.grammar.proofs.AnswerHolds.{IfThere}
 use Rattle.grammar.proofs.FreshNumbers.{in-left, in-right}
 
+-- No scopes are apart; and scopes that are apart stay so when a scope is opened that takes the next numbers, and when numbers are taken.
+pub apart-none : (n : ℕ) → Apart [] n
+apart-none n = tt
+
+pub apart-opened : (names : List Span) (sc : List Scope) (n : ℕ) → Apart sc n → Apart (record { names = names; first = n } ∷ sc) (n + length names)
+apart-opened names sc n a = (omega arith, a)
+
+pub apart-later : (sc : List Scope) (n m : ℕ) → n ≤ m → Apart sc n → Apart sc m
+apart-later [] n m l a = tt
+apart-later (s ∷ sc) n m l a = (omega (arith, a .0), a .1)
+
 module _ (text : List ℕ) where
   in-either : (j : ℕ) (a b : List ℕ) → In j (a ++ b) → In j a ⊎ In j b
   in-either j [] b h = inr h
