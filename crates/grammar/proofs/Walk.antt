@@ -12,7 +12,7 @@ use Rattle.reading.specs.Answer.{check, malformed, chain, lifted}
 use Rattle.reading.proofs.Bytes.{begins-length, bytes-length}
 use Rattle.reading.proofs.Picks.{pick-holds}
 use Rattle.grammar.specs.ParseSort.{inList, inSymbol, treeAt, parseSort}
-use Rattle.grammar.specs.Expr.{Kind, kBitVec, kNeg, opSub, kBin, kIsCtor, Expr, Exprs, oneOf, enil, econs, exprs}
+use Rattle.grammar.specs.Expr.{Kind, kBitVec, kNeg, opSub, kBin, kIsCtor, Expr, Exprs, oneOf, enil, exprs}
 use Rattle.grammar.specs.Names.{Form, fixed, many, cast, exists, letIn, lit, minus, isCtor, apply, keywords}
 use Rattle.grammar.specs.Scope.{Scope, varOf, distinct}
 use Rattle.grammar.specs.ParseExpr

@@ -3,7 +3,7 @@
 use Prim.Native.Nat.{ℕ, _^_, _≤_, _<_}
 use mathlib.Core.Bool.{true}
 use mathlib.Core.Path.{_≡_}
-use mathlib.Core.List.{List, [], _∷_}
+use mathlib.Core.List.{List}
 use lib.ListN.{length}
 use Rattle.reading.specs.Bytes.{ascii, beginsWith, Span, bytesAt}
 use Rattle.reading.specs.Number.{wideOf, valueOf, allDigits, valueFrom}

@@ -9,8 +9,8 @@ use lib.ListN.{length, getD, drop, length-append}
 use Rattle.reading.specs.Pick.{pick}
 use Rattle.reading.specs.Bytes.{Span}
 use Rattle.reading.specs.Tree.{symbol, Tree, Trees, atom, list, tnil, tcons, trees, atomWords, treeWords, treesWords, nesting, nestings}
-use Rattle.reading.specs.Answer.{got, bad, malformed, Res, ok, no}
-use Rattle.grammar.specs.Scope.{Scope, repeated}
+use Rattle.reading.specs.Answer.{got, bad, malformed, Res, no}
+use Rattle.grammar.specs.Scope.{Scope}
 use Rattle.grammar.specs.Item.{raise, wordsOf}
 use Rattle.grammar.specs.Expr.{Expr, kLetFresh, kindItems}
 use Rattle.grammar.specs.ParseSort.{inSymbol, inAtom, symbolIn}

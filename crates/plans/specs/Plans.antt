@@ -1,7 +1,7 @@
 -- What the parser of expressions asks of a call and leaves behind it: a plan, operands, an expression.
 use Prim.Native.Nat.{ℕ, _+_, _*_, _≤_, _<_}
 use mathlib.Core.Path.{_≡_}
-use mathlib.Core.Bool.{Bool, true, false}
+use mathlib.Core.Bool.{true, false}
 use mathlib.Core.List.{List, [], _∷_, _++_}
 use lib.ListN.{length, drop}
 use Rattle.reading.specs.Limits.{maxBytes, maxLists}

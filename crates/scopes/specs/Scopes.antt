@@ -8,7 +8,7 @@ use lib.ListN.{length, drop, set, getD}
 use Rattle.reading.specs.Limits.{maxLists}
 use Rattle.reading.specs.Pick.{pick}
 use Rattle.reading.specs.Bytes.{Span, Maybe, nothing, just}
-use Rattle.reading.specs.Tree.{Tree, Trees, symbol, atom, list, tnil, tcons, treesWords}
+use Rattle.reading.specs.Tree.{Trees, symbol, atom, list, tnil, tcons, treesWords}
 use Rattle.grammar.specs.Scope.{Scope, sameName}
 use Rattle.scopes.specs.declared.entries.Found.{Found}
 use Rattle.scopes.specs.declared.entries.Found.the-variants.{At, Nothing}

@@ -10,52 +10,35 @@ use Rattle.scopes.proofs.Variables.{low-wrapped, high-wrapped}
 use borrow.Author.Needs.{needs}
 use Rattle.exprs.proofs.late.late.Statement.{statement}
 use Rattle.exprs.proofs.late.late.Tie as tie
-use Rattle.exprs.proofs.late.late.Reads as reads
-use Rattle.exprs.proofs.late.late.Lts as lts
-use Rattle.places.proofs.expr_words.put2.Reads as put2-reads
-use Rattle.scopes.proofs.entries.opened.Reads as opened-reads
-use Rattle.std.proofs.num.wrapping_add_u64.Reads as wrapping-add-u64-reads
-use Rattle.words.proofs.number.high.Reads as high-reads
-use Rattle.words.proofs.number.low.Reads as low-reads
 
--- src/late.rt:31:9
 returns : tie.Need-returns
 unfolding pushed deeper filled taken pick
 returns c = rw (c .if1 .taken) (refl, refl, refl, sym (add-zero (c .before .before .before .args .next)))
 
--- src/late.rt:36:9
 wrapping-add-u64-requires : tie.Need-wrapping-add-u64-requires
 wrapping-add-u64-requires c κs = search needs
 
--- src/late.rt:37:19
 low-requires : tie.Need-low-requires
 low-requires c κs = search needs
 
--- src/late.rt:37:27
 high-requires : tie.Need-high-requires
 high-requires c κs = search needs
 
--- src/late.rt:37:5
 put2-requires : tie.Need-put2-requires
 put2-requires c κs = omega (arith, c .before .before .before .before .before .before .before .pre .place)
 
--- src/late.rt:39:16
 opened-requires : tie.Need-opened-requires
 opened-requires c κs = c .before .before .before .before .before .before .before .before .before .before .before .pre .entry (c .before .before .before .before .before .before .before .before .if1 .left)
 
--- src/late.rt:40:15
 add-t17 : tie.Need-add-t17
 add-t17 c = omega (arith, c .before .before .before .before .before .before .before .before .before .before .before .before .before .before .pre .number)
 
--- src/late.rt:18:1
 same-length : tie.Need-same-length
 same-length c = search needs
 
--- src/late.rt:18:1
 same-length-2 : tie.Need-same-length-2
 same-length-2 c = search needs
 
--- src/late.rt:18:1
 returns-2 : tie.Need-returns-2
 unfolding filled taken pick
 returns-2 c =
