@@ -3,7 +3,7 @@
 
 ANSWERS is crates/replay/stdin and TERMS compare/smtlib.txt and compare/smtlib-let.txt unless other files are named. With `short`, as the gate runs it, texts of more than 1,000 bytes are left out
 unless they are too long to be read at all, and words and terms of more than 1,000: each takes the prover some seconds. The prover evaluates `final`, of which `outcome` is made
-(crates/session/specs/Session.antt), `flattenFinal` (crates/flattening/specs/Operations.antt) and `smtlibFinal` (crates/smt/specs/Operation.antt) on each case, and
+(crates/session/specs/Session.antt), `flatten_final` (crates/flattening/specs/Operations.antt) and `smtlib_final` (crates/smt/specs/Operation.antt) on each case, and
 has to find the recorded refusal or numbers, the count and the words or bytes; no code of the library runs. The cases go into crates of their own, beside links to the
 crates here, in target/definitions.
 """
@@ -15,7 +15,7 @@ import sys
 from pathlib import Path
 
 TOP = Path(__file__).resolve().parent.parent
-OPERATIONS = {"R": "readOne", "A": "readAll", "S": "sort", "E": "expression", "B": "bind", "L": "solution"}
+OPERATIONS = {"R": "read_one", "A": "read_all", "S": "sort", "E": "expression", "B": "bind", "L": "solution"}
 # More words than these take the prover too many steps.
 MOST_WORDS = 8000
 # A text that is left out by `short` has more bytes than the first number, and at most the second, the limit of document 01.
@@ -32,7 +32,7 @@ use mathlib.Core.Path.{_≡_, refl}
 use mathlib.Core.List.{List, [], _∷_, _++_}
 use lib.ListN.{replicate}
 use Rattle·reading.specs.Answer.{accepted, refused}
-use Rattle·session.specs.Session.{readOne, readAll, sort, expression, bind, solution}
+use Rattle·session.specs.Session.{read_one, read_all, sort, expression, bind, solution}
 use Rattle·vectors.specs.Shown.{lending, refusal, words}
 use Rattle·computed·specs.specs.Case.{Case, case, Flat, flat, Words, plain, times, spread, answers, recorded, flattens, flattened}
 """
@@ -59,11 +59,11 @@ CASE = """-- A call on a reader at a count, and what was recorded of it.
 use Prim.Native.Nat.{ℕ}
 use mathlib.Core.List.{List, [], _∷_, _++_, map}
 use lib.ListN.{replicate}
-use Rattle·reading.specs.Answer.{Final, accepts, refuses, Said, saidOf, countOf}
-use Rattle·session.specs.Session.{Call, Term, termWords, report, final}
+use Rattle·reading.specs.Answer.{Final, accepts, refuses, Said, said_of, count_of}
+use Rattle·session.specs.Session.{Call, Term, term_words, report, final}
 use Rattle·vectors.specs.Shown.{Shown, shown}
-use Rattle·session.specs.Compute.{readerComputes}
-use Rattle·flattening.specs.Operations.{exprWords, flattenFinal}
+use Rattle·session.specs.Compute.{reader_computes}
+use Rattle·flattening.specs.Operations.{expr_words, flatten_final}
 SPREAD
 pub record Case : Type 0 where
   pub call : Call
@@ -82,15 +82,15 @@ pub record Answer : Type 0 where
 
 -- What `outcome` says and counts, and the words, by what is decided; by cases, so that this is evaluated once.
 abbrev by : ℕ → Final Term → Answer
-by c f = record { said = saidOf report f; count = countOf c f; answer = shown (termWords c) f }
+by c f = record { said = said_of report f; count = count_of c f; answer = shown (term_words c) f }
 
 unfoldable pub answerBy : ℕ → Final Term → Answer
-unfolding readerComputes
+unfolding reader_computes
 answerBy c (accepts m n) = by c (accepts m n)
 answerBy c (refuses r) = by c (refuses r)
 
 unfoldable pub answers : List Case → List Answer
-unfolding readerComputes spread answerBy
+unfolding reader_computes spread answerBy
 answers cases = map (λ c. answerBy (c .start) (final (c .call) (c .start))) cases
 
 unfoldable pub recorded : List Case → List Answer
@@ -106,8 +106,8 @@ abbrev pub flat : List ℕ → ℕ → Shown → Flat
 flat input out answer = record { input = input; out = out; answer = answer }
 
 unfoldable pub flattens : List Flat → List Shown
-unfolding readerComputes spread
-flattens cases = map (λ c. shown exprWords (flattenFinal (c .input) (replicate (c .out) 0))) cases
+unfolding reader_computes spread
+flattens cases = map (λ c. shown expr_words (flatten_final (c .input) (replicate (c .out) 0))) cases
 
 unfoldable pub flattened : List Flat → List Shown
 unfolding spread
@@ -126,8 +126,8 @@ use Prim.Native.Nat.{ℕ}
 use mathlib.Core.List.{List, [], _∷_, _++_, map}
 use lib.ListN.{replicate}
 use Rattle·reading.specs.Answer.{Final, accepts, refuses}
-use Rattle·smt.specs.Operation.{smtlibFinal}
-use Rattle·smt.specs.Compute.{smtComputes}
+use Rattle·smt.specs.Operation.{smtlib_final}
+use Rattle·smt.specs.Compute.{smt_computes}
 
 -- A refusal's number, or the bytes written.
 pub data Shown : Type 0 where
@@ -148,8 +148,8 @@ abbrev pub case : List ℕ → List ℕ → ℕ → Shown → Case
 case input text out answer = record { input = input; text = text; out = out; answer = answer }
 
 unfoldable pub writes : List Case → List Shown
-unfolding smtComputes spread
-writes cases = map (λ c. shown (smtlibFinal (c .input) (c .text) (replicate (c .out) 0))) cases
+unfolding smt_computes spread
+writes cases = map (λ c. shown (smtlib_final (c .input) (c .text) (replicate (c .out) 0))) cases
 
 unfoldable pub recorded : List Case → List Shown
 unfolding spread

@@ -4,37 +4,37 @@ use mathlib.Core.Path.{◌≡◌, ap, ◌∙◌}
 use mathlib.Core.List.{List, ◌++◌}
 use native.Mathlib.Omega.{arith}
 use lib.ListN.{length, drop}
-use Rattle.reading.specs.Tree.{Tree, list, tcons, trees, treeWords, treesWords}
+use Rattle.reading.specs.Tree.{Tree, list, tcons, trees, tree_words, trees_words}
 use Rattle.places.specs.Spot.{Spot}
 use Rattle.places.proofs.FirstTree.{More, some}
-use Rattle.places.proofs.Spots.{IsList, as-list}
+use Rattle.places.proofs.Spots.{IsList, as_list}
 use Rattle.places.proofs.Inside.{ListNode, items-there, first-there, others-there}
 
 module _ {ws : List ℕ} {at : ℕ} (p : Spot ws at) {k f : ℕ} (n : ListNode ws at k f) where
-  pub the-list : IsList ws at p.tree
-  the-list = as-list p n.kind
+  pub the_list : IsList ws at p.tree
+  the_list = as_list p n.kind
 
-  pub list-trees : k ≡ trees the-list.items
-  list-trees = n.many ∙ the-list.many
+  pub list-trees : k ≡ trees the_list.items
+  list-trees = n.many ∙ the_list.many
 
   module _ (z : k ≡ 0 → ⊥) where
-    pub the_items : More the-list.items
-    the_items = some the-list.items (omega (arith, list-trees, z))
+    pub the_items : More the_list.items
+    the_items = some the_list.items (omega (arith, list-trees, z))
 
     pub whole_is : p.tree ≡ list (tcons the_items.first the_items.others)
-    whole_is = the-list.is ∙ ap list the_items.is
+    whole_is = the_list.is ∙ ap list the_items.is
 
-    items-here : drop f ws ≡ treesWords (tcons the_items.first the_items.others) ++ p.rest
+    items-here : drop f ws ≡ trees_words (tcons the_items.first the_items.others) ++ p.rest
     items-here =
         ap (λ (i : ℕ). drop i ws) n.first
-        ∙ items-there ws at (tcons the_items.first the_items.others) p.rest (p.words ∙ ap (λ (t : Tree). treeWords t ++ p.rest) whole_is)
+        ∙ items-there ws at (tcons the_items.first the_items.others) p.rest (p.words ∙ ap (λ (t : Tree). tree_words t ++ p.rest) whole_is)
 
-    pub head-words : drop f ws ≡ treeWords the_items.first ++ (treesWords the_items.others ++ p.rest)
+    pub head-words : drop f ws ≡ tree_words the_items.first ++ (trees_words the_items.others ++ p.rest)
     head-words = first-there ws f the_items.first the_items.others p.rest items-here
 
     abbrev pub head-spot : Spot ws f
-    head-spot = record { tree = the_items.first; rest = treesWords the_items.others ++ p.rest; words = head-words }
+    head-spot = record { tree = the_items.first; rest = trees_words the_items.others ++ p.rest; words = head-words }
 
     -- The others stand behind it.
-    pub others-words : (j : ℕ) → j ≡ length (treeWords the_items.first) → drop (f + j) ws ≡ treesWords the_items.others ++ p.rest
+    pub others-words : (j : ℕ) → j ≡ length (tree_words the_items.first) → drop (f + j) ws ≡ trees_words the_items.others ++ p.rest
     others-words j e = others-there ws f the_items.first the_items.others p.rest items-here j e

@@ -1,7 +1,7 @@
 // A bind: a name, its sort, and predicates.
-ghost use Rattle.grammar.specs.Expr.{bindItems};
-ghost use Rattle.grammar.specs.ParseBind.{parseBind};
-ghost use Rattle.grammar.specs.Written.{toldOf};
+ghost use Rattle.grammar.specs.Expr.{bind_items};
+ghost use Rattle.grammar.specs.ParseBind.{parse_bind};
+ghost use Rattle.grammar.specs.Written.{told_of};
 ghost use Rattle.places.specs.Outcome.{bound};
 ghost use Rattle.plans.specs.Plans.{Parsed};
 ghost use Rattle.plans.specs.Whole.{Whole};
@@ -17,7 +17,7 @@ use words::tree_kinds::SYMBOL;
 // The bind that a tree is: `((name sort) predicate ..)`; the name opens no scope.
 pub fn bind_at(text: &[u8], tree: &[u32], count: u64, out: &mut [u32]) -> Progress
     requires { Whole text.now tree.now }
-    ensures { (h : Whole text.now tree.now) → Parsed (toldOf bindItems count (parseBind text.now h.tree 0)) 0 out.old out.new bound result }
+    ensures { (h : Whole text.now tree.now) → Parsed (told_of bind_items count (parse_bind text.now h.tree 0)) 0 out.old out.new bound result }
 {
     let Node::List(n, first) = node_at(tree, 0) else {
         return Progress::Refused(8);

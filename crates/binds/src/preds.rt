@@ -2,11 +2,11 @@
 ghost use Rattle.std.specs.Prelude.{[], ◌∷◌, ℕ, ◌+◌, ◌≤◌, length};
 ghost use Rattle.reading.specs.Tree.{symbol, atom, list, tcons};
 ghost use Rattle.grammar.specs.ParseExpr.{child, children, symbols};
-ghost use Rattle.grammar.specs.Written.{toldOf};
+ghost use Rattle.grammar.specs.Written.{told_of};
 ghost use Rattle.scopes.specs.Scopes.{slots};
 ghost use Rattle.places.specs.Outcome.{bound, Put, OutcomeAt};
 ghost use Rattle.plans.specs.Plans.{Parsed};
-ghost use Rattle.binds.specs.PredWords.{PredHere, KvarHere, countedPreds, Stepped, NameRow, namesWords};
+ghost use Rattle.binds.specs.PredWords.{PredHere, KvarHere, counted_preds, Stepped, NameRow, names_words};
 
 use exprs::expr::expr;
 use lexing::byte::{begins_with, same};
@@ -36,7 +36,7 @@ pub enum Step {
 // n names, which are named variables always.
 fn names(text: &[u8], tree: &[u32], at: usize, n: usize, out: &mut [u32], w: usize) -> Answer
     requires { NameRow tree.now at n w }
-    ensures { (h : NameRow tree.now at n w) → OutcomeAt namesWords (symbols (children text.now h.items)) w out.old out.new result }
+    ensures { (h : NameRow tree.now at n w) → OutcomeAt names_words (symbols (children text.now h.items)) w out.old out.new result }
 {
     let mut i: usize = 0;
     let mut p = at;
@@ -124,7 +124,7 @@ pub fn preds(
     w: usize,
 ) -> Progress
     requires { PredHere text.now tree.now at (w + 1) 0 }
-    ensures { (h : PredHere text.now tree.now at (w + 1) 0) → Parsed (toldOf countedPreds count ((child text.now h.spot.tree).preds 0)) w out.old out.new bound result }
+    ensures { (h : PredHere text.now tree.now at (w + 1) 0) → Parsed (told_of counted_preds count ((child text.now h.spot.tree).preds 0)) w out.old out.new bound result }
 {
     let end = at + words_at(tree, at);
     let mut p = at;

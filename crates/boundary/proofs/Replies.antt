@@ -7,22 +7,22 @@ use lib.ListN.{length}
 use Rattle.reading.specs.Answer as answer
 use Rattle.reading.specs.Answer.{Final, accepts, refuses, said_of}
 use Rattle.grammar.specs.Expr.{Expr}
-use Rattle.flattening.specs.Operations.{exprWords, flattenFinal, flattenSaid, flattenOut}
-use Rattle.flatten.specs.Answers.{flattenAnswer}
+use Rattle.flattening.specs.Operations.{expr_words, flatten_final, flatten_said, flatten_out}
+use Rattle.flatten.specs.Answers.{flatten_answer}
 use Rattle.words.specs.declared.Answer.{Answer}
 use Rattle.session.specs.Session.{Call, Outcome, outcome}
-use Rattle.session.specs.Compared.{readsOrSorts}
-use Rattle.session.proofs.Unreported.{count_kept, reportsTwo, NoSecond, second_none}
-use Rattle.replies.specs.Calls.{asSaid}
+use Rattle.session.specs.Compared.{reads_or_sorts}
+use Rattle.session.proofs.Unreported.{count_kept, reports_two, NoSecond, second_none}
+use Rattle.replies.specs.Calls.{as_said}
 use Rattle.replies.specs.Sessions as reader
 use Rattle.replies.specs.declared.Said.{Said}
-use Rattle.replies.specs.Heard.{sizeSaid}
-use Rattle.boundary.specs.Heard.{numbersOf}
+use Rattle.replies.specs.Heard.{size_said}
+use Rattle.boundary.specs.Heard.{numbers_of}
 use Rattle.boundary.specs.declared.Reported.{Reported}
-use Rattle.boundary.specs.Reply.{refusalOf, first_of, second_of, counted, Promised, flat, Flattened}
+use Rattle.boundary.specs.Reply.{refusal_of, first_of, second_of, counted, Promised, flat, Flattened}
 
 -- The numbers of what is said.
-by_said : (s : answer.Said) → ((numbersOf (asSaid s)).refusal ≡ refusalOf s) × ((numbersOf (asSaid s)).first ≡ first_of s) × ((numbersOf (asSaid s)).second ≡ second_of s)
+by_said : (s : answer.Said) → ((numbers_of (as_said s)).refusal ≡ refusal_of s) × ((numbers_of (as_said s)).first ≡ first_of s) × ((numbers_of (as_said s)).second ≡ second_of s)
 by_said (answer.accepted a b) = (refl, refl, refl)
 by_said (answer.refused r) = (refl, refl, refl)
 
@@ -33,11 +33,11 @@ module _ {call : Call} {n c : ℕ} {r : reader.Reply} (opened : n ≡ c) (p : re
   part of e = e ∙ ap (λ (m : ℕ). of (outcome call m)) opened
 
   -- The numbers a and b are reported after the refusal q, or 0 if there is none; the count is k.
-  reply : (q a b k : ℕ) → r.next ≡ k → (q ≡ refusalOf (outcome call n).said) × (a ≡ first_of (outcome call n).said) × (b ≡ second_of (outcome call n).said)
+  reply : (q a b k : ℕ) → r.next ≡ k → (q ≡ refusal_of (outcome call n).said) × (a ≡ first_of (outcome call n).said) × (b ≡ second_of (outcome call n).said)
       → Promised call c (record { refusal = q; first = a; second = b; next = k; tree = r.tree; draft = r.draft; out = r.out })
   reply q a b k e s =
       record {
-        refusal = part (λ o. refusalOf o.said) s.0;
+        refusal = part (λ o. refusal_of o.said) s.0;
         first = part (λ o. first_of o.said) s.1;
         second = part (λ o. second_of o.said) s.2;
         count = part (λ o. o.count) (sym e ∙ p.count);
@@ -47,16 +47,16 @@ module _ {call : Call} {n c : ℕ} {r : reader.Reply} (opened : n ≡ c) (p : re
       }
 
   -- The numbers of the reply.
-  told : (m : Reported) → m ≡ numbersOf r.said → (m.refusal ≡ refusalOf (outcome call n).said) × (m.first ≡ first_of (outcome call n).said) × (m.second ≡ second_of (outcome call n).said)
+  told : (m : Reported) → m ≡ numbers_of r.said → (m.refusal ≡ refusal_of (outcome call n).said) × (m.first ≡ first_of (outcome call n).said) × (m.second ≡ second_of (outcome call n).said)
   told m e = rw (e, p.said) (by_said (outcome call n).said)
 
   -- Read one and read all, of a reader that was opened at 0.
-  pub read-reply : (m : Reported) → m ≡ numbersOf r.said → c ≡ 0 → readsOrSorts call.op ≡ true
+  pub read-reply : (m : Reported) → m ≡ numbers_of r.said → c ≡ 0 → reads_or_sorts call.op ≡ true
       → Promised call c (record { refusal = m.refusal; first = m.first; second = m.second; next = 0; tree = r.tree; draft = r.draft; out = r.out })
   read-reply m e z h = reply m.refusal m.first m.second 0 (p.count ∙ count_kept call n h ∙ opened ∙ z) (told m e)
 
   -- One number is reported, and the second is 0.
-  one : (m : Reported) → m ≡ numbersOf r.said → reportsTwo call.op ≡ false → (m.refusal ≡ refusalOf (outcome call n).said) × (m.first ≡ first_of (outcome call n).said) × (0 ≡ second_of (outcome call n).said)
+  one : (m : Reported) → m ≡ numbers_of r.said → reports_two call.op ≡ false → (m.refusal ≡ refusal_of (outcome call n).said) × (m.first ≡ first_of (outcome call n).said) × (0 ≡ second_of (outcome call n).said)
   one m e h = let w = told m e in (w.0, w.1, go (outcome call n).said (second_none call n h))
     where
       go : (s : answer.Said) → NoSecond s → 0 ≡ second_of s
@@ -64,22 +64,22 @@ module _ {call : Call} {n c : ℕ} {r : reader.Reply} (opened : n ≡ c) (p : re
       go (answer.refused q) z = refl
 
   -- A sort, of a reader that was opened at 0.
-  pub sort-reply : (m : Reported) → m ≡ numbersOf r.said → c ≡ 0 → readsOrSorts call.op ≡ true → reportsTwo call.op ≡ false
+  pub sort-reply : (m : Reported) → m ≡ numbers_of r.said → c ≡ 0 → reads_or_sorts call.op ≡ true → reports_two call.op ≡ false
       → Promised call c (record { refusal = m.refusal; first = m.first; second = 0; next = 0; tree = r.tree; draft = r.draft; out = r.out })
   sort-reply m e z h k = reply m.refusal m.first 0 0 (p.count ∙ count_kept call n h ∙ opened ∙ z) (one m e k)
 
   -- What takes fresh numbers.
-  pub counted-reply : (m : Reported) → m ≡ numbersOf r.said → reportsTwo call.op ≡ false → Promised call c (counted m.refusal m.first r.next r.tree r.draft r.out)
+  pub counted-reply : (m : Reported) → m ≡ numbers_of r.said → reports_two call.op ≡ false → Promised call c (counted m.refusal m.first r.next r.tree r.draft r.out)
   counted-reply m e h = reply m.refusal m.first 0 r.next refl (one m e h)
 
 -- Flattening takes no reader.
 module _ (words out : List ℕ) where
-  flat-said : (f : Final Expr) → ((numbersOf (sizeSaid (flattenAnswer f))).refusal ≡ refusalOf (said_of (λ x. answer.accepted (length (exprWords x)) 0) f)) × ((numbersOf (sizeSaid (flattenAnswer f))).first ≡ first_of (said_of (λ x. answer.accepted (length (exprWords x)) 0) f))
+  flat-said : (f : Final Expr) → ((numbers_of (size_said (flatten_answer f))).refusal ≡ refusal_of (said_of (λ x. answer.accepted (length (expr_words x)) 0) f)) × ((numbers_of (size_said (flatten_answer f))).first ≡ first_of (said_of (λ x. answer.accepted (length (expr_words x)) 0) f))
   unfolding said_of
   flat-said (accepts x n) = (refl, refl)
   flat-said (refuses r) = (refl, refl)
 
-  pub flat-reply : (m : Reported) (s : Said) (d : Answer) (left : List ℕ) → m ≡ numbersOf s → s ≡ sizeSaid d → d ≡ flattenAnswer (flattenFinal words out) → left ≡ flattenOut words out
+  pub flat-reply : (m : Reported) (s : Said) (d : Answer) (left : List ℕ) → m ≡ numbers_of s → s ≡ size_said d → d ≡ flatten_answer (flatten_final words out) → left ≡ flatten_out words out
       → Flattened words out (flat m.refusal m.first left)
-  unfolding flattenSaid
-  flat-reply m s d left e f g o = let q = flat-said (flattenFinal words out) in record { refusal = rw (e, f, g) q.0; count = rw (e, f, g) q.1; output = o }
+  unfolding flatten_said
+  flat-reply m s d left e f g o = let q = flat-said (flatten_final words out) in record { refusal = rw (e, f, g) q.0; count = rw (e, f, g) q.1; output = o }

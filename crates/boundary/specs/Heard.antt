@@ -6,11 +6,11 @@ use Rattle.smtlib.specs.declared.Answer.{Answer}
 use Rattle.smtlib.specs.declared.Answer.TheVariants as smtlib
 use Rattle.boundary.specs.declared.Reported.{Reported}
 
-abbrev pub numbersOf : Said → Reported
-numbersOf (Accepted a b) = record { refusal = 0; first = a; second = b }
-numbersOf (Refused r) = record { refusal = r; first = 0; second = 0 }
+abbrev pub numbers_of : Said → Reported
+numbers_of (Accepted a b) = record { refusal = 0; first = a; second = b }
+numbers_of (Refused r) = record { refusal = r; first = 0; second = 0 }
 
 -- A solution that is written as SMT-LIB, whose bytes are counted.
-abbrev pub writtenSaid : Answer → Said
-writtenSaid (smtlib.Done n) = Accepted n 0
-writtenSaid (smtlib.Refused r) = Refused r
+abbrev pub written_said : Answer → Said
+written_said (smtlib.Done n) = Accepted n 0
+written_said (smtlib.Refused r) = Refused r

@@ -1,13 +1,13 @@
 -- What a C function returns and leaves, and what it promises of that.
 use Rattle.std.specs.Prelude.{ℕ, ◌≡◌, List, []}
 use Rattle.reading.specs.Answer.{Said, accepted, refused}
-use Rattle.flattening.specs.Operations.{flattenSaid, flattenOut}
+use Rattle.flattening.specs.Operations.{flatten_said, flatten_out}
 use Rattle.session.specs.Session.{Call, outcome}
 
 -- What is said, as three numbers: the refusal, 0 if accepted, and the two that are reported, 0 after a refusal.
-abbrev pub refusalOf : Said → ℕ
-refusalOf (accepted a b) = 0
-refusalOf (refused r) = r
+abbrev pub refusal_of : Said → ℕ
+refusal_of (accepted a b) = 0
+refusal_of (refused r) = r
 
 abbrev pub first_of : Said → ℕ
 first_of (accepted a b) = a
@@ -39,7 +39,7 @@ uncounted refusal first second tree out =
 
 -- The contract of every C function that calls a reader, opened at the count c: the reply is the outcome of the call.
 pub record Promised (call : Call) (c : ℕ) (r : Reply) : Type 0 where
-  pub refusal : r.refusal ≡ refusalOf (outcome call c).said
+  pub refusal : r.refusal ≡ refusal_of (outcome call c).said
   pub first : r.first ≡ first_of (outcome call c).said
   pub second : r.second ≡ second_of (outcome call c).said
   pub count : r.next ≡ (outcome call c).count
@@ -58,6 +58,6 @@ flat refusal words out = record { refusal = refusal; words = words; out = out }
 
 -- The contract of the C function that flattens words, which takes no reader.
 pub record Flattened (words out : List ℕ) (r : Flat) : Type 0 where
-  pub refusal : r.refusal ≡ refusalOf (flattenSaid words out)
-  pub count : r.words ≡ first_of (flattenSaid words out)
-  pub output : r.out ≡ flattenOut words out
+  pub refusal : r.refusal ≡ refusal_of (flatten_said words out)
+  pub count : r.words ≡ first_of (flatten_said words out)
+  pub output : r.out ≡ flatten_out words out

@@ -3,7 +3,7 @@
 use Rattle.std.specs.Prelude.{ℕ, List, [], ◌∷◌, eqb}
 use Rattle.reading.specs.Pick.{pick}
 use Rattle.session.specs.Session.{Call}
-use Rattle.session.specs.Compared.{readsOrSorts}
+use Rattle.session.specs.Compared.{reads_or_sorts}
 use Rattle.replies.specs.Sessions as reader
 use Rattle.replies.specs.declared.Said.{Said}
 use Rattle.replies.specs.declared.Said.TheVariants.{Accepted, Refused}
@@ -16,10 +16,10 @@ pub record Turn : Type 0 where
 
 -- The count of the reader that is opened for a call, where the caller's count is c; and the caller's count afterwards.
 abbrev pub opens_at : ℕ → Turn → ℕ
-opens_at c t = pick (readsOrSorts t.call.op) 0 c
+opens_at c t = pick (reads_or_sorts t.call.op) 0 c
 
 abbrev pub leaves : ℕ → Turn → ℕ
-leaves c t = pick (readsOrSorts t.call.op) c t.reply.next
+leaves c t = pick (reads_or_sorts t.call.op) c t.reply.next
 
 -- Each reply is promised.
 abbrev pub Session : ℕ → List Turn → Type 0
@@ -27,17 +27,17 @@ Session c [] = Unit {0}
 Session c (t ∷ ts) = Promised t.call (opens_at c t) t.reply × Session (leaves c t) ts
 
 -- What is said, by the number returned and the two that are reported.
-abbrev pub saidBy : Reply → Said
-saidBy r = pick (eqb r.refusal 0) (Accepted r.first r.second) (Refused r.refusal)
+abbrev pub said_by : Reply → Said
+said_by r = pick (eqb r.refusal 0) (Accepted r.first r.second) (Refused r.refusal)
 
 -- The same turns on one reader.
-abbrev pub onReader : ℕ → Turn → reader.Turn
-onReader c t =
+abbrev pub on_reader : ℕ → Turn → reader.Turn
+on_reader c t =
     record {
       call = t.call;
-      reply = record { said = saidBy t.reply; next = leaves c t; tree = t.reply.tree; draft = t.reply.draft; out = t.reply.out };
+      reply = record { said = said_by t.reply; next = leaves c t; tree = t.reply.tree; draft = t.reply.draft; out = t.reply.out };
     }
 
-abbrev pub allOnReader : ℕ → List Turn → List reader.Turn
-allOnReader c [] = []
-allOnReader c (t ∷ ts) = onReader c t ∷ allOnReader (leaves c t) ts
+abbrev pub all_on_reader : ℕ → List Turn → List reader.Turn
+all_on_reader c [] = []
+all_on_reader c (t ∷ ts) = on_reader c t ∷ all_on_reader (leaves c t) ts

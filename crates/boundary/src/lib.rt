@@ -2,7 +2,7 @@
 // what they promise, of flattening too, specs/Smtlib.antt the same of SMT-LIB; specs/Sessions.antt a session over them, of which demand 3 is
 // proved. The functions themselves are in crates/ffi.
 ghost use Rattle.std.specs.Prelude.{◌≡◌};
-ghost use Rattle.boundary.specs.Heard.{numbersOf, writtenSaid};
+ghost use Rattle.boundary.specs.Heard.{numbers_of, written_said};
 ghost use Rattle.boundary.specs.Version.{version as versionOf};
 
 use replies::Said;
@@ -17,7 +17,7 @@ pub struct Reported {
 
 // What is said, as numbers.
 pub fn numbers(said: Said) -> Reported
-    ensures { result ≡ numbersOf said }
+    ensures { result ≡ numbers_of said }
 {
     match said {
         Said::Accepted(a, b) => Reported {
@@ -35,7 +35,7 @@ pub fn numbers(said: Said) -> Reported
 
 // A solution that is written as SMT-LIB says how many bytes there are, and 0.
 pub fn written(answer: smtlib::Answer) -> Said
-    ensures { result ≡ writtenSaid answer }
+    ensures { result ≡ written_said answer }
 {
     match answer {
         smtlib::Answer::Done(n) => Said::Accepted(n, 0),

@@ -11,11 +11,11 @@ use lib.Dec.{leb, ltb}
 use lib.ListN.{length, get_or, set, drop, length-replicate, get_or-replicate, length-set, drop_of_length-le}
 use lib.Seq.{sets}
 use Rattle.reading.specs.Pick.{pick}
-use Rattle.reading.specs.Bytes.{sameBytes}
+use Rattle.reading.specs.Bytes.{same_bytes}
 use Rattle.reading.specs.Answer.{zeros, over}
-use Rattle.reading.proofs.Bytes.{same_more, same-differ, same_end}
+use Rattle.reading.proofs.Bytes.{same_more, same_differ, same_end}
 use Rattle.reading.proofs.Over.{over-length, over-more, over-fits}
-use Rattle.compared.specs.Recorded.{pattern, patterns, filled, isAnswer}
+use Rattle.compared.specs.Recorded.{pattern, patterns, filled, is_answer}
 
 pub patterns-length : (i n : ℕ) → length (patterns i n) ≡ n
 unfolding patterns
@@ -33,9 +33,9 @@ pub record Filling (l₀ l : List ℕ) (i : ℕ) : Type 0 where
   pub kept : length l ≡ length l₀
   pub stores : sets l i (patterns i (length l₀ - i)) ≡ filled l₀
 
-pub filling-all : (l : List ℕ) → Filling l l 0
+pub filling_all : (l : List ℕ) → Filling l l 0
 unfolding over
-filling-all l =
+filling_all l =
     let n : length (patterns 0 (length l)) ≡ length l = patterns-length 0 (length l) in
     let z : length l - 0 ≡ length l = omega arith in
     record {
@@ -49,35 +49,35 @@ filling-all l =
     }
 
 module _ {l₀ l : List ℕ} {i : ℕ} (v : Filling l₀ l i) where
-  pub filling-more : i < length l → {w : ℕ} → w ≡ pattern i → Filling l₀ (set l i w) (i + 1)
+  pub filling_more : i < length l → {w : ℕ} → w ≡ pattern i → Filling l₀ (set l i w) (i + 1)
   unfolding patterns
-  filling-more h {w} e =
+  filling_more h {w} e =
       let n : length l₀ - i ≡ suc (length l₀ - (i + 1)) = omega (arith, v.kept) in
       record { kept = length-set l i w ∙ v.kept; stores = rw (e, add-one) (rw (n, add-one) at v.stores) }
 
-  pub filling-none : length l ≤ i → l ≡ filled l₀
+  pub filling_none : length l ≤ i → l ≡ filled l₀
   unfolding patterns
-  filling-none h =
+  filling_none h =
       let n : length l₀ - i ≡ 0 = omega (arith, v.kept) in
       rw n at v.stores
 
 -- A slice is compared with another list of its length, from the index i on.
 pub record Comparing (l m : List ℕ) (i : ℕ) : Type 0 where
   pub long : length m ≡ length l
-  pub left : sameBytes l m ≡ sameBytes (drop i l) (drop i m)
+  pub left : same_bytes l m ≡ same_bytes (drop i l) (drop i m)
 
-pub comparing-all : (l m : List ℕ) → length m ≡ length l → Comparing l m 0
-comparing-all l m e = record { long = e; left = refl }
+pub comparing_all : (l m : List ℕ) → length m ≡ length l → Comparing l m 0
+comparing_all l m e = record { long = e; left = refl }
 
 module _ {l m : List ℕ} {i : ℕ} (v : Comparing l m i) where
-  pub comparing-differ : i < length l → {w : ℕ} → w ≡ get_or m i 0 → (get_or l i 0 ≡ w → ⊥) → false ≡ sameBytes l m
-  comparing-differ h e d = sym (v.left ∙ same-differ l m i h (omega (arith, v.long)) (λ z. d (z ∙ sym e)))
+  pub comparing_differ : i < length l → {w : ℕ} → w ≡ get_or m i 0 → (get_or l i 0 ≡ w → ⊥) → false ≡ same_bytes l m
+  comparing_differ h e d = sym (v.left ∙ same_differ l m i h (omega (arith, v.long)) (λ z. d (z ∙ sym e)))
 
-  pub comparing-more : i < length l → {w : ℕ} → w ≡ get_or m i 0 → get_or l i 0 ≡ w → Comparing l m (i + 1)
-  comparing-more h e d = record { long = v.long; left = v.left ∙ same_more l m i h (omega (arith, v.long)) (d ∙ e) }
+  pub comparing_more : i < length l → {w : ℕ} → w ≡ get_or m i 0 → get_or l i 0 ≡ w → Comparing l m (i + 1)
+  comparing_more h e d = record { long = v.long; left = v.left ∙ same_more l m i h (omega (arith, v.long)) (d ∙ e) }
 
-  pub comparing-none : length l ≤ i → true ≡ sameBytes l m
-  comparing-none h = sym (v.left ∙ same_end l m i h (omega (arith, v.long)))
+  pub comparing_none : length l ≤ i → true ≡ same_bytes l m
+  comparing_none h = sym (v.left ∙ same_end l m i h (omega (arith, v.long)))
 
 -- Zeros.
 pub zeros-length : (l : List ℕ) → length (zeros l) ≡ length l
@@ -87,12 +87,12 @@ pub zeros-at : (l : List ℕ) (i : ℕ) → i < length l → 0 ≡ get_or (zeros
 zeros-at l i h = sym (get_or-replicate (length l) i 0 0 h)
 
 -- Words laid over a slice: one of them, or one behind them.
-over-in : (ws o : List ℕ) (i : ℕ) → i < length ws → i < length o → get_or (over ws o) i 0 ≡ get_or ws i 0
+over_in : (ws o : List ℕ) (i : ℕ) → i < length ws → i < length o → get_or (over ws o) i 0 ≡ get_or ws i 0
 unfolding over
-over-in [] o i h k = absurd (not-suc-le-zero h)
-over-in (w ∷ ws) [] i h k = absurd (not-suc-le-zero k)
-over-in (w ∷ ws) (x ∷ o) zero h k = refl
-over-in (w ∷ ws) (x ∷ o) (suc i) h k = over-in ws o i (le_of_suc-le-suc h) (le_of_suc-le-suc k)
+over_in [] o i h k = absurd (not-suc-le-zero h)
+over_in (w ∷ ws) [] i h k = absurd (not-suc-le-zero k)
+over_in (w ∷ ws) (x ∷ o) zero h k = refl
+over_in (w ∷ ws) (x ∷ o) (suc i) h k = over_in ws o i (le_of_suc-le-suc h) (le_of_suc-le-suc k)
 
 over-out : (ws o : List ℕ) (i : ℕ) → length ws ≤ i → get_or (over ws o) i 0 ≡ get_or o i 0
 unfolding over
@@ -116,15 +116,15 @@ module _ (words out : List ℕ) where
           e ∙ rw (le-ltb i (length words) k) (sym (over-out words (filled out) i k ∙ patterns-at 0 (length out) i h ∙ ap pattern z))
       go false q =
           let k : i < length words = leb-false (length words) i q in
-          e ∙ rw (lt-ltb i (length words) k) (sym (over-in words (filled out) i k (rw patterns-length h)))
+          e ∙ rw (lt-ltb i (length words) k) (sym (over_in words (filled out) i k (rw patterns-length h)))
 
   -- Words that fit, or do not.
-  pub answer-fits : length words ≤ length out → {r : Bool} → r ≡ sameBytes out (over words (filled out)) → r ≡ isAnswer words out
-  unfolding isAnswer
+  pub answer-fits : length words ≤ length out → {r : Bool} → r ≡ same_bytes out (over words (filled out)) → r ≡ is_answer words out
+  unfolding is_answer
   answer-fits h e = e ∙ rw (le-leb (length words) (length out) h) refl
 
-  pub answer-long : length out < length words → false ≡ isAnswer words out
-  unfolding isAnswer
+  pub answer-long : length out < length words → false ≡ is_answer words out
+  unfolding is_answer
   answer-long h = rw (lt-leb (length words) (length out) h) refl
 
 -- Two tests: the first fails, or it holds and the second decides.

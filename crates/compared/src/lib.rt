@@ -1,7 +1,7 @@
 // When an answer is the recorded one (specs/Recorded.antt): what the lent slices hold before a call, and what they and the reply hold after it.
 ghost use Rattle.std.specs.Prelude.{◌≡◌, ltb, length, get_or};
 ghost use Rattle.reading.specs.Pick.{pick};
-ghost use Rattle.compared.specs.Recorded.{pattern as patternOf, filled, is_zero, isAnswer, isReply, isOutput, isRecorded, reported as reportedOf};
+ghost use Rattle.compared.specs.Recorded.{pattern as patternOf, filled, is_zero, is_answer, is_reply, is_output, is_recorded, reported as reportedOf};
 
 use recorded::line::Line;
 
@@ -58,7 +58,7 @@ fn expected(words: &[u32], i: usize) -> u32
 
 // Whether the output is the words, and behind them what stood there before the call.
 fn is_answer(words: &[u32], out: &[u32]) -> bool
-    ensures { result ≡ isAnswer words.now out.now }
+    ensures { result ≡ is_answer words.now out.now }
 {
     if out.len() < words.len() {
         return false;
@@ -85,7 +85,7 @@ fn reported(line: Line) -> u64
 
 // Whether the numbers of the reply are the recorded ones.
 fn is_reply(line: Line, reply: Reply) -> bool
-    ensures { result ≡ isReply line reply }
+    ensures { result ≡ is_reply line reply }
 {
     if reply.refusal != line.refusal {
         return false;
@@ -101,7 +101,7 @@ fn is_reply(line: Line, reply: Reply) -> bool
 
 // Whether the output is the recorded one: zeros after a refusal, else the words that are recorded and behind them what was there.
 fn is_output(line: Line, words: &[u32], out: &[u32]) -> bool
-    ensures { result ≡ isOutput line words.now out.now }
+    ensures { result ≡ is_output line words.now out.now }
 {
     if line.refusal != 0 {
         if words.len() != 0 {
@@ -117,7 +117,7 @@ fn is_output(line: Line, words: &[u32], out: &[u32]) -> bool
 
 // Whether the reply and the output are those of the line, which records these words.
 pub fn is_recorded(line: Line, words: &[u32], reply: Reply, out: &[u32]) -> bool
-    ensures { result ≡ isRecorded line words.now reply out.now }
+    ensures { result ≡ is_recorded line words.now reply out.now }
 {
     let same = is_output(line, words, out);
     if is_reply(line, reply) {

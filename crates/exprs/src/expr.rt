@@ -1,8 +1,8 @@
 // The expression that a tree is read as: a plan, its operands, and what comes behind them. These two functions are the whole cycle.
 ghost use Rattle.std.specs.Prelude.{◌+◌, ◌*◌, length};
-ghost use Rattle.reading.specs.Tree.{treesWords};
+ghost use Rattle.reading.specs.Tree.{trees_words};
 ghost use Rattle.grammar.specs.ParseExpr.{child};
-ghost use Rattle.grammar.specs.Written.{told, operandsW};
+ghost use Rattle.grammar.specs.Written.{told, operands_w};
 ghost use Rattle.scopes.specs.Scopes.{Kept};
 ghost use Rattle.plans.specs.Plans.{Parsed, Here, Row, factor, most};
 
@@ -81,7 +81,7 @@ fn operands(
     w: usize,
 ) -> Progress
     requires { Row text.now tree.now at have scopes.old depth w next }
-    ensures { (Kept scopes.old scopes.new depth) × ((h : Row text.now tree.now at have scopes.old depth w next) → Parsed (operandsW text.now count h.items want h.scopes next) w out.old out.new (w + next + factor * length (treesWords h.items)) result) }
+    ensures { (Kept scopes.old scopes.new depth) × ((h : Row text.now tree.now at have scopes.old depth w next) → Parsed (operands_w text.now count h.items want h.scopes next) w out.old out.new (w + next + factor * length (trees_words h.items)) result) }
 {
     let mut i: usize = 0;
     let mut p = at;

@@ -3,7 +3,7 @@
 // The contracts are `Promised`, of flattening `Flattened` and of SMT-LIB `Spoken`: the reply is the outcome of the call. They stand in
 // crates/boundary, which decides what is reported, and where demand 3 is proved of a session of these functions.
 ghost use Rattle.std.specs.Prelude.{[], ◌≡◌};
-ghost use Rattle.replies.specs.Calls.{oneCall, allCall, sortCall, exprCall, bindCall, solutionCall};
+ghost use Rattle.replies.specs.Calls.{one_call, all_call, sort_call, expr_call, bind_call, solution_call};
 ghost use Rattle.boundary.specs.Reply.{uncounted, counted, Promised, flat, Flattened};
 ghost use Rattle.boundary.specs.Smtlib.{spoken, Spoken};
 ghost use Rattle.boundary.specs.Version.{version as versionOf};
@@ -20,7 +20,7 @@ pub extern "C" fn pinhkray_read_one(
     words: &mut u64,
     next: &mut u64,
 ) -> u32
-    ensures { Promised (oneCall text.now out.old) 0 (uncounted result words.new next.new [] out.new) }
+    ensures { Promised (one_call text.now out.old) 0 (uncounted result words.new next.new [] out.new) }
 {
     let answer = Reader::open(0).read_one(text, out);
     let said = answer.said;
@@ -38,7 +38,7 @@ pub extern "C" fn pinhkray_read_all(
     expressions: &mut u64,
     words: &mut u64,
 ) -> u32
-    ensures { Promised (allCall text.now out.old) 0 (uncounted result expressions.new words.new [] out.new) }
+    ensures { Promised (all_call text.now out.old) 0 (uncounted result expressions.new words.new [] out.new) }
 {
     let answer = Reader::open(0).read_all(text, out);
     let said = answer.said;
@@ -56,7 +56,7 @@ pub extern "C" fn pinhkray_sort(
     out: &mut [u32],
     words: &mut u64,
 ) -> u32
-    ensures { Promised (sortCall text.now tree.old out.old) 0 (uncounted result words.new 0 tree.new out.new) }
+    ensures { Promised (sort_call text.now tree.old out.old) 0 (uncounted result words.new 0 tree.new out.new) }
 {
     let answer = Reader::open(0).sort(text, tree, out);
     let said = answer.said;
@@ -75,7 +75,7 @@ pub extern "C" fn pinhkray_expression(
     words: &mut u64,
     count_after: &mut u64,
 ) -> u32
-    ensures { Promised (exprCall text.now tree.old out.old) count (counted result words.new count_after.new tree.new [] out.new) }
+    ensures { Promised (expr_call text.now tree.old out.old) count (counted result words.new count_after.new tree.new [] out.new) }
 {
     let answer = Reader::open(count).expression(text, tree, out);
     *count_after = answer.reader.next;
@@ -95,7 +95,7 @@ pub extern "C" fn pinhkray_bind(
     words: &mut u64,
     count_after: &mut u64,
 ) -> u32
-    ensures { Promised (bindCall text.now tree.old out.old) count (counted result words.new count_after.new tree.new [] out.new) }
+    ensures { Promised (bind_call text.now tree.old out.old) count (counted result words.new count_after.new tree.new [] out.new) }
 {
     let reply = Reader::open(count).bind(text, tree, out);
     *count_after = reply.reader.next;
@@ -117,7 +117,7 @@ pub extern "C" fn pinhkray_solution(
     words: &mut u64,
     count_after: &mut u64,
 ) -> u32
-    ensures { Promised (solutionCall text.now tree.old draft.old out.old) count (counted result words.new count_after.new tree.new draft.new out.new) }
+    ensures { Promised (solution_call text.now tree.old draft.old out.old) count (counted result words.new count_after.new tree.new draft.new out.new) }
 {
     let solved = Reader::open(count).solution(text, tree, draft, out);
     *count_after = solved.reader.next;

@@ -9,31 +9,31 @@ use lib.Dec.{eqb, leb}
 use lib.ListN.{length, take, drop}
 use lib.Seq.{take-append_seam}
 use borrow.Author.Tests.{lt-ltb, le-ltb, le-leb, lt-leb}
-use Rattle.reading.specs.Limits.{maxNumber, maxNodes}
+use Rattle.reading.specs.Limits.{max_number, max_nodes}
 use Rattle.reading.specs.Pick.{pick}
 use Rattle.reading.specs.Answer.{number, Res, ok, no, accepts, refuses, finish, over}
 use Rattle.reading.proofs.Finish.{finish-short, finish-long}
 use Rattle.reading.proofs.Over.{over-fits, over-length}
 use Rattle.grammar.specs.Item.{raise, words_of}
-use Rattle.grammar.specs.Expr.{Expr, exprItems, Solution, solutionItems}
-use Rattle.grammar.specs.Raise.{raiseExpr}
-use Rattle.grammar.specs.Operations.{makeSolution, draftFinal}
+use Rattle.grammar.specs.Expr.{Expr, expr_items, Solution, solution_items}
+use Rattle.grammar.specs.Raise.{raise_expr}
+use Rattle.grammar.specs.Operations.{make_solution, draft_final}
 use Rattle.grammar.proofs.Items.{words_append}
 use Rattle.grammar.proofs.Lengths.{size-solution}
-use Rattle.grammar.proofs.Raise.{raise-append, words-raise, items-raise}
+use Rattle.grammar.proofs.Raise.{raise_append, words-raise, items-raise}
 use Rattle.writing.specs.Laid.{laid}
-use Rattle.grammar.specs.Item.{raisedWords}
-use Rattle.grammar.specs.Expr.{paramItems, bodyItems}
-use Rattle.parse.specs.Answers.{Laid, Attempted, AttemptedAt, draftSaid}
+use Rattle.grammar.specs.Item.{raised_words}
+use Rattle.grammar.specs.Expr.{param_items, body_items}
+use Rattle.parse.specs.Answers.{Laid, Attempted, AttemptedAt, draft_said}
 use Rattle.writing.proofs.Laid.{over-start}
 use Rattle.parse.specs.declared.Counted.TheVariants as counted
 use Rattle.parse.specs.declared.Drafted.TheVariants as drafted
 use Rattle.words.specs.declared.Answer.TheVariants as answer
-use Rattle.flattening.specs.Uncurry.{uncurry, mostOperands}
-use Rattle.judging.specs.Judge.{reads, fails, exprDeep, exprAt, atEnd, judgeExpr}
+use Rattle.flattening.specs.Uncurry.{uncurry, most_operands}
+use Rattle.judging.specs.Judge.{reads, fails, expr_deep, expr_at, at_end, judge_expr}
 use Rattle.judging.specs.Ends.{end_of}
-use Rattle.flattening.specs.Operations.{exprWords, noText, flatFits, flattenBy, flattenFinal, flatItems, solutionFits, solutionFinal}
-use Rattle.writing.specs.Wrote.{mostCount, Wrote}
+use Rattle.flattening.specs.Operations.{expr_words, no_text, flat_fits, flatten_by, flatten_final, flat_items, solution_fits, solution_final}
+use Rattle.writing.specs.Wrote.{most_count, Wrote}
 use Rattle.flatwriter.specs.Writing.{WroteExpr}
 use Rattle.judging.specs.declared.End.TheVariants as end
 use Rattle.flatwriter.specs.declared.Places.{Places}
@@ -43,15 +43,15 @@ use Rattle.flattening.proofs.Uncurry.{shorter}
 use Rattle.flattening.proofs.FewOperands.{most-size}
 use Rattle.flatten.proofs.Parsed.{ParsedSolution, parsed-solution}
 use Rattle.judging.proofs.Taken.{first_read, never-reads}
-use Rattle.writing.proofs.Wrote.{either, wrote-laid, wrote-seq, wrote_as}
+use Rattle.writing.proofs.Wrote.{either, wrote-laid, wrote_seq, wrote_as}
 
 -- Words that are judged as an expression are read as it.
-judged-read : (limit : ℕ) (ws : List ℕ) {e : Expr} {n : ℕ} → judgeExpr limit ws ≡ reads e n → exprDeep limit maxNodes ws 0 ≡ reads e n
-unfolding judgeExpr exprAt atEnd pick
+judged-read : (limit : ℕ) (ws : List ℕ) {e : Expr} {n : ℕ} → judge_expr limit ws ≡ reads e n → expr_deep limit max_nodes ws 0 ≡ reads e n
+unfolding judge_expr expr_at at_end pick
 judged-read limit ws {e} {n} q =
-    first_read (exprDeep limit maxNodes ws 0) (atEnd limit) ws q λ f m x y. go f m x (eqb m (length ws)) refl y
+    first_read (expr_deep limit max_nodes ws 0) (at_end limit) ws q λ f m x y. go f m x (eqb m (length ws)) refl y
   where
-    go : (f : Expr) (m : ℕ) → exprDeep limit maxNodes ws 0 ≡ reads f m → (t : Bool) → eqb m (length ws) ≡ t → pick t (reads f m) (fails 14) ≡ reads e n → exprDeep limit maxNodes ws 0 ≡ reads e n
+    go : (f : Expr) (m : ℕ) → expr_deep limit max_nodes ws 0 ≡ reads f m → (t : Bool) → eqb m (length ws) ≡ t → pick t (reads f m) (fails 14) ≡ reads e n → expr_deep limit max_nodes ws 0 ≡ reads e n
     go f m x true r y = x ∙ y
     go f m x false r y = never-reads y
 
@@ -59,37 +59,37 @@ judged-read limit ws {e} {n} q =
 
 module _ (ws l : List ℕ) where
   -- Words that are no expression.
-  pub flatten-no : {r : ℕ} {l' : List ℕ} → end.No r ≡ end_of (judgeExpr noText ws) → Attempted exprWords (flattenFinal ws l) l l' (answer.Refused r)
-  unfolding flattenFinal flattenBy
-  flatten-no {r} e = let q : judgeExpr noText ws ≡ fails r = ends-no (judgeExpr noText ws) e in rw q (record { answer = refl; left = tt })
+  pub flatten_no : {r : ℕ} {l' : List ℕ} → end.No r ≡ end_of (judge_expr no_text ws) → Attempted expr_words (flatten_final ws l) l l' (answer.Refused r)
+  unfolding flatten_final flatten_by
+  flatten_no {r} e = let q : judge_expr no_text ws ≡ fails r = ends-no (judge_expr no_text ws) e in rw q (record { answer = refl; left = tt })
 
-  module _ {n : ℕ} {l' : List ℕ} {r : Places} (q : end.At n ≡ end_of (judgeExpr noText ws)) (wrote : (e : Expr) (m : ℕ) → exprDeep noText maxNodes ws 0 ≡ reads e m → WroteExpr l 0 e m l' r) where
+  module _ {n : ℕ} {l' : List ℕ} {r : Places} (q : end.At n ≡ end_of (judge_expr no_text ws)) (wrote : (e : Expr) (m : ℕ) → expr_deep no_text max_nodes ws 0 ≡ reads e m → WroteExpr l 0 e m l' r) where
     abbrev it : Expr
-    it = (ends_at (judgeExpr noText ws) q).0
+    it = (ends_at (judge_expr no_text ws) q).0
 
-    is : judgeExpr noText ws ≡ reads it n
-    is = (ends_at (judgeExpr noText ws) q).1
+    is : judge_expr no_text ws ≡ reads it n
+    is = (ends_at (judge_expr no_text ws) q).1
 
-    words : Wrote l 0 (exprWords (uncurry it)) (mostOperands (uncurry it)) l' r.place
-    words = (wrote it n (judged-read noText ws is)).words
+    words : Wrote l 0 (expr_words (uncurry it)) (most_operands (uncurry it)) l' r.place
+    words = (wrote it n (judged-read no_text ws is)).words
 
     -- The words are there.
-    pub flatten_done : {size : ℕ} → size ≡ length l' → r.place ≤ size → Attempted exprWords (flattenFinal ws l) l l' (answer.Done r.place)
-    unfolding flattenFinal flattenBy flatFits pick
+    pub flatten_done : {size : ℕ} → size ≡ length l' → r.place ≤ size → Attempted expr_words (flatten_final ws l) l l' (answer.Done r.place)
+    unfolding flatten_final flatten_by flat_fits pick
     flatten_done k h =
-        let f : (r.place ≡ 0 + length (exprWords (uncurry it))) × (mostOperands (uncurry it) < mostCount) × (l' ≡ laid l 0 (exprWords (uncurry it))) = words.fits (omega (arith, k, h, words.kept)) in
-        let room : leb (length (exprWords (uncurry it))) (length l) ≡ true = le-leb (length (exprWords (uncurry it))) (length l) (omega (arith, k, h, f.0, words.kept)) in
-        let g : flattenFinal ws l ≡ accepts (uncurry it) 0 = rw (is, lt-ltb (mostOperands (uncurry it)) mostCount f.1, room) refl in
-        record { answer = rw g (ap answer.Done (f.0 ∙ zero-add _)); left = rw g (f.2 ∙ over-start (exprWords (uncurry it)) l) }
+        let f : (r.place ≡ 0 + length (expr_words (uncurry it))) × (most_operands (uncurry it) < most_count) × (l' ≡ laid l 0 (expr_words (uncurry it))) = words.fits (omega (arith, k, h, words.kept)) in
+        let room : leb (length (expr_words (uncurry it))) (length l) ≡ true = le-leb (length (expr_words (uncurry it))) (length l) (omega (arith, k, h, f.0, words.kept)) in
+        let g : flatten_final ws l ≡ accepts (uncurry it) 0 = rw (is, lt-ltb (most_operands (uncurry it)) most_count f.1, room) refl in
+        record { answer = rw g (ap answer.Done (f.0 ∙ zero-add _)); left = rw g (f.2 ∙ over-start (expr_words (uncurry it)) l) }
 
     -- They do not fit, or a count does not.
-    pub flatten-full : {size : ℕ} → size ≡ length l' → size < r.place → Attempted exprWords (flattenFinal ws l) l l' (answer.Refused 7)
-    unfolding flattenFinal flattenBy flatFits pick
-    flatten-full k h = record { answer = rw final refl; left = rw final tt }
+    pub flatten_full : {size : ℕ} → size ≡ length l' → size < r.place → Attempted expr_words (flatten_final ws l) l l' (answer.Refused 7)
+    unfolding flatten_final flatten_by flat_fits pick
+    flatten_full k h = record { answer = rw final refl; left = rw final tt }
       where
-        final : flattenFinal ws l ≡ refuses 7
-        final = either (mostOperands (uncurry it)) mostCount (λ small. either (length l) (length (exprWords (uncurry it))) (λ far. rw (is, lt-ltb (mostOperands (uncurry it)) mostCount small, lt-leb (length (exprWords (uncurry it))) (length l) far) refl) λ near. absurd (words.full (omega (arith, k, h, words.kept)) (omega (arith, near)) small)) λ big.
-            rw (is, le-ltb (mostOperands (uncurry it)) mostCount big) refl
+        final : flatten_final ws l ≡ refuses 7
+        final = either (most_operands (uncurry it)) most_count (λ small. either (length l) (length (expr_words (uncurry it))) (λ far. rw (is, lt-ltb (most_operands (uncurry it)) most_count small, lt-leb (length (expr_words (uncurry it))) (length l) far) refl) λ near. absurd (words.full (omega (arith, k, h, words.kept)) (omega (arith, near)) small)) λ big.
+            rw (is, le-ltb (most_operands (uncurry it)) most_count big) refl
 
 -- ---- solution
 
@@ -104,80 +104,80 @@ laid-first l xs l' p e n = rw (e, ← n) (wrote-laid l xs)
 pub record Made (text tree draft : List ℕ) (c p w k : ℕ) : Type 0 where
   pub solution : Solution
   pub numbers : ℕ
-  pub is : makeSolution text tree 0 ≡ ok solution numbers
-  pub final : draftFinal text tree draft c ≡ accepts solution numbers
-  pub enough : c + numbers ≤ maxNumber
-  pub room : length (exprWords solution.body) ≤ length draft
-  pub params : p ≡ length (words_of (paramItems solution))
-  pub size : w ≡ length (words_of (bodyItems solution))
+  pub is : make_solution text tree 0 ≡ ok solution numbers
+  pub final : draft_final text tree draft c ≡ accepts solution numbers
+  pub enough : c + numbers ≤ max_number
+  pub room : length (expr_words solution.body) ≤ length draft
+  pub params : p ≡ length (words_of (param_items solution))
+  pub size : w ≡ length (words_of (body_items solution))
   pub count : k ≡ c + numbers
 
 module _ (text tree draft out : List ℕ) (c : ℕ) where
   -- A draft that is refused: so is the solution.
-  pub solution-refused : {r : ℕ} {out' : List ℕ} → drafted.Refused r ≡ draftSaid c (draftFinal text tree draft c) → AttemptedAt flatItems c (solutionFinal text tree draft out c) out out' (counted.Refused r)
-  unfolding draftFinal solutionFinal solutionFits finish pick
-  solution-refused {r} {out'} e = go (makeSolution text tree 0) refl
+  pub solution-refused : {r : ℕ} {out' : List ℕ} → drafted.Refused r ≡ draft_said c (draft_final text tree draft c) → AttemptedAt flat_items c (solution_final text tree draft out c) out out' (counted.Refused r)
+  unfolding draft_final solution_final solution_fits finish pick
+  solution-refused {r} {out'} e = go (make_solution text tree 0) refl
     where
       Attempt : Type 0
-      Attempt = AttemptedAt flatItems c (solutionFinal text tree draft out c) out out' (counted.Refused r)
+      Attempt = AttemptedAt flat_items c (solution_final text tree draft out c) out out' (counted.Refused r)
 
-      go : (x : Res Solution) → makeSolution text tree 0 ≡ x → Attempt
+      go : (x : Res Solution) → make_solution text tree 0 ≡ x → Attempt
       go (no z) q =
           let f : r ≡ number z = let d : drafted.Refused r ≡ drafted.Refused (number z) = rw q at e in cc in
           rw (q, f) (record { answer = refl; left = tt })
-      go (ok s n) q = either maxNumber (c + n) spent λ enough.
-          either (length draft) (length (exprWords s.body)) (short enough) (fits enough)
+      go (ok s n) q = either max_number (c + n) spent λ enough.
+          either (length draft) (length (expr_words s.body)) (short enough) (fits enough)
         where
-          spent : maxNumber < c + n → Attempt
+          spent : max_number < c + n → Attempt
           spent h =
-              let f : r ≡ 13 = let d : drafted.Refused r ≡ drafted.Refused 13 = rw (q, lt-ltb maxNumber (c + n) h) at e in cc in
-              rw (q, lt-ltb maxNumber (c + n) h, f) (record { answer = refl; left = tt })
+              let f : r ≡ 13 = let d : drafted.Refused r ≡ drafted.Refused 13 = rw (q, lt-ltb max_number (c + n) h) at e in cc in
+              rw (q, lt-ltb max_number (c + n) h, f) (record { answer = refl; left = tt })
 
-          short : c + n ≤ maxNumber → length draft < length (exprWords s.body) → Attempt
+          short : c + n ≤ max_number → length draft < length (expr_words s.body) → Attempt
           short h l =
-              let f : r ≡ 7 = let d : drafted.Refused r ≡ drafted.Refused 7 = rw (q, le-ltb maxNumber (c + n) h, lt-leb (length (exprWords s.body)) (length draft) l) at e in cc in
-              rw (q, le-ltb maxNumber (c + n) h, lt-leb (length (exprWords s.body)) (length draft) l, f) (record { answer = refl; left = tt })
+              let f : r ≡ 7 = let d : drafted.Refused r ≡ drafted.Refused 7 = rw (q, le-ltb max_number (c + n) h, lt-leb (length (expr_words s.body)) (length draft) l) at e in cc in
+              rw (q, le-ltb max_number (c + n) h, lt-leb (length (expr_words s.body)) (length draft) l, f) (record { answer = refl; left = tt })
 
-          fits : c + n ≤ maxNumber → length (exprWords s.body) ≤ length draft → Attempt
+          fits : c + n ≤ max_number → length (expr_words s.body) ≤ length draft → Attempt
           fits h l =
-              let d : drafted.Refused r ≡ drafted.Done (length (words_of (paramItems s))) (length (words_of (bodyItems s))) (c + n) = rw (q, le-ltb maxNumber (c + n) h, le-leb (length (exprWords s.body)) (length draft) l) at e in
+              let d : drafted.Refused r ≡ drafted.Done (length (words_of (param_items s))) (length (words_of (body_items s))) (c + n) = rw (q, le-ltb max_number (c + n) h, le-leb (length (expr_words s.body)) (length draft) l) at e in
               let z : ◌≡◌ {A = ℕ} 0 1 = cc in
               absurd (omega arith)
 
 module _ (text tree draft : List ℕ) (c : ℕ) where
   -- A draft that is made.
-  pub made : {p w k : ℕ} → drafted.Done p w k ≡ draftSaid c (draftFinal text tree draft c) → Made text tree draft c p w k
-  unfolding draftFinal finish pick
-  made {p} {w} {k} e = go (makeSolution text tree 0) refl
+  pub made : {p w k : ℕ} → drafted.Done p w k ≡ draft_said c (draft_final text tree draft c) → Made text tree draft c p w k
+  unfolding draft_final finish pick
+  made {p} {w} {k} e = go (make_solution text tree 0) refl
     where
-      go : (x : Res Solution) → makeSolution text tree 0 ≡ x → Made text tree draft c p w k
+      go : (x : Res Solution) → make_solution text tree 0 ≡ x → Made text tree draft c p w k
       go (no z) q =
           let d : drafted.Done p w k ≡ drafted.Refused (number z) = rw q at e in
           let y : ◌≡◌ {A = ℕ} 0 1 = cc in
           absurd (omega arith)
-      go (ok s n) q = either maxNumber (c + n) spent λ enough.
-          either (length draft) (length (exprWords s.body)) (short enough) (fits enough)
+      go (ok s n) q = either max_number (c + n) spent λ enough.
+          either (length draft) (length (expr_words s.body)) (short enough) (fits enough)
         where
-          spent : maxNumber < c + n → Made text tree draft c p w k
+          spent : max_number < c + n → Made text tree draft c p w k
           spent h =
-              let d : drafted.Done p w k ≡ drafted.Refused 13 = rw (q, lt-ltb maxNumber (c + n) h) at e in
+              let d : drafted.Done p w k ≡ drafted.Refused 13 = rw (q, lt-ltb max_number (c + n) h) at e in
               let y : ◌≡◌ {A = ℕ} 0 1 = cc in
               absurd (omega arith)
 
-          short : c + n ≤ maxNumber → length draft < length (exprWords s.body) → Made text tree draft c p w k
+          short : c + n ≤ max_number → length draft < length (expr_words s.body) → Made text tree draft c p w k
           short h l =
-              let d : drafted.Done p w k ≡ drafted.Refused 7 = rw (q, le-ltb maxNumber (c + n) h, lt-leb (length (exprWords s.body)) (length draft) l) at e in
+              let d : drafted.Done p w k ≡ drafted.Refused 7 = rw (q, le-ltb max_number (c + n) h, lt-leb (length (expr_words s.body)) (length draft) l) at e in
               let y : ◌≡◌ {A = ℕ} 0 1 = cc in
               absurd (omega arith)
 
-          fits : c + n ≤ maxNumber → length (exprWords s.body) ≤ length draft → Made text tree draft c p w k
+          fits : c + n ≤ max_number → length (expr_words s.body) ≤ length draft → Made text tree draft c p w k
           fits h l =
-              let d : drafted.Done p w k ≡ drafted.Done (length (words_of (paramItems s))) (length (words_of (bodyItems s))) (c + n) = rw (q, le-ltb maxNumber (c + n) h, le-leb (length (exprWords s.body)) (length draft) l) at e in
+              let d : drafted.Done p w k ≡ drafted.Done (length (words_of (param_items s))) (length (words_of (body_items s))) (c + n) = rw (q, le-ltb max_number (c + n) h, le-leb (length (expr_words s.body)) (length draft) l) at e in
               record {
                 solution = s;
                 numbers = n;
                 is = q;
-                final = rw (q, le-ltb maxNumber (c + n) h, le-leb (length (exprWords s.body)) (length draft) l) refl;
+                final = rw (q, le-ltb max_number (c + n) h, le-leb (length (expr_words s.body)) (length draft) l) refl;
                 enough = h;
                 room = l;
                 params = cc;
@@ -185,91 +185,91 @@ module _ (text tree draft : List ℕ) (c : ℕ) where
                 count = cc;
               }
 
-  module _ {p w k : ℕ} (draft' : List ℕ) (m : Made text tree draft c p w k) (body : Laid (raisedWords bodyItems c) (draftFinal text tree draft c) draft draft') where
+  module _ {p w k : ℕ} (draft' : List ℕ) (m : Made text tree draft c p w k) (body : Laid (raised_words body_items c) (draft_final text tree draft c) draft draft') where
     abbrev s : Solution
     s = m.solution
 
-    abbrev flatBody : Expr
-    flatBody = uncurry (raiseExpr c s.body)
+    abbrev flat_body : Expr
+    flat_body = uncurry (raise_expr c s.body)
 
-    abbrev bodyWords : List ℕ
-    bodyWords = words_of (raise c (exprItems s.body))
+    abbrev body_words : List ℕ
+    body_words = words_of (raise c (expr_items s.body))
 
     parsed : ParsedSolution text s m.numbers
     parsed = rw m.is at (parsed-solution text tree)
 
-    laid-body : draft' ≡ over bodyWords draft
+    laid-body : draft' ≡ over body_words draft
     laid-body = rw m.final at body
 
-    body-size : length bodyWords ≡ w
-    body-size = words-raise c (exprItems s.body) ∙ sym m.size
+    body-size : length body_words ≡ w
+    body-size = words-raise c (expr_items s.body) ∙ sym m.size
 
     -- The body's words are in the draft slice.
     pub body-within : w ≤ length draft'
-    body-within = omega (arith, m.size, m.room, ap length laid-body, over-length bodyWords draft)
+    body-within = omega (arith, m.size, m.room, ap length laid-body, over-length body_words draft)
 
-    body-there : take w draft' ≡ bodyWords
+    body-there : take w draft' ≡ body_words
     body-there =
-        let fit : length bodyWords ≤ length draft = omega (arith, m.size, m.room, body-size) in
-        prefix bodyWords draft w draft' (laid-body ∙ over-fits bodyWords draft fit) body-size
+        let fit : length body_words ≤ length draft = omega (arith, m.size, m.room, body-size) in
+        prefix body_words draft w draft' (laid-body ∙ over-fits body_words draft fit) body-size
 
-    body-read : exprDeep noText maxNodes (take w draft') 0 ≡ reads (raiseExpr c s.body) (length bodyWords)
-    body-read = rw body-there (judged-read noText bodyWords (parsed.back c m.enough))
+    body-read : expr_deep no_text max_nodes (take w draft') 0 ≡ reads (raise_expr c s.body) (length body_words)
+    body-read = rw body-there (judged-read no_text body_words (parsed.back c m.enough))
 
     -- A count of the flattened body takes one word.
-    small : mostOperands flatBody < mostCount
+    small : most_operands flat_body < most_count
     small =
-        omega (arith, most-size flatBody, shorter (raiseExpr c s.body), ap (λ its. length (words_of its)) (items-raise c s.body), words-raise c (exprItems s.body), size-solution s, parsed.size, parsed.short)
+        omega (arith, most-size flat_body, shorter (raise_expr c s.body), ap (λ its. length (words_of its)) (items-raise c s.body), words-raise c (expr_items s.body), size-solution s, parsed.size, parsed.short)
 
-    flat_items : exprItems flatBody ≡ raise c (exprItems (uncurry s.body))
-    flat_items = ap exprItems (uncurry-raise c s.body) ∙ items-raise c (uncurry s.body)
+    flat_items_lem : expr_items flat_body ≡ raise c (expr_items (uncurry s.body))
+    flat_items_lem = ap expr_items (uncurry-raise c s.body) ∙ items-raise c (uncurry s.body)
 
-    abbrev paramWords : List ℕ
-    paramWords = words_of (raise c (paramItems s))
+    abbrev param_words : List ℕ
+    param_words = words_of (raise c (param_items s))
 
     -- The parameters, then the flattened body.
-    all_words : paramWords ++ exprWords flatBody ≡ raisedWords flatItems c s
-    unfolding solutionItems
+    all_words : param_words ++ expr_words flat_body ≡ raised_words flat_items c s
+    unfolding solution_items
     all_words =
-        ap (λ its. paramWords ++ words_of its) flat_items
-        ∙ sym (words_append (raise c (paramItems s)) (raise c (exprItems (uncurry s.body))))
-        ∙ ap words_of (sym (raise-append c (paramItems s) (exprItems (uncurry s.body))))
+        ap (λ its. param_words ++ words_of its) flat_items_lem
+        ∙ sym (words_append (raise c (param_items s)) (raise c (expr_items (uncurry s.body))))
+        ∙ ap words_of (sym (raise_append c (param_items s) (expr_items (uncurry s.body))))
 
-    module _ (out : List ℕ) {out₁ out₂ : List ℕ} {r : Places} (params : Laid (raisedWords paramItems c) (draftFinal text tree draft c) out out₁) (wrote : (e : Expr) (n : ℕ) → exprDeep noText maxNodes (take w draft') 0 ≡ reads e n → WroteExpr out₁ p e n out₂ r) where
-      laid-params : out₁ ≡ laid out 0 paramWords
-      laid-params = (rw m.final at params) ∙ sym (over-start paramWords out)
+    module _ (out : List ℕ) {out₁ out₂ : List ℕ} {r : Places} (params : Laid (raised_words param_items c) (draft_final text tree draft c) out out₁) (wrote : (e : Expr) (n : ℕ) → expr_deep no_text max_nodes (take w draft') 0 ≡ reads e n → WroteExpr out₁ p e n out₂ r) where
+      laid-params : out₁ ≡ laid out 0 param_words
+      laid-params = (rw m.final at params) ∙ sym (over-start param_words out)
 
-      first : Wrote out 0 paramWords 0 out₁ p
+      first : Wrote out 0 param_words 0 out₁ p
       first =
-          laid-first out paramWords out₁ p laid-params (words-raise c (paramItems s) ∙ sym m.params)
+          laid-first out param_words out₁ p laid-params (words-raise c (param_items s) ∙ sym m.params)
 
       -- All words of the answer.
-      whole : Wrote out 0 (raisedWords flatItems c s) (mostOperands flatBody) out₂ r.place
+      whole : Wrote out 0 (raised_words flat_items c s) (most_operands flat_body) out₂ r.place
       whole =
-          wrote_as all_words (omega arith) (wrote-seq paramWords (exprWords flatBody) first (wrote (raiseExpr c s.body) (length bodyWords) body-read).words)
+          wrote_as all_words (omega arith) (wrote_seq param_words (expr_words flat_body) first (wrote (raise_expr c s.body) (length body_words) body-read).words)
 
-      long : length (raisedWords flatItems c s) ≡ length (words_of (flatItems s))
-      long = words-raise c (flatItems s)
+      long : length (raised_words flat_items c s) ≡ length (words_of (flat_items s))
+      long = words-raise c (flat_items s)
 
-      draft-fits : leb (length (exprWords s.body)) (length draft) ≡ true
-      draft-fits = le-leb (length (exprWords s.body)) (length draft) m.room
+      draft-fits : leb (length (expr_words s.body)) (length draft) ≡ true
+      draft-fits = le-leb (length (expr_words s.body)) (length draft) m.room
 
       -- The words are there.
-      pub solution-done : {size : ℕ} → size ≡ length out₂ → r.place ≤ size → AttemptedAt flatItems c (solutionFinal text tree draft out c) out out₂ (counted.Done r.place k)
-      unfolding solutionFinal solutionFits pick
+      pub solution-done : {size : ℕ} → size ≡ length out₂ → r.place ≤ size → AttemptedAt flat_items c (solution_final text tree draft out c) out out₂ (counted.Done r.place k)
+      unfolding solution_final solution_fits pick
       solution-done e h =
           let f = whole.fits (omega (arith, e, h, whole.kept)) in
-          let fit : leb (length (words_of (flatItems s))) (length out) ≡ true = le-leb (length (words_of (flatItems s))) (length out) (omega (arith, e, h, whole.kept, f.0, long)) in
-          let room : solutionFits draft out s ≡ true = rw (draft-fits, fit) refl in
-          let g : solutionFinal text tree draft out c ≡ accepts s m.numbers = rw m.is (finish-long (solutionFits draft out) c s m.numbers m.enough room) in
-          let n : r.place ≡ length (words_of (flatItems s)) = omega (arith, f.0, long) in
-          record { answer = rw g (ap₂ counted.Done n m.count); left = rw g (f.2 ∙ over-start (raisedWords flatItems c s) out) }
+          let fit : leb (length (words_of (flat_items s))) (length out) ≡ true = le-leb (length (words_of (flat_items s))) (length out) (omega (arith, e, h, whole.kept, f.0, long)) in
+          let room : solution_fits draft out s ≡ true = rw (draft-fits, fit) refl in
+          let g : solution_final text tree draft out c ≡ accepts s m.numbers = rw m.is (finish-long (solution_fits draft out) c s m.numbers m.enough room) in
+          let n : r.place ≡ length (words_of (flat_items s)) = omega (arith, f.0, long) in
+          record { answer = rw g (ap₂ counted.Done n m.count); left = rw g (f.2 ∙ over-start (raised_words flat_items c s) out) }
 
       -- They do not fit.
-      pub solution-full : {size : ℕ} → size ≡ length out₂ → size < r.place → AttemptedAt flatItems c (solutionFinal text tree draft out c) out out₂ (counted.Refused 7)
-      unfolding solutionFinal solutionFits pick
+      pub solution-full : {size : ℕ} → size ≡ length out₂ → size < r.place → AttemptedAt flat_items c (solution_final text tree draft out c) out out₂ (counted.Refused 7)
+      unfolding solution_final solution_fits pick
       solution-full e h =
-          let far : length out < length (words_of (flatItems s)) = either (length out) (length (words_of (flatItems s))) (λ f. f) λ near. absurd (whole.full (omega (arith, e, h, whole.kept)) (omega (arith, near, long)) small) in
-          let room : solutionFits draft out s ≡ false = rw (draft-fits, lt-leb (length (words_of (flatItems s))) (length out) far) refl in
-          let g : solutionFinal text tree draft out c ≡ refuses 7 = rw m.is (finish-short (solutionFits draft out) c s m.numbers m.enough room) in
+          let far : length out < length (words_of (flat_items s)) = either (length out) (length (words_of (flat_items s))) (λ f. f) λ near. absurd (whole.full (omega (arith, e, h, whole.kept)) (omega (arith, near, long)) small) in
+          let room : solution_fits draft out s ≡ false = rw (draft-fits, lt-leb (length (words_of (flat_items s))) (length out) far) refl in
+          let g : solution_final text tree draft out c ≡ refuses 7 = rw m.is (finish-short (solution_fits draft out) c s m.numbers m.enough room) in
           record { answer = rw g refl; left = rw g tt }

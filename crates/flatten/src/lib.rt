@@ -2,11 +2,11 @@
 // operation solution flattens what the parser makes of a text. What is answered stands in crates/flattening/specs/Operations.antt;
 // crates/judging/specs/Judge.antt says which words are an expression, crates/flattening/specs/Uncurry.antt what flattening makes of it.
 ghost use Rattle.std.specs.Prelude.{◌≡◌};
-ghost use Rattle.reading.specs.Answer.{zeros, outputOf};
-ghost use Rattle.grammar.specs.Item.{raisedWords};
+ghost use Rattle.reading.specs.Answer.{zeros, output_of};
+ghost use Rattle.grammar.specs.Item.{raised_words};
 ghost use Rattle.parse.specs.Answers.{Attempted, AttemptedAt};
-ghost use Rattle.flattening.specs.Operations.{exprWords, flattenFinal, flattenOut, flatItems, solutionFinal};
-ghost use Rattle.flatten.specs.Answers.{flattenAnswer, solutionAnswer};
+ghost use Rattle.flattening.specs.Operations.{expr_words, flatten_final, flatten_out, flat_items, solution_final};
+ghost use Rattle.flatten.specs.Answers.{flatten_answer, solution_answer};
 
 use flatwriter::flat;
 use judge::expr_words::{NO_TEXT, judge};
@@ -20,7 +20,7 @@ use words::output::clear;
 
 // The flattened words; the output is not cleared yet.
 fn attempt(words: &[u32], out: &mut [u32]) -> Answer
-    ensures { Attempted exprWords (flattenFinal words.now out.old) out.old out.new result }
+    ensures { Attempted expr_words (flatten_final words.now out.old) out.old out.new result }
 {
     match judge(words, NO_TEXT) {
         End::No(r) => Answer::Refused(r),
@@ -38,8 +38,8 @@ fn attempt(words: &[u32], out: &mut [u32]) -> Answer
 // words that are no expression, 6 where one begins inside 128 others, 14 for words left over, and at last 7 if the output has room for fewer
 // words, or if a joined count exceeds 2^32 - 1. A refusal zeroes the output. The words that are read stay as they are.
 pub fn flatten(words: &[u32], out: &mut [u32]) -> Answer
-    ensures answer { result ≡ flattenAnswer (flattenFinal words.now out.old) }
-    ensures output { out.new ≡ flattenOut words.now out.old }
+    ensures answer { result ≡ flatten_answer (flatten_final words.now out.old) }
+    ensures output { out.new ≡ flatten_out words.now out.old }
 {
     match attempt(words, out) {
         Answer::Done(n) => Answer::Done(n),
@@ -58,7 +58,7 @@ fn attempt_solution(
     out: &mut [u32],
     count: u64,
 ) -> Counted
-    ensures answer { AttemptedAt flatItems count (solutionFinal text.now tree.old draft.old out.old count) out.old out.new result }
+    ensures answer { AttemptedAt flat_items count (solution_final text.now tree.old draft.old out.old count) out.old out.new result }
     ensures working { tree.new ≡ zeros tree.old }
     ensures body { zeros draft.new ≡ zeros draft.old }
 {
@@ -84,10 +84,10 @@ pub fn solution(
     out: &mut [u32],
     count: u64,
 ) -> Counted
-    ensures answer { result ≡ solutionAnswer count (solutionFinal text.now tree.old draft.old out.old count) }
+    ensures answer { result ≡ solution_answer count (solution_final text.now tree.old draft.old out.old count) }
     ensures working { tree.new ≡ zeros tree.old }
     ensures body { draft.new ≡ zeros draft.old }
-    ensures output { out.new ≡ outputOf (raisedWords flatItems count) (solutionFinal text.now tree.old draft.old out.old count) out.old }
+    ensures output { out.new ≡ output_of (raised_words flat_items count) (solution_final text.now tree.old draft.old out.old count) out.old }
 {
     let answer = attempt_solution(text, tree, draft, out, count);
     close(draft, out, answer)

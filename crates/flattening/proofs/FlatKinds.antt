@@ -5,16 +5,16 @@ use mathlib.Core.List.{List}
 use Rattle.reading.specs.Bytes.{Maybe}
 use Rattle.grammar.specs.Sort.{Sort}
 use Rattle.grammar.specs.Expr.{Kind, Expr, Exprs, node, app, enil, econs, EachKind, EachKindAll}
-use Rattle.grammar.specs.Raise.{raiseSolution}
-use Rattle.grammar.specs.ParseSolution.{parseSolution}
-use Rattle.grammar.specs.Operations.{theTree, makeSolution}
+use Rattle.grammar.specs.Raise.{raise_solution}
+use Rattle.grammar.specs.ParseSolution.{parse_solution}
+use Rattle.grammar.specs.Operations.{the_tree, make_solution}
 use Rattle.grammar.specs.Literals.{LiteralFits, LiteralsFit}
 use Rattle.grammar.specs.Lets.{NoNamedLet, NoNamedLets}
-use Rattle.grammar.proofs.AnswerHolds.{Post, any-post, map-post}
+use Rattle.grammar.proofs.AnswerHolds.{Post, any_post, map_post}
 use Rattle.grammar.proofs.Literals.{solution-fit}
 use Rattle.grammar.proofs.NamedLets.{solution-unnamed}
 use Rattle.grammar.proofs.Raised.{literals-raise, named-lets-raise}
-use Rattle.flattening.specs.Uncurry.{join, applied, uncurry, uncurryAll, flattened}
+use Rattle.flattening.specs.Uncurry.{join, applied, uncurry, uncurry_all, flattened}
 
 module _ (P : Kind → Type 0) where
   join-kinds : (fs es : Exprs) → EachKindAll P fs → EachKindAll P es → EachKindAll P (join fs es)
@@ -32,21 +32,21 @@ module _ (P : Kind → Type 0) where
 
     pub uncurry-kinds : (e : Expr) → EachKind P e → EachKind P (uncurry e)
     uncurry-kinds (node k es) p = (p.0, uncurry-all-kinds es p.1)
-    uncurry-kinds (app o es h) p = applied-kinds o (uncurryAll es) (uncurry h) (uncurry-all-kinds es p.0) (uncurry-kinds h p.1)
+    uncurry-kinds (app o es h) p = applied-kinds o (uncurry_all es) (uncurry h) (uncurry-all-kinds es p.0) (uncurry-kinds h p.1)
 
-    uncurry-all-kinds : (es : Exprs) → EachKindAll P es → EachKindAll P (uncurryAll es)
+    uncurry-all-kinds : (es : Exprs) → EachKindAll P es → EachKindAll P (uncurry_all es)
     uncurry-all-kinds enil p = tt
     uncurry-all-kinds (econs e es) p = (uncurry-kinds e p.0, uncurry-all-kinds es p.1)
 
 -- Every solution that a text is read as.
-pub flat-fit : (text tree : List ℕ) → Post (makeSolution text tree 0) (λ s n. (c : ℕ) → LiteralsFit (raiseSolution c (flattened s)).body)
-unfolding makeSolution raiseSolution
+pub flat-fit : (text tree : List ℕ) → Post (make_solution text tree 0) (λ s n. (c : ℕ) → LiteralsFit (raise_solution c (flattened s)).body)
+unfolding make_solution raise_solution
 flat-fit text tree =
-    any-post (theTree text tree) 0 _ _ λ t.
-    map-post (parseSolution text t 0) (λ s n. LiteralsFit s.body) _ (λ s n h c. literals-raise c (uncurry s.body) (uncurry-kinds LiteralFits s.body h)) (solution-fit text t 0)
+    any_post (the_tree text tree) 0 _ _ λ t.
+    map_post (parse_solution text t 0) (λ s n. LiteralsFit s.body) _ (λ s n h c. literals-raise c (uncurry s.body) (uncurry-kinds LiteralFits s.body h)) (solution-fit text t 0)
 
-pub flat-unnamed : (text tree : List ℕ) → Post (makeSolution text tree 0) (λ s n. (c : ℕ) → NoNamedLets (raiseSolution c (flattened s)).body)
-unfolding makeSolution raiseSolution
+pub flat-unnamed : (text tree : List ℕ) → Post (make_solution text tree 0) (λ s n. (c : ℕ) → NoNamedLets (raise_solution c (flattened s)).body)
+unfolding make_solution raise_solution
 flat-unnamed text tree =
-    any-post (theTree text tree) 0 _ _ λ t.
-    map-post (parseSolution text t 0) (λ s n. NoNamedLets s.body) _ (λ s n h c. named-lets-raise c (uncurry s.body) (uncurry-kinds NoNamedLet s.body h)) (solution-unnamed text t 0)
+    any_post (the_tree text tree) 0 _ _ λ t.
+    map_post (parse_solution text t 0) (λ s n. NoNamedLets s.body) _ (λ s n h c. named-lets-raise c (uncurry s.body) (uncurry-kinds NoNamedLet s.body h)) (solution-unnamed text t 0)

@@ -16,12 +16,12 @@ applied o es (app o' fs h) = app o (join fs es) h
 
 unfoldable mutual
   pub uncurry : Expr → Expr
-  uncurry (node k es) = node k (uncurryAll es)
-  uncurry (app o es h) = applied o (uncurryAll es) (uncurry h)
+  uncurry (node k es) = node k (uncurry_all es)
+  uncurry (app o es h) = applied o (uncurry_all es) (uncurry h)
 
-  pub uncurryAll : Exprs → Exprs
-  uncurryAll enil = enil
-  uncurryAll (econs e es) = econs (uncurry e) (uncurryAll es)
+  pub uncurry_all : Exprs → Exprs
+  uncurry_all enil = enil
+  uncurry_all (econs e es) = econs (uncurry e) (uncurry_all es)
 
 -- A solution with its body flattened.
 abbrev pub flattened : Solution → Solution
@@ -29,10 +29,10 @@ flattened s = record { params = s.params; body = uncurry s.body }
 
 -- The largest number of operands of a node or of arguments of an application.
 unfoldable mutual
-  pub mostOperands : Expr → ℕ
-  mostOperands (node k es) = max (exprs es) (mostOperandsAll es)
-  mostOperands (app o es h) = max (exprs es) (max (mostOperandsAll es) (mostOperands h))
+  pub most_operands : Expr → ℕ
+  most_operands (node k es) = max (exprs es) (most_operands_all es)
+  most_operands (app o es h) = max (exprs es) (max (most_operands_all es) (most_operands h))
 
-  pub mostOperandsAll : Exprs → ℕ
-  mostOperandsAll enil = 0
-  mostOperandsAll (econs e es) = max (mostOperands e) (mostOperandsAll es)
+  pub most_operands_all : Exprs → ℕ
+  most_operands_all enil = 0
+  most_operands_all (econs e es) = max (most_operands e) (most_operands_all es)

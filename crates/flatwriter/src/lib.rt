@@ -6,10 +6,10 @@ ghost use Rattle.grammar.specs.Sort.{Sort};
 ghost use Rattle.grammar.specs.Expr.{Expr, Exprs, enil, econs};
 ghost use Rattle.flattening.specs.Uncurry.{join};
 ghost use Rattle.flattening.specs.Flat.{gathered, spine};
-ghost use Rattle.judging.specs.Judge.{reads, several, sortIf, exprDeep};
-ghost use Rattle.flattening.specs.Operations.{noText};
+ghost use Rattle.judging.specs.Judge.{reads, several, sort_if, expr_deep};
+ghost use Rattle.flattening.specs.Operations.{no_text};
 ghost use Rattle.judging.specs.Spelled.{Spelled};
-ghost use Rattle.writing.specs.Wrote.{Wrote, mostCount};
+ghost use Rattle.writing.specs.Wrote.{Wrote, most_count};
 ghost use Rattle.flatwriter.specs.Writing.{WroteExpr, WroteExprs, Patched, Chained};
 
 use heads::{Header, head};
@@ -61,8 +61,8 @@ fn copy(words: &[u32], from: usize, to: usize, out: &mut [u32], place: usize) ->
 
 // So many arguments more; no count grows past one that is too large.
 fn added(count: u64, n: u32) -> u64
-    requires { count ≤ mostCount }
-    ensures { result ≡ min (count + n) mostCount }
+    requires { count ≤ most_count }
+    ensures { result ≡ min (count + n) most_count }
 {
     let sum = count + n as u64;
     if TOO_MANY < sum {
@@ -101,7 +101,7 @@ fn lone(at: usize, room: u32, place: usize) -> Joined
 // An expression that was judged: its flattened words.
 #[cycle(all_arguments_chain_flat_flats)]
 pub fn flat(words: &[u32], at: usize, room: u32, out: &mut [u32], place: usize) -> Places
-    ensures { (e : Expr) (n : ℕ) → exprDeep noText room words.now at ≡ reads e n → WroteExpr out.old place e n out.new result }
+    ensures { (e : Expr) (n : ℕ) → expr_deep no_text room words.now at ≡ reads e n → WroteExpr out.old place e n out.new result }
 {
     if room == 0 {
         return Places {
@@ -131,7 +131,7 @@ pub fn flat(words: &[u32], at: usize, room: u32, out: &mut [u32], place: usize) 
 // So many expressions, one after the other.
 #[cycle(all_arguments_chain_flat_flats)]
 fn flats(words: &[u32], at: usize, n: u32, room: u32, out: &mut [u32], place: usize) -> Places
-    ensures { (es : Exprs) (m : ℕ) → several (exprDeep noText room) enil econs n words.now at ≡ reads es m → WroteExprs out.old place es m out.new result }
+    ensures { (es : Exprs) (m : ℕ) → several (expr_deep no_text room) enil econs n words.now at ≡ reads es m → WroteExprs out.old place es m out.new result }
 {
     let mut a = at;
     let mut p = place;
@@ -156,8 +156,8 @@ fn all_arguments(
     out: &mut [u32],
     place: usize,
 ) -> Joined
-    ensures bounds { (result.room ≤ room) × (result.count ≤ mostCount) }
-    ensures chained { (es : Exprs) (b : ℕ) (o : Maybe Sort) (d : ℕ) (h : Expr) (m : ℕ) → several (exprDeep noText room) enil econs n words.now at ≡ reads es b → sortIf noText flag words.now b ≡ reads o d → exprDeep noText room words.now d ≡ reads h m → (Chained words.now out.old place (join (gathered h) es) (spine h) m out.new result) × (result.from ≡ b) × (result.to ≡ d) }
+    ensures bounds { (result.room ≤ room) × (result.count ≤ most_count) }
+    ensures chained { (es : Exprs) (b : ℕ) (o : Maybe Sort) (d : ℕ) (h : Expr) (m : ℕ) → several (expr_deep no_text room) enil econs n words.now at ≡ reads es b → sort_if no_text flag words.now b ≡ reads o d → expr_deep no_text room words.now d ≡ reads h m → (Chained words.now out.old place (join (gathered h) es) (spine h) m out.new result) × (result.from ≡ b) × (result.to ≡ d) }
 {
     let b = behind(exprs_end(words, at, n, NO_TEXT, room), at);
     let d = behind(out_sort(words, b, NO_TEXT, flag), b);
@@ -176,8 +176,8 @@ fn all_arguments(
 // The arguments that a head brings if it is an application, the innermost first.
 #[cycle(all_arguments_chain_flat_flats)]
 fn chain(words: &[u32], at: usize, room: u32, out: &mut [u32], place: usize) -> Joined
-    ensures bounds { (result.room ≤ room) × (result.count ≤ mostCount) }
-    ensures chained { (e : Expr) (m : ℕ) → exprDeep noText room words.now at ≡ reads e m → Chained words.now out.old place (gathered e) (spine e) m out.new result }
+    ensures bounds { (result.room ≤ room) × (result.count ≤ most_count) }
+    ensures chained { (e : Expr) (m : ℕ) → expr_deep no_text room words.now at ≡ reads e m → Chained words.now out.old place (gathered e) (spine e) m out.new result }
 {
     if room == 0 {
         return lone(at, room, place);

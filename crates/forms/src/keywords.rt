@@ -1,8 +1,8 @@
 // How a list is read as an expression, by the name that it begins with.
 ghost use Rattle.std.specs.Prelude.{drop};
-ghost use Rattle.reading.specs.Bytes.{ascii, beginsWith, lookup};
+ghost use Rattle.reading.specs.Bytes.{ascii, begins_with, lookup};
 ghost use Rattle.grammar.specs.Names.{keywords};
-ghost use Rattle.grammar.specs.ParseExpr.{orElseForm};
+ghost use Rattle.grammar.specs.ParseExpr.{or_else_form};
 ghost use Rattle.forms.specs.FormNames.{FormIs};
 
 use lexing::byte::{begins_with, same};
@@ -25,7 +25,7 @@ pub enum Form {
 
 // The keywords, in the order of the source.
 pub fn form_named(name: &[u8]) -> Form
-    ensures { FormIs (orElseForm (beginsWith (ascii "is$") name.now) (lookup keywords name.now)) result }
+    ensures { FormIs (or_else_form (begins_with (ascii "is$") name.now) (lookup keywords name.now)) result }
 {
     if same(name, b"cast") {
         return Form::Cast;
@@ -56,7 +56,7 @@ pub fn form_named(name: &[u8]) -> Form
 
 // Behind `if`.
 fn arithmetic(name: &[u8]) -> Form
-    ensures { FormIs (orElseForm (beginsWith (ascii "is$") name.now) (lookup (drop 8 keywords) name.now)) result }
+    ensures { FormIs (or_else_form (begins_with (ascii "is$") name.now) (lookup (drop 8 keywords) name.now)) result }
 {
     if same(name, b"+") {
         return Form::Two(BINARY, 0, 2);
@@ -78,7 +78,7 @@ fn arithmetic(name: &[u8]) -> Form
 
 // Behind `mod`.
 fn relation(name: &[u8]) -> Form
-    ensures { FormIs (orElseForm (beginsWith (ascii "is$") name.now) (lookup (drop 13 keywords) name.now)) result }
+    ensures { FormIs (or_else_form (begins_with (ascii "is$") name.now) (lookup (drop 13 keywords) name.now)) result }
 {
     if same(name, b"=") {
         return Form::Two(ATOM, 0, 2);
@@ -103,7 +103,7 @@ fn relation(name: &[u8]) -> Form
 
 // Behind `>=`, and names that are no keyword.
 fn connective(name: &[u8]) -> Form
-    ensures { FormIs (orElseForm (beginsWith (ascii "is$") name.now) (lookup (drop 19 keywords) name.now)) result }
+    ensures { FormIs (or_else_form (begins_with (ascii "is$") name.now) (lookup (drop 19 keywords) name.now)) result }
 {
     if same(name, b"<=>") {
         return Form::One(IFF, 2);

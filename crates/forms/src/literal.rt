@@ -3,7 +3,7 @@ ghost use Rattle.std.specs.Prelude.{◌≡◌};
 ghost use Rattle.reading.specs.Number.{wide_of};
 ghost use Rattle.reading.specs.Answer.{got, and_then};
 ghost use Rattle.grammar.specs.ParseExpr.{bits_of};
-ghost use Rattle.forms.specs.FormNames.{bitsIn};
+ghost use Rattle.forms.specs.FormNames.{bits_in};
 
 use lexing::byte::begins_with;
 use lexing::number::{Mag, magnitude};
@@ -19,7 +19,7 @@ pub enum Bits {
 
 // Every byte behind `#b` is a digit.
 pub fn bits_of(name: &[u8]) -> Bits
-    ensures { bitsIn result ≡ and_then (bits_of name.now) (λ v. got (wide_of v)) }
+    ensures { bits_in result ≡ and_then (bits_of name.now) (λ v. got (wide_of v)) }
 {
     if !begins_with(b"#b", name) {
         return Bits::No;

@@ -2,7 +2,7 @@
 ghost use Rattle.std.specs.Prelude.{◌≡◌, drop};
 ghost use Rattle.reading.specs.Bytes.{lookup};
 ghost use Rattle.grammar.specs.Names.{theory};
-ghost use Rattle.forms.specs.FormNames.{theoryIn};
+ghost use Rattle.forms.specs.FormNames.{theory_in};
 
 use lexing::byte::same;
 
@@ -15,7 +15,7 @@ pub enum Theory {
 
 // The number of a theory function, by its name, in the order of the source.
 pub fn theory_number(name: &[u8]) -> Theory
-    ensures { theoryIn result ≡ lookup theory name.now }
+    ensures { theory_in result ≡ lookup theory name.now }
 {
     if same(name, b"strLen") {
         return Theory::Is(0);
@@ -49,7 +49,7 @@ pub fn theory_number(name: &[u8]) -> Theory
 
 // Behind the conversions.
 fn comparison_function(name: &[u8]) -> Theory
-    ensures { theoryIn result ≡ lookup (drop 9 theory) name.now }
+    ensures { theory_in result ≡ lookup (drop 9 theory) name.now }
 {
     if same(name, b"bvule") {
         return Theory::Is(9);
@@ -80,7 +80,7 @@ fn comparison_function(name: &[u8]) -> Theory
 
 // Behind the comparisons.
 fn division_function(name: &[u8]) -> Theory
-    ensures { theoryIn result ≡ lookup (drop 17 theory) name.now }
+    ensures { theory_in result ≡ lookup (drop 17 theory) name.now }
 {
     if same(name, b"bvudiv") {
         return Theory::Is(17);
@@ -105,7 +105,7 @@ fn division_function(name: &[u8]) -> Theory
 
 // Behind the divisions and shifts to the right.
 fn bitwise_function(name: &[u8]) -> Theory
-    ensures { theoryIn result ≡ lookup (drop 23 theory) name.now }
+    ensures { theory_in result ≡ lookup (drop 23 theory) name.now }
 {
     if same(name, b"bvand") {
         return Theory::Is(23);
@@ -139,7 +139,7 @@ fn bitwise_function(name: &[u8]) -> Theory
 
 // Behind the functions of bit vectors.
 fn set_function(name: &[u8]) -> Theory
-    ensures { theoryIn result ≡ lookup (drop 32 theory) name.now }
+    ensures { theory_in result ≡ lookup (drop 32 theory) name.now }
 {
     if same(name, b"Set_empty") {
         return Theory::Is(32);
@@ -167,7 +167,7 @@ fn set_function(name: &[u8]) -> Theory
 
 // Behind the functions of sets, and names that are no theory function.
 fn map_function(name: &[u8]) -> Theory
-    ensures { theoryIn result ≡ lookup (drop 39 theory) name.now }
+    ensures { theory_in result ≡ lookup (drop 39 theory) name.now }
 {
     if same(name, b"Map_default") {
         return Theory::Is(39);

@@ -5,8 +5,8 @@ use mathlib.Core.Bool.{Bool, true, false}
 use lib.ListN.{length}
 use mathlib.Core.List.{List, [], ◌∷◌}
 use Rattle.reading.specs.Pick.{pick}
-use Rattle.reading.specs.Bytes.{ascii, sameBytes, Maybe, nothing, just, Named, named, lookup}
-use Rattle.reading.proofs.Bytes.{same-equal}
+use Rattle.reading.specs.Bytes.{ascii, same_bytes, Maybe, nothing, just, Named, named, lookup}
+use Rattle.reading.proofs.Bytes.{same_equal}
 use Rattle.reading.specs.Answer.{Refusal, Ans, got, bad, and_then, check, Res, ok, no, chain, lifted}
 
 abbrev pub Post : {A : Type 0} → Res A → (A → ℕ → Type 0) → Type 0
@@ -17,18 +17,18 @@ abbrev pub Every : {A : Type 0} → Ans A → (A → Type 0) → Type 0
 Every (got a) Q = Q a
 Every (bad r) Q = Unit {0}
 
-pub chain-post : {A B : Type 0} (r : Res A) (f : A → ℕ → Res B) (Q : A → ℕ → Type 0) (R : B → ℕ → Type 0) → Post r Q → ((a : A) (n : ℕ) → Q a n → Post (f a n) R) → Post (chain r f) R
-chain-post (ok a n) f Q R q k = k a n q
-chain-post (no r) f Q R q k = tt
+pub chain_post : {A B : Type 0} (r : Res A) (f : A → ℕ → Res B) (Q : A → ℕ → Type 0) (R : B → ℕ → Type 0) → Post r Q → ((a : A) (n : ℕ) → Q a n → Post (f a n) R) → Post (chain r f) R
+chain_post (ok a n) f Q R q k = k a n q
+chain_post (no r) f Q R q k = tt
 
-pub lifted-post : {A B : Type 0} (x : Ans A) (n : ℕ) (f : A → ℕ → Res B) (Q : A → Type 0) (R : B → ℕ → Type 0) → Every x Q → ((a : A) → Q a → Post (f a n) R) → Post (chain (lifted x n) f) R
-lifted-post (got a) n f Q R q k = k a q
-lifted-post (bad r) n f Q R q k = tt
+pub lifted_post : {A B : Type 0} (x : Ans A) (n : ℕ) (f : A → ℕ → Res B) (Q : A → Type 0) (R : B → ℕ → Type 0) → Every x Q → ((a : A) → Q a → Post (f a n) R) → Post (chain (lifted x n) f) R
+lifted_post (got a) n f Q R q k = k a q
+lifted_post (bad r) n f Q R q k = tt
 
 -- Where nothing need be known of the value.
-pub any-post : {A B : Type 0} (x : Ans A) (n : ℕ) (f : A → ℕ → Res B) (R : B → ℕ → Type 0) → ((a : A) → Post (f a n) R) → Post (chain (lifted x n) f) R
-any-post (got a) n f R k = k a
-any-post (bad r) n f R k = tt
+pub any_post : {A B : Type 0} (x : Ans A) (n : ℕ) (f : A → ℕ → Res B) (R : B → ℕ → Type 0) → ((a : A) → Post (f a n) R) → Post (chain (lifted x n) f) R
+any_post (got a) n f R k = k a
+any_post (bad r) n f R k = tt
 
 -- An answer is known by its equation, and a test that passes by the test.
 pub known-every : {A : Type 0} (x : Ans A) → Every x (λ a. x ≡ got a)
@@ -48,9 +48,9 @@ any-every (got a) f R k = k a
 any-every (bad r) f R k = tt
 
 -- What is known may be weakened.
-pub map-post : {A : Type 0} (r : Res A) (Q R : A → ℕ → Type 0) → ((a : A) (n : ℕ) → Q a n → R a n) → Post r Q → Post r R
-map-post (ok a n) Q R f q = f a n q
-map-post (no r) Q R f q = tt
+pub map_post : {A : Type 0} (r : Res A) (Q R : A → ℕ → Type 0) → ((a : A) (n : ℕ) → Q a n → R a n) → Post r Q → Post r R
+map_post (ok a n) Q R f q = f a n q
+map_post (no r) Q R f q = tt
 
 pub both_post : {A : Type 0} (r : Res A) (Q R : A → ℕ → Type 0) → Post r Q → Post r R → Post r (λ a n. Q a n × R a n)
 both_post (ok a n) Q R q s = (q, s)
@@ -72,8 +72,8 @@ IfThere (just a) Q = Q a
 pub lookup-holds : {A : Type 0} (rows : List (Named A)) (w : List ℕ) (Q : ℕ → A → Type 0) → AllRows rows Q → IfThere (lookup rows w) (Q (length w))
 unfolding lookup pick
 lookup-holds [] w Q h = tt
-lookup-holds (named s a ∷ rows) w Q h = go (sameBytes w (ascii s)) refl (lookup-holds rows w Q h.1)
+lookup-holds (named s a ∷ rows) w Q h = go (same_bytes w (ascii s)) refl (lookup-holds rows w Q h.1)
   where
-    go : (t : Bool) → sameBytes w (ascii s) ≡ t → IfThere (lookup rows w) (Q (length w)) → IfThere (pick t (just a) (lookup rows w)) (Q (length w))
-    go true e k = rw (same-equal w (ascii s) e) h.0
+    go : (t : Bool) → same_bytes w (ascii s) ≡ t → IfThere (lookup rows w) (Q (length w)) → IfThere (pick t (just a) (lookup rows w)) (Q (length w))
+    go true e k = rw (same_equal w (ascii s) e) h.0
     go false e k = k

@@ -10,7 +10,7 @@ use borrow.Author.Tests.{eqb-true, eqb-false, eq-eqb, ne_eqb, ltb-true, ltb-fals
 use Rattle.reading.specs.Pick.{pick}
 use Rattle.grammar.specs.Item.{Item, plain, uses, binds, raise, used, bound}
 use Rattle.grammar.specs.Numbers.{hit, times, Exactly}
-use Rattle.grammar.proofs.SameNumbers.{times-append}
+use Rattle.grammar.proofs.SameNumbers.{times_append}
 
 -- The numbers from k on, so many.
 unfoldable pub up_from : ℕ → ℕ → List ℕ
@@ -50,21 +50,21 @@ up-once a (suc n) k l u = go (eqb k a) refl (λ v. up-once (suc a) n k v (omega 
     go false e h = let q : k ≡ a → ⊥ = eqb-false k a e in omega (arith, once-other k a q, h (omega arith))
 
 -- A run has each of its numbers once.
-pub exactly-up : (a n : ℕ) → Exactly a (up_from a n) (a + n)
-exactly-up a n =
+pub exactly_up : (a n : ℕ) → Exactly a (up_from a n) (a + n)
+exactly_up a n =
     record { below = λ k u. up-below a n k u; once = λ k l u. up-once a n k l u; above = λ k u. up_above a n k u; size = ap (λ m. a + m) (sym (length_up a n)) }
 
-pub exactly-none : (a : ℕ) → Exactly a [] a
+pub exactly_none : (a : ℕ) → Exactly a [] a
 unfolding times
-exactly-none a = record { below = λ k u. refl; once = λ k l u. absurd (omega arith); above = λ k u. refl; size = omega arith }
+exactly_none a = record { below = λ k u. refl; once = λ k l u. absurd (omega arith); above = λ k u. refl; size = omega arith }
 
 -- One run behind another.
-pub exactly-append : (a b d : ℕ) (l r : List ℕ) → Exactly a l b → Exactly b r d → Exactly a (l ++ r) d
-exactly-append a b d l r x y =
+pub exactly_append : (a b d : ℕ) (l r : List ℕ) → Exactly a l b → Exactly b r d → Exactly a (l ++ r) d
+exactly_append a b d l r x y =
     record {
-      below = λ k u. rw times-append (omega (arith, x.below k u, y.below k (omega (arith, x.size))));
-      once = λ k lo up. rw times-append (go k lo up (ltb k b) refl);
-      above = λ k u. rw times-append (omega (arith, y.above k u, x.above k (omega (arith, y.size))));
+      below = λ k u. rw times_append (omega (arith, x.below k u, y.below k (omega (arith, x.size))));
+      once = λ k lo up. rw times_append (go k lo up (ltb k b) refl);
+      above = λ k u. rw times_append (omega (arith, y.above k u, x.above k (omega (arith, y.size))));
       size = omega (arith, x.size, y.size, length-append l r);
     }
   where
@@ -129,8 +129,8 @@ module _ (c n : ℕ) (its : List Item) (x : Exactly 0 (bound its) n) where
       e = omega arith
 
   -- What is bound from 0 on is bound from c on where the items are raised by c.
-  pub exactly-raise : Exactly c (bound (raise c its)) (c + n)
-  exactly-raise =
+  pub exactly_raise : Exactly c (bound (raise c its)) (c + n)
+  exactly_raise =
       record {
         below = λ k u. rw (bound-raise c its) (times-plus-below c k (bound its) u);
         once = λ k lo up. above-c k lo ∙ x.once (k - c) (omega arith) (omega arith);

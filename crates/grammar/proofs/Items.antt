@@ -19,20 +19,20 @@ pub length-words : (a b : List Item) → length (words_of (a ++ b)) ≡ length (
 length-words a b = ap length (words_append a b) ∙ length-append (words_of a) (words_of b)
 
 -- The numbers that they use.
-pub used-append : (a b : List Item) → used (a ++ b) ≡ used a ++ used b
+pub used_append : (a b : List Item) → used (a ++ b) ≡ used a ++ used b
 unfolding used
-used-append [] b = refl
-used-append (plain w ∷ its) b = used-append its b
-used-append (uses k ∷ its) b = ap (λ l. k ∷ l) (used-append its b)
-used-append (binds k ∷ its) b = used-append its b
+used_append [] b = refl
+used_append (plain w ∷ its) b = used_append its b
+used_append (uses k ∷ its) b = ap (λ l. k ∷ l) (used_append its b)
+used_append (binds k ∷ its) b = used_append its b
 
 -- The numbers that they bind.
-pub bound-append : (a b : List Item) → bound (a ++ b) ≡ bound a ++ bound b
+pub bound_append : (a b : List Item) → bound (a ++ b) ≡ bound a ++ bound b
 unfolding bound
-bound-append [] b = refl
-bound-append (plain w ∷ its) b = bound-append its b
-bound-append (uses k ∷ its) b = bound-append its b
-bound-append (binds k ∷ its) b = ap (λ l. k ∷ l) (bound-append its b)
+bound_append [] b = refl
+bound_append (plain w ∷ its) b = bound_append its b
+bound_append (uses k ∷ its) b = bound_append its b
+bound_append (binds k ∷ its) b = ap (λ l. k ∷ l) (bound_append its b)
 
 -- Plain words are their own words.
 pub words-plains : (ws : List ℕ) → words_of (plains ws) ≡ ws

@@ -8,27 +8,27 @@ use native.Mathlib.Omega.{arith}
 use lib.Dec.{ltb}
 use lib.ListN.{length}
 use Rattle.reading.specs.Pick.{pick}
-use Rattle.reading.specs.Bytes.{ascii, sameBytes, Span, bytes_at, Maybe, nothing, just, lookup}
-use Rattle.reading.specs.Number.{Wide, value_of, minusOf}
+use Rattle.reading.specs.Bytes.{ascii, same_bytes, Span, bytes_at, Maybe, nothing, just, lookup}
+use Rattle.reading.specs.Number.{Wide, value_of, minus_of}
 use Rattle.reading.specs.Tree.{symbol, integer, Tree, Trees, atom, list, tnil, tcons}
 use Rattle.reading.specs.Answer.{got}
 use Rattle.reading.proofs.Picks.{pick-holds}
-use Rattle.grammar.specs.Sort.{sortWords}
+use Rattle.grammar.specs.Sort.{sort_words}
 use Rattle.grammar.specs.Item.{used}
-use Rattle.grammar.specs.Expr.{kNum, kNeg, Expr, Exprs, node, leaf, one_of, exprs, kindItems, exprItems, exprsItems, binderItems}
+use Rattle.grammar.specs.Expr.{k_num, k_neg, Expr, Exprs, node, leaf, one_of, exprs, kind_items, expr_items, exprs_items, binder_items}
 use Rattle.grammar.specs.Names.{theory}
 use Rattle.grammar.specs.Scope
 use Rattle.grammar.specs.Scope.{Scope, numbered, or_else}
 use Rattle.grammar.specs.Numbers.{In}
 use Rattle.grammar.specs.ParseExpr
-use Rattle.grammar.specs.ParseExpr.{numeral, childAt, nestedAt, letForm, atomChild}
-use Rattle.grammar.specs.Lets.{Each, namesIn, namesInAll, numbersOf, Apart, LetBinds, LetsBind}
-use Rattle.grammar.proofs.Items.{used-append, used-front}
-use Rattle.grammar.proofs.AnswerHolds.{Post, IfThere, chain-post}
+use Rattle.grammar.specs.ParseExpr.{numeral, child_at, nested_at, let_form, atom_child}
+use Rattle.grammar.specs.Lets.{Each, names_in, names_in_all, numbers_of, Apart, LetBinds, LetsBind}
+use Rattle.grammar.proofs.Items.{used_append, used-front}
+use Rattle.grammar.proofs.AnswerHolds.{Post, IfThere, chain_post}
 use Rattle.grammar.proofs.WalkKeeps.{Kept}
 use Rattle.grammar.proofs.FreshNumbers.{used-numbered}
-use Rattle.grammar.proofs.ScopeNumbers.{meant-of, apart_below, apart-name}
-use Rattle.grammar.proofs.Walk.{child-of}
+use Rattle.grammar.proofs.ScopeNumbers.{meant_of, apart_below, apart-name}
+use Rattle.grammar.proofs.Walk.{child_of}
 use Rattle.grammar.proofs.OtherRule.{let-form}
 
 -- What holds of each of two lists holds of each of both; and what follows from it.
@@ -63,11 +63,11 @@ module _ (text : List ℕ) where
   known-later sc n m l j (inl h) = inl (omega (arith, h))
   known-later sc n m l j (inr h) = inr h
 
-  among-least : (x : Span) (xs : List Span) (k : ℕ) → IfThere (Scope.numberAmong text x xs k) (λ j. k ≤ j)
-  unfolding Scope.numberAmong
+  among-least : (x : Span) (xs : List Span) (k : ℕ) → IfThere (Scope.number_among text x xs k) (λ j. k ≤ j)
+  unfolding Scope.number_among
   among-least x [] k = tt
   among-least x (y ∷ xs) k =
-      pick-holds (Scope.same_name text x y) (just k) (Scope.numberAmong text x xs (suc k)) (λ m. IfThere m (λ j. k ≤ j)) (omega arith) (later (Scope.numberAmong text x xs (suc k)) (among-least x xs (suc k)))
+      pick-holds (Scope.same_name text x y) (just k) (Scope.number_among text x xs (suc k)) (λ m. IfThere m (λ j. k ≤ j)) (omega arith) (later (Scope.number_among text x xs (suc k)) (among-least x xs (suc k)))
     where
       later : (m : Maybe ℕ) → IfThere m (λ j. suc k ≤ j) → IfThere m (λ j. k ≤ j)
       later nothing h = tt
@@ -78,25 +78,25 @@ module _ (text : List ℕ) where
   none_first nothing b e = (refl, e)
   none_first (just j) b e = (e, absurd (some-none e))
 
-  absent-round : (s : Scope) (sc : List Scope) (x : Span) → Absent (s ∷ sc) x → Absent sc x
+  absent_round : (s : Scope) (sc : List Scope) (x : Span) → Absent (s ∷ sc) x → Absent sc x
   unfolding Scope.number_in
-  absent-round s sc x h = (none_first (Scope.numberAmong text x s.names s.first) (Scope.number_in text x sc) h).1
+  absent_round s sc x h = (none_first (Scope.number_among text x s.names s.first) (Scope.number_in text x sc) h).1
 
-  means-round : (s : Scope) (sc : List Scope) (x : Span) (j : ℕ) → Scope.number_in text x (s ∷ sc) ≡ just j
-      → (s.first ≤ j) ⊎ ((Scope.numberAmong text x s.names s.first ≡ nothing) × (Scope.number_in text x sc ≡ just j))
+  means_round : (s : Scope) (sc : List Scope) (x : Span) (j : ℕ) → Scope.number_in text x (s ∷ sc) ≡ just j
+      → (s.first ≤ j) ⊎ ((Scope.number_among text x s.names s.first ≡ nothing) × (Scope.number_in text x sc ≡ just j))
   unfolding Scope.number_in
-  means-round s sc x j h = go (Scope.numberAmong text x s.names s.first) refl (among-least x s.names s.first) h
+  means_round s sc x j h = go (Scope.number_among text x s.names s.first) refl (among-least x s.names s.first) h
     where
-      go : (a : Maybe ℕ) → Scope.numberAmong text x s.names s.first ≡ a → IfThere a (λ i. s.first ≤ i) → or_else a (Scope.number_in text x sc) ≡ just j
-          → (s.first ≤ j) ⊎ ((Scope.numberAmong text x s.names s.first ≡ nothing) × (Scope.number_in text x sc ≡ just j))
+      go : (a : Maybe ℕ) → Scope.number_among text x s.names s.first ≡ a → IfThere a (λ i. s.first ≤ i) → or_else a (Scope.number_in text x sc) ≡ just j
+          → (s.first ≤ j) ⊎ ((Scope.number_among text x s.names s.first ≡ nothing) × (Scope.number_in text x sc ≡ just j))
       go nothing q l e = inr (q, e)
       go (just i) q l e = let z : i ≡ j = cc in inl (omega (arith, l))
 
-  known-round : (s : Scope) (sc : List Scope) (n m : ℕ) → n ≤ s.first → n ≤ m → (j : ℕ) → Known (s ∷ sc) m j → Known sc n j
-  known-round s sc n m l k j (inl h) = inl (omega (arith, h))
-  known-round s sc n m l k j (inr h) = go (means-round s sc h.name j h.means)
+  known_round : (s : Scope) (sc : List Scope) (n m : ℕ) → n ≤ s.first → n ≤ m → (j : ℕ) → Known (s ∷ sc) m j → Known sc n j
+  known_round s sc n m l k j (inl h) = inl (omega (arith, h))
+  known_round s sc n m l k j (inr h) = go (means_round s sc h.name j h.means)
     where
-      go : (s.first ≤ j) ⊎ ((Scope.numberAmong text h.name s.names s.first ≡ nothing) × (Scope.number_in text h.name sc ≡ just j)) → Known sc n j
+      go : (s.first ≤ j) ⊎ ((Scope.number_among text h.name s.names s.first ≡ nothing) × (Scope.number_in text h.name sc ≡ just j)) → Known sc n j
       go (inl f) = inl (omega (arith, f))
       go (inr f) = inr (record { name = h.name; means = f.1 })
 
@@ -108,10 +108,10 @@ module _ (text : List ℕ) where
     known : Each (Known sc n) numbers
 
   abbrev Inv : Tree → List Scope → ℕ → Expr → ℕ → Type 0
-  Inv t sc n e m = Reads sc n (namesIn e) (used (exprItems e)) m
+  Inv t sc n e m = Reads sc n (names_in e) (used (expr_items e)) m
 
   abbrev InvAll : Trees → List Scope → ℕ → Exprs → ℕ → Type 0
-  InvAll ts sc n es m = Reads sc n (namesInAll es) (used (exprsItems es)) m
+  InvAll ts sc n es m = Reads sc n (names_in_all es) (used (exprs_items es)) m
 
   nothing_read : (sc : List Scope) (n : ℕ) → Reads sc n [] [] n
   nothing_read sc n = record { rises = omega arith; absent = tt; known = tt }
@@ -128,56 +128,56 @@ module _ (text : List ℕ) where
   inside-read s sc n m p a i l k h =
       record {
         rises = omega (arith, h.rises);
-        absent = each_map (Absent (s ∷ sc)) (Absent sc) a (absent-round s sc) h.absent;
-        known = each_map (Known (s ∷ sc) m) (Known sc n) i (known-round s sc n m l k) h.known;
+        absent = each_map (Absent (s ∷ sc)) (Absent sc) a (absent_round s sc) h.absent;
+        known = each_map (Known (s ∷ sc) m) (Known sc n) i (known_round s sc n m l k) h.known;
       }
 
   -- One expression among several.
-  lone-read : (sc : List Scope) (n m : ℕ) (e : Expr) → Reads sc n (namesInAll (one_of e)) (used (exprsItems (one_of e))) m → Reads sc n (namesIn e) (used (exprItems e)) m
-  unfolding namesInAll exprsItems
-  lone-read sc n m e h =
-      subst (λ (a : List Span). Reads sc n a (used (exprItems e)) m) (append-nil (namesIn e))
-      (subst (λ (l : List ℕ). Reads sc n (namesIn e ++ []) l m) (ap used (append-nil (exprItems e))) h)
+  lone_read : (sc : List Scope) (n m : ℕ) (e : Expr) → Reads sc n (names_in_all (one_of e)) (used (exprs_items (one_of e))) m → Reads sc n (names_in e) (used (expr_items e)) m
+  unfolding names_in_all exprs_items
+  lone_read sc n m e h =
+      subst (λ (a : List Span). Reads sc n a (used (expr_items e)) m) (append-nil (names_in e))
+      (subst (λ (l : List ℕ). Reads sc n (names_in e ++ []) l m) (ap used (append-nil (expr_items e))) h)
 
-  on-symbol : (s : Span) (sc : List Scope) (n : ℕ) → Inv (atom (symbol s)) sc n (Scope.symbolExpr text s sc) n
-  unfolding Scope.symbolExpr namesIn exprItems kindItems used exprs
+  on-symbol : (s : Span) (sc : List Scope) (n : ℕ) → Inv (atom (symbol s)) sc n (Scope.symbol_expr text s sc) n
+  unfolding Scope.symbol_expr names_in expr_items kind_items used exprs
   on-symbol s sc n = go (lookup theory (bytes_at text s))
     where
-      named-or : (m : Maybe ℕ) → Scope.number_in text s sc ≡ m → Inv (atom (symbol s)) sc n (Scope.orNamed text s m) n
-      named-or nothing e = record { rises = omega arith; absent = (e, tt); known = tt }
-      named-or (just j) e = record { rises = omega arith; absent = tt; known = (inr (record { name = s; means = e }), tt) }
+      named_or : (m : Maybe ℕ) → Scope.number_in text s sc ≡ m → Inv (atom (symbol s)) sc n (Scope.or_named text s m) n
+      named_or nothing e = record { rises = omega arith; absent = (e, tt); known = tt }
+      named_or (just j) e = record { rises = omega arith; absent = tt; known = (inr (record { name = s; means = e }), tt) }
 
-      go : (m : Maybe ℕ) → Inv (atom (symbol s)) sc n (Scope.orVariable text s sc m) n
+      go : (m : Maybe ℕ) → Inv (atom (symbol s)) sc n (Scope.or_variable text s sc m) n
       go (just k) = nothing_read sc n
-      go nothing = named-or (Scope.number_in text s sc) refl
+      go nothing = named_or (Scope.number_in text s sc) refl
 
   on-integer : (w : Wide) (sc : List Scope) (n : ℕ) → Inv (atom (integer w)) sc n (numeral w) n
-  unfolding numeral namesIn exprItems kindItems used exprs
+  unfolding numeral names_in expr_items kind_items used exprs
   on-integer w sc n =
-      pick-holds (ltb (value_of w) (2 ^ 127)) (leaf (kNum w)) (node kNeg (one_of (leaf (kNum (minusOf w))))) (λ e. Inv (atom (integer w)) sc n e n) (nothing_read sc n) (nothing_read sc n)
+      pick-holds (ltb (value_of w) (2 ^ 127)) (leaf (k_num w)) (node k_neg (one_of (leaf (k_num (minus_of w))))) (λ e. Inv (atom (integer w)) sc n e n) (nothing_read sc n) (nothing_read sc n)
 
-  read-so : Kept text Inv InvAll
-  unfolding namesIn exprItems kindItems used exprs
-  read-so =
+  read_so : Kept text Inv InvAll
+  unfolding names_in expr_items kind_items used exprs
+  read_so =
       record {
-        onSymbol = on-symbol;
-        onQuoted = λ s sc n. nothing_read sc n;
-        onInteger = on-integer;
-        onBoolean = λ b sc n. nothing_read sc n;
+        on_symbol = on-symbol;
+        on_quoted = λ s sc n. nothing_read sc n;
+        on_integer = on-integer;
+        on_boolean = λ b sc n. nothing_read sc n;
         none = λ ts sc n. nothing_read sc n;
-        more = λ t ts sc n m p e es h k. rw (used-append (exprItems e) (exprsItems es)) (both_read sc n m p (namesIn e) (namesInAll es) (used (exprItems e)) (used (exprsItems es)) h k);
+        more = λ t ts sc n m p e es h k. rw (used_append (expr_items e) (exprs_items es)) (both_read sc n m p (names_in e) (names_in_all es) (used (expr_items e)) (used (exprs_items es)) h k);
         skip = λ t ts sc n m es h. h;
-        item = λ ts sc n m e h. lone-read sc n m e h;
-        onNode = λ ts sc n m k es p a h. rw (p.named, used-append (kindItems k (exprs es)) (exprsItems es), p.uses (exprs es)) h;
-        onCall = λ t ts sc n m p es h x y. rw (used-append (exprsItems es) (exprItems h)) (both_read sc n m p (namesInAll es) (namesIn h) (used (exprsItems es)) (used (exprItems h)) x y);
-        onAs = λ t ts sc n m o e s h. rw (used-front (sortWords o) (exprItems e)) (lone-read sc n m e h);
-        onExists = λ s v ts sc n m names sorts e b h.
-            rw (used-append (binderItems (numbered n sorts)) (exprsItems (one_of e)), used-numbered n sorts)
-            (inside-read (record { names = names; first = n }) sc n (n + length sorts) m (namesInAll (one_of e)) (used (exprsItems (one_of e))) (omega arith) (omega arith) h);
-        onLet = λ s u ts sc n m p x v b l g h.
-            rw (used-append (exprItems v) (exprsItems (one_of b)))
-            (both_read sc n m p (namesIn v) (namesInAll (one_of b)) (used (exprItems v)) (used (exprsItems (one_of b))) g
-            (inside-read (record { names = x ∷ []; first = m }) sc m (m + 1) p (namesInAll (one_of b)) (used (exprsItems (one_of b))) (omega arith) (omega arith) h));
+        item = λ ts sc n m e h. lone_read sc n m e h;
+        on_node = λ ts sc n m k es p a h. rw (p.named, used_append (kind_items k (exprs es)) (exprs_items es), p.uses (exprs es)) h;
+        on_call = λ t ts sc n m p es h x y. rw (used_append (exprs_items es) (expr_items h)) (both_read sc n m p (names_in_all es) (names_in h) (used (exprs_items es)) (used (expr_items h)) x y);
+        on_as = λ t ts sc n m o e s h. rw (used-front (sort_words o) (expr_items e)) (lone_read sc n m e h);
+        on_exists = λ s v ts sc n m names sorts e b h.
+            rw (used_append (binder_items (numbered n sorts)) (exprs_items (one_of e)), used-numbered n sorts)
+            (inside-read (record { names = names; first = n }) sc n (n + length sorts) m (names_in_all (one_of e)) (used (exprs_items (one_of e))) (omega arith) (omega arith) h);
+        on_let = λ s u ts sc n m p x v b l g h.
+            rw (used_append (expr_items v) (exprs_items (one_of b)))
+            (both_read sc n m p (names_in v) (names_in_all (one_of b)) (used (expr_items v)) (used (exprs_items (one_of b))) g
+            (inside-read (record { names = x ∷ []; first = m }) sc m (m + 1) p (names_in_all (one_of b)) (used (exprs_items (one_of b))) (omega arith) (omega arith) h));
       }
 
   -- ---- the body of a let
@@ -186,8 +186,8 @@ module _ (text : List ℕ) where
     abbrev within : List Scope
     within = record { names = s ∷ []; first = k } ∷ sc
 
-    other_name : (x : Span) → Scope.numberAmong text x (s ∷ []) k ≡ nothing → Scope.same_name text x s ≡ false
-    unfolding Scope.numberAmong pick
+    other_name : (x : Span) → Scope.number_among text x (s ∷ []) k ≡ nothing → Scope.same_name text x s ≡ false
+    unfolding Scope.number_among pick
     other_name x e = go (Scope.same_name text x s) e
       where
         go : (b : Bool) → pick b (just k) nothing ≡ nothing → b ≡ false
@@ -196,39 +196,39 @@ module _ (text : List ℕ) where
 
     absent-other : (x : Span) → Absent within x → Scope.same_name text x s ≡ false
     unfolding Scope.number_in
-    absent-other x e = other_name x (none_first (Scope.numberAmong text x (s ∷ []) k) (Scope.number_in text x sc) e).0
+    absent-other x e = other_name x (none_first (Scope.number_among text x (s ∷ []) k) (Scope.number_in text x sc) e).0
 
-    known-own : (j : ℕ) → Known within (k + 1) j → In j (numbersOf text s sc) → ⊥
+    known-own : (j : ℕ) → Known within (k + 1) j → In j (numbers_of text s sc) → ⊥
     known-own j (inl h) i = omega (arith, h, apart_below text s sc n j a i)
-    known-own j (inr h) i = go (means-round (record { names = s ∷ []; first = k }) sc h.name j h.means)
+    known-own j (inr h) i = go (means_round (record { names = s ∷ []; first = k }) sc h.name j h.means)
       where
-        go : (k ≤ j) ⊎ ((Scope.numberAmong text h.name (s ∷ []) k ≡ nothing) × (Scope.number_in text h.name sc ≡ just j)) → ⊥
+        go : (k ≤ j) ⊎ ((Scope.number_among text h.name (s ∷ []) k ≡ nothing) × (Scope.number_in text h.name sc ≡ just j)) → ⊥
         go (inl f) = omega (arith, f, apart_below text s sc n j a i)
         go (inr f) =
-            false≢true (sym (other_name h.name f.0) ∙ apart-name text s h.name sc n j a i (subst (λ m. IfThere m (λ z. In z (numbersOf text h.name sc))) f.1 (meant-of text h.name sc)))
+            false≢true (sym (other_name h.name f.0) ∙ apart-name text s h.name sc n j a i (subst (λ m. IfThere m (λ z. In z (numbers_of text h.name sc))) f.1 (meant_of text h.name sc)))
 
-  let-post : (s : Span) (t u : Tree) (us : Trees) (sc : List Scope) (n : ℕ) → (ParseExpr.child text u).letName ≡ got s → Apart sc n
-      → Post (letForm (ParseExpr.children text (tcons t (tcons u us))) sc n) (λ e m. LetBinds text s sc e)
-  unfolding letForm childAt nestedAt ParseExpr.child
-  let-post s t u tnil sc n e a = rw e (chain-post ((ParseExpr.child text u).letValue sc n) _ (Inv u sc n) _ ((child-of text Inv InvAll read-so u).letValue sc n) λ v m p. tt)
+  let-post : (s : Span) (t u : Tree) (us : Trees) (sc : List Scope) (n : ℕ) → (ParseExpr.child text u).let_name ≡ got s → Apart sc n
+      → Post (let_form (ParseExpr.children text (tcons t (tcons u us))) sc n) (λ e m. LetBinds text s sc e)
+  unfolding let_form child_at nested_at ParseExpr.child
+  let-post s t u tnil sc n e a = rw e (chain_post ((ParseExpr.child text u).let_value sc n) _ (Inv u sc n) _ ((child_of text Inv InvAll read_so u).let_value sc n) λ v m p. tt)
   let-post s t u (tcons b us) sc n e a =
       rw e
-      (chain-post ((ParseExpr.child text u).letValue sc n) _ (Inv u sc n) _ ((child-of text Inv InvAll read-so u).letValue sc n) λ v m p.
-      chain-post ((ParseExpr.child text b).nested (record { names = s ∷ []; first = m } ∷ sc) (m + 1)) _ (Inv b (record { names = s ∷ []; first = m } ∷ sc) (m + 1)) _ ((child-of text Inv InvAll read-so b).nested (record { names = s ∷ []; first = m } ∷ sc) (m + 1)) λ w q r.
+      (chain_post ((ParseExpr.child text u).let_value sc n) _ (Inv u sc n) _ ((child_of text Inv InvAll read_so u).let_value sc n) λ v m p.
+      chain_post ((ParseExpr.child text b).nested (record { names = s ∷ []; first = m } ∷ sc) (m + 1)) _ (Inv b (record { names = s ∷ []; first = m } ∷ sc) (m + 1)) _ ((child_of text Inv InvAll read_so b).nested (record { names = s ∷ []; first = m } ∷ sc) (m + 1)) λ w q r.
       record {
         number = m;
         value = v;
         body = w;
         is = refl;
-        unnamed = each_map (Absent (record { names = s ∷ []; first = m } ∷ sc)) (λ x. Scope.same_name text x s ≡ false) (namesIn w) (absent-other s sc n m a p.rises) r.absent;
-        own = each_map (Known (record { names = s ∷ []; first = m } ∷ sc) (m + 1)) (λ j. In j (numbersOf text s sc) → ⊥) (used (exprItems w)) (known-own s sc n m a p.rises) r.known;
+        unnamed = each_map (Absent (record { names = s ∷ []; first = m } ∷ sc)) (λ x. Scope.same_name text x s ≡ false) (names_in w) (absent-other s sc n m a p.rises) r.absent;
+        own = each_map (Known (record { names = s ∷ []; first = m } ∷ sc) (m + 1)) (λ j. In j (numbers_of text s sc) → ⊥) (used (expr_items w)) (known-own s sc n m a p.rises) r.known;
       })
 
   -- A list that begins with `let` is read as a let.
-  let-read : (t : Span) (us : Trees) (sc : List Scope) (n : ℕ) → sameBytes (bytes_at text t) (ascii "let") ≡ true
-      → (ParseExpr.child text (list (tcons (atom (symbol t)) us))).plainly sc n ≡ letForm (ParseExpr.children text (tcons (atom (symbol t)) us)) sc n
-  unfolding ParseExpr.child ParseExpr.listChild ParseExpr.listExpr ParseExpr.headed ParseExpr.atomHeaded ParseExpr.form_of ParseExpr.parseForm childAt atomChild
-  let-read t us sc n e = ap (λ f. ParseExpr.parseForm text f t (ParseExpr.children text (tcons (atom (symbol t)) us)) sc n) (sym (let-form (bytes_at text t) e))
+  let-read : (t : Span) (us : Trees) (sc : List Scope) (n : ℕ) → same_bytes (bytes_at text t) (ascii "let") ≡ true
+      → (ParseExpr.child text (list (tcons (atom (symbol t)) us))).plainly sc n ≡ let_form (ParseExpr.children text (tcons (atom (symbol t)) us)) sc n
+  unfolding ParseExpr.child ParseExpr.list_child ParseExpr.list_expr ParseExpr.headed ParseExpr.atom_headed ParseExpr.form_of ParseExpr.parse_form child_at atom_child
+  let-read t us sc n e = ap (λ f. ParseExpr.parse_form text f t (ParseExpr.children text (tcons (atom (symbol t)) us)) sc n) (sym (let-form (bytes_at text t) e))
 
 -- Every let binds its name.
 pub lets-bind : LetsBind

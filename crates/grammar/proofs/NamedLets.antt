@@ -2,10 +2,10 @@
 use Prim.Native.Nat.{ℕ}
 use mathlib.Core.List.{List}
 use Rattle.reading.specs.Tree.{Tree}
-use Rattle.grammar.specs.ParseSolution.{parseSolution}
+use Rattle.grammar.specs.ParseSolution.{parse_solution}
 use Rattle.grammar.specs.Lets.{NoNamedLet, NoNamedLets, NoNamedLetRead}
 use Rattle.grammar.proofs.AnswerHolds.{Post}
-use Rattle.grammar.proofs.ReadSo.{KindsMade, solution-post, expr-so, bind-so, solution-so}
+use Rattle.grammar.proofs.ReadSo.{KindsMade, solution_post, expr_so, bind_so, solution_so}
 
 none : KindsMade NoNamedLet
 none =
@@ -23,14 +23,14 @@ none =
     }
 
 module _ (text : List ℕ) where
-  pub solution-unnamed : (t : Tree) (n : ℕ) → Post (parseSolution text t n) (λ s m. NoNamedLets s.body)
-  solution-unnamed t n = solution-post text NoNamedLet none t n
+  pub solution-unnamed : (t : Tree) (n : ℕ) → Post (parse_solution text t n) (λ s m. NoNamedLets s.body)
+  solution-unnamed t n = solution_post text NoNamedLet none t n
 
   -- Expressions, binds and solutions.
   pub no-named-let-read : (t : Tree) → NoNamedLetRead text t
   no-named-let-read t =
       record {
-        ofExpr = λ n m e q. expr-so text NoNamedLet none t n m e q;
-        ofBind = λ n m b q. bind-so text NoNamedLet none t n m b q;
-        ofSolution = λ n m s q. solution-so text NoNamedLet none t n m s q;
+        of_expr = λ n m e q. expr_so text NoNamedLet none t n m e q;
+        of_bind = λ n m b q. bind_so text NoNamedLet none t n m b q;
+        of_solution = λ n m s q. solution_so text NoNamedLet none t n m s q;
       }

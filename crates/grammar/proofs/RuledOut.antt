@@ -8,58 +8,58 @@ use native.Mathlib.Omega.{arith}
 use lib.Dec.{ltb}
 use lib.ListN.{length, drop, get_or}
 use borrow.Author.Tests.{eq-eqb, ltb-true, ltb-false}
-use Rattle.reading.specs.Limits.{maxNumber}
+use Rattle.reading.specs.Limits.{max_number}
 use Rattle.reading.specs.Pick.{pick}
-use Rattle.reading.specs.Bytes.{sameBytes, Span, bytes_at}
+use Rattle.reading.specs.Bytes.{same_bytes, Span, bytes_at}
 use Rattle.reading.specs.Number.{wide_of, value_of}
-use Rattle.grammar.specs.Sort.{s_int, sortWords}
+use Rattle.grammar.specs.Sort.{s_int, sort_words}
 use Rattle.grammar.specs.Item.{Item, plain, uses, binds, raise, words_of, used, bound}
-use Rattle.grammar.specs.Expr.{VarName, Expr, leaf, node, one_of, econs, exprs, Binder, binderItems, kindItems, exprItems, kFresh, kNamed, kBool, kBitVec, kAnd, kLet, kExists, kLetFresh}
-use Rattle.grammar.specs.Scope.{Scope, varOf, same_name}
+use Rattle.grammar.specs.Expr.{VarName, Expr, leaf, node, one_of, econs, exprs, Binder, binder_items, kind_items, expr_items, k_fresh, k_named, k_bool, k_bit_vec, k_and, k_let, k_exists, k_let_fresh}
+use Rattle.grammar.specs.Scope.{Scope, var_of, same_name}
 use Rattle.grammar.specs.Numbers.{In, hit, times, Exactly}
 use Rattle.grammar.specs.Scoped.{Scoped, ScopedSolution}
 use Rattle.grammar.specs.Literals.{LiteralsFit}
-use Rattle.grammar.specs.Lets.{Each, namesIn, numbersAmong, numbersOf, LetBinds, NoNamedLets}
+use Rattle.grammar.specs.Lets.{Each, names_in, numbers_among, numbers_of, LetBinds, NoNamedLets}
 
 -- The variable with a fresh number, and an exists that binds one number.
 abbrev variable : ℕ → Expr
-variable k = leaf (kFresh k)
+variable k = leaf (k_fresh k)
 
 abbrev binder : ℕ → Binder
 binder k = record { var = k; sort = s_int }
 
 abbrev exists1 : ℕ → Expr → Expr
-exists1 k e = node (kExists (binder k ∷ [])) (one_of e)
+exists1 k e = node (k_exists (binder k ∷ [])) (one_of e)
 
 -- A fresh variable that nothing binds is not scoped.
 pub unbound-variable : (k c : ℕ) → Scoped (variable k) c [] → ⊥
-unfolding kindItems raise used
+unfolding kind_items raise used
 unbound-variable k c h = h.0.0
 
 -- Nor is one under an exists that binds another number, or beside the exists that binds it.
-pub bound-by-another : (c : ℕ) → Scoped (exists1 1 (variable 0)) c [] → ⊥
-unfolding kindItems binderItems sortWords exprs raise used bound
-bound-by-another c h = ⊎_elim (λ (e : _). omega arith) (λ e. e) h.1.0.0.0
+pub bound_by_another : (c : ℕ) → Scoped (exists1 1 (variable 0)) c [] → ⊥
+unfolding kind_items binder_items sort_words exprs raise used bound
+bound_by_another c h = ⊎_elim (λ (e : _). omega arith) (λ e. e) h.1.0.0.0
 
-pub bound-beside : (c : ℕ) → Scoped (node kAnd (econs (exists1 0 (leaf (kBool true))) (one_of (variable 0)))) c [] → ⊥
-unfolding kindItems exprs raise used bound
-bound-beside c h = h.1.1.0.0.0
+pub bound_beside : (c : ℕ) → Scoped (node k_and (econs (exists1 0 (leaf (k_bool true))) (one_of (variable 0)))) c [] → ⊥
+unfolding kind_items exprs raise used bound
+bound_beside c h = h.1.1.0.0.0
 
 -- A let encloses its body, and neither its binding nor what stands beside it.
 abbrev let1 : ℕ → Expr → Expr → Expr
-let1 k v b = node (kLetFresh k) (econs v (one_of b))
+let1 k v b = node (k_let_fresh k) (econs v (one_of b))
 
-pub let-in-body : (c : ℕ) → Scoped (let1 0 (leaf (kBool true)) (variable 0)) c []
-unfolding kindItems exprs raise used bound
-let-in-body c = (tt, ((tt, tt), (((inl refl, tt), tt), tt)))
+pub let_in_body : (c : ℕ) → Scoped (let1 0 (leaf (k_bool true)) (variable 0)) c []
+unfolding kind_items exprs raise used bound
+let_in_body c = (tt, ((tt, tt), (((inl refl, tt), tt), tt)))
 
-pub let-in-binding : (c : ℕ) → Scoped (let1 0 (variable 0) (leaf (kBool true))) c [] → ⊥
-unfolding kindItems exprs raise used bound
-let-in-binding c h = h.1.0.0.0
+pub let_in_binding : (c : ℕ) → Scoped (let1 0 (variable 0) (leaf (k_bool true))) c [] → ⊥
+unfolding kind_items exprs raise used bound
+let_in_binding c h = h.1.0.0.0
 
-pub let-beside : (c : ℕ) → Scoped (node kAnd (econs (let1 0 (leaf (kBool true)) (variable 0)) (one_of (variable 0)))) c [] → ⊥
-unfolding kindItems exprs raise used bound
-let-beside c h = h.1.1.0.0.0
+pub let_beside : (c : ℕ) → Scoped (node k_and (econs (let1 0 (leaf (k_bool true)) (variable 0)) (one_of (variable 0)))) c [] → ⊥
+unfolding kind_items exprs raise used bound
+let_beside c h = h.1.1.0.0.0
 
 -- In a let of a name under a parameter of the same name, the body uses neither the name nor the parameter's number.
 abbrev x₁ : Span
@@ -68,28 +68,28 @@ x₁ = record { start = 0; len = 1 }
 abbrev parameter : List Scope
 parameter = record { names = x₁ ∷ []; first = 0 } ∷ []
 
-abbrev textX : List ℕ
-textX = 120 ∷ []
+abbrev text_x : List ℕ
+text_x = 120 ∷ []
 
-pub let-of-a-name : (v : Expr) → LetBinds textX x₁ parameter (let1 1 v (leaf (kNamed (varOf x₁)))) → ⊥
-unfolding namesIn same_name sameBytes bytes_at pick
-let-of-a-name v h =
-    let e : h.body ≡ leaf (kNamed (varOf x₁)) = cc in
-    false≢true (sym (subst (λ b. Each (λ x. same_name textX x x₁ ≡ false) (namesIn b)) e h.unnamed).0 ∙ refl)
+pub let_of_a_name : (v : Expr) → LetBinds text_x x₁ parameter (let1 1 v (leaf (k_named (var_of x₁)))) → ⊥
+unfolding names_in same_name same_bytes bytes_at pick
+let_of_a_name v h =
+    let e : h.body ≡ leaf (k_named (var_of x₁)) = cc in
+    false≢true (sym (subst (λ b. Each (λ x. same_name text_x x x₁ ≡ false) (names_in b)) e h.unnamed).0 ∙ refl)
 
-pub let-of-the-parameter : (v : Expr) → LetBinds textX x₁ parameter (let1 1 v (variable 0)) → ⊥
-unfolding same_name sameBytes bytes_at numbersOf numbersAmong pick exprItems kindItems exprs used
-let-of-the-parameter v h =
+pub let_of_the_parameter : (v : Expr) → LetBinds text_x x₁ parameter (let1 1 v (variable 0)) → ⊥
+unfolding same_name same_bytes bytes_at numbers_of numbers_among pick expr_items kind_items exprs used
+let_of_the_parameter v h =
     let e : h.body ≡ variable 0 = cc in
-    (subst (λ b. Each (λ j. In j (numbersOf textX x₁ parameter) → ⊥) (used (exprItems b))) e h.own).0 (inl refl)
+    (subst (λ b. Each (λ j. In j (numbers_of text_x x₁ parameter) → ⊥) (used (expr_items b))) e h.own).0 (inl refl)
 
 -- A let of a name is none that is read.
-pub named-let : (x : VarName) (v b : Expr) → NoNamedLets (node kAnd (one_of (node (kLet x) (econs v (one_of b))))) → ⊥
+pub named-let : (x : VarName) (v b : Expr) → NoNamedLets (node k_and (one_of (node (k_let x) (econs v (one_of b))))) → ⊥
 named-let x v b h = h.1.0.0
 
 -- Nor a solution whose expression uses a number that no parameter binds.
 pub no-parameter : (c : ℕ) → ScopedSolution c (record { params = []; body = variable 0 }) → ⊥
-unfolding kindItems binderItems raise used bound
+unfolding kind_items binder_items raise used bound
 no-parameter c h = h.0.0
 
 -- A number stands once in front of a list that begins with it.
@@ -98,9 +98,9 @@ unfolding pick
 once k = rw (eq-eqb k k refl) refl
 
 -- A list with a number twice is not exact, from where to where it may be.
-pub bound-twice : (a b k : ℕ) (l : List ℕ) → Exactly a (k ∷ k ∷ l) b → ⊥
+pub bound_twice : (a b k : ℕ) (l : List ℕ) → Exactly a (k ∷ k ∷ l) b → ⊥
 unfolding times
-bound-twice a b k l e = go (ltb k a) refl (ltb k b) refl
+bound_twice a b k l e = go (ltb k a) refl (ltb k b) refl
   where
     go : (s : Bool) → ltb k a ≡ s → (t : Bool) → ltb k b ≡ t → ⊥
     go true p t q = omega (arith, once k, e.below k (ltb-true k a p))
@@ -120,7 +120,7 @@ pub too_few : Exactly 0 (0 ∷ []) 2 → ⊥
 too_few e = omega (arith, e.size)
 
 -- Items whose numbers stay below n, and whose words are the same where their numbers are raised by c, bind none.
-pub unraised : (c n : ℕ) → 0 < c → c + n ≤ maxNumber → (its : List Item) → ((k : ℕ) → n ≤ k → times k (bound its) ≡ 0) → words_of (raise c its) ≡ words_of its → length (bound its) ≡ 0
+pub unraised : (c n : ℕ) → 0 < c → c + n ≤ max_number → (its : List Item) → ((k : ℕ) → n ≤ k → times k (bound its) ≡ 0) → words_of (raise c its) ≡ words_of its → length (bound its) ≡ 0
 unfolding raise words_of bound times pick
 unraised c n h l [] a e = refl
 unraised c n h l (plain w ∷ its) a e = unraised c n h l its a (ap (drop 1) e)
@@ -136,9 +136,9 @@ unraised c n h l (binds k ∷ its) a e = absurd (go (ltb k n) refl)
     go false q = omega (arith, once k, a k (ltb-false k n q))
 
 -- The literal 4 of two digits does not fit, wherever it stands, nor one without digits.
-pub too_large : LiteralsFit (node kAnd (one_of (leaf (kBitVec (wide_of 4) 2)))) → ⊥
+pub too_large : LiteralsFit (node k_and (one_of (leaf (k_bit_vec (wide_of 4) 2)))) → ⊥
 unfolding wide_of value_of
 too_large h = omega (arith, h.1.0.0.1)
 
-pub no-digits : LiteralsFit (leaf (kBitVec (wide_of 0) 0)) → ⊥
+pub no-digits : LiteralsFit (leaf (k_bit_vec (wide_of 0) 0)) → ⊥
 no-digits h = omega (arith, h.0.0)

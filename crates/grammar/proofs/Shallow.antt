@@ -10,16 +10,16 @@ use lib.ListN.{length}
 use borrow.Author.Tests.{ltb-true}
 use Rattle.reading.specs.Pick.{pick}
 use Rattle.reading.specs.Bytes.{Span, bytes_at, Maybe, nothing, just, Named, named, lookup}
-use Rattle.reading.specs.Number.{Wide, value_of, minusOf}
+use Rattle.reading.specs.Number.{Wide, value_of, minus_of}
 use Rattle.reading.specs.Tree.{symbol, quoted, integer, boolean, Tree, Trees, atom, list, tcons, nesting, nestings, Within, AllWithin}
 use Rattle.reading.proofs.Picks.{pick-holds}
 use Rattle.grammar.specs.Sort.{Sort}
-use Rattle.grammar.specs.Expr.{Binder, Kind, kNum, kBool, kStr, kBitVec, kFresh, kNamed, kNeg, kBin, kIf, kAnd, kOr, kNot, kImp, kIff, kAtom, kLet, kTheory, kIsCtor, kExists, kLetFresh, outside, Expr, Exprs, node, app, leaf, one_of, enil, econs, exprs}
+use Rattle.grammar.specs.Expr.{Binder, Kind, k_num, k_bool, k_str, k_bit_vec, k_fresh, k_named, k_neg, k_bin, k_if, k_and, k_or, k_not, k_imp, k_iff, k_atom, k_let, k_theory, k_is_ctor, k_exists, k_let_fresh, outside, Expr, Exprs, node, app, leaf, one_of, enil, econs, exprs}
 use Rattle.grammar.specs.Names.{theory}
 use Rattle.grammar.specs.Scope
 use Rattle.grammar.specs.Scope.{Scope, numbered, or_else}
 use Rattle.grammar.specs.ParseExpr.{numeral}
-use Rattle.grammar.specs.Shape.{BindersCoded, KindCoded, Coded, CodedAll, depth, depths, opensScope, scopes, scopesIn, scopesAll}
+use Rattle.grammar.specs.Shape.{BindersCoded, KindCoded, Coded, CodedAll, depth, depths, opens_scope, scopes, scopes_in, scopes_all}
 use Rattle.grammar.proofs.AnswerHolds.{AllRows, IfThere, lookup-holds}
 use Rattle.grammar.proofs.WalkKeeps.{BindersOf, Kept}
 
@@ -37,7 +37,7 @@ pub record Small (t : Tree) (sc : List Scope) (n : ℕ) (e : Expr) (m : ℕ) : T
 pub record SmallAll (ts : Trees) (sc : List Scope) (n : ℕ) (es : Exprs) (m : ℕ) : Type 0 where
   pub rises : n ≤ m
   pub deep : depths es ≤ nestings ts + 2
-  pub opens : scopesAll es ≤ nestings ts - 1
+  pub opens : scopes_all es ≤ nestings ts - 1
   pub coded : (limit : ℕ) → AllWithin ts limit → ScopesBelow sc n → CodedAll es limit m
 
 scopes-more : (sc : List Scope) (n m : ℕ) → n ≤ m → ScopesBelow sc n → ScopesBelow sc m
@@ -50,26 +50,26 @@ binders-more [] limit n m l h = tt
 binders-more (b ∷ bs) limit n m l h = (omega (arith, h.0), h.1, binders-more bs limit n m l h.2)
 
 kind-more : (k : Kind) (limit n m : ℕ) → n ≤ m → KindCoded k limit n → KindCoded k limit m
-kind-more (kNum v) limit n m l h = tt
-kind-more (kBool b) limit n m l h = tt
-kind-more (kStr s) limit n m l h = h
-kind-more (kBitVec v width) limit n m l h = tt
-kind-more (kFresh k) limit n m l h = omega arith
-kind-more (kNamed x) limit n m l h = h
-kind-more kNeg limit n m l h = tt
-kind-more (kBin op) limit n m l h = tt
-kind-more kIf limit n m l h = tt
-kind-more kAnd limit n m l h = tt
-kind-more kOr limit n m l h = tt
-kind-more kNot limit n m l h = tt
-kind-more kImp limit n m l h = tt
-kind-more kIff limit n m l h = tt
-kind-more (kAtom r) limit n m l h = tt
-kind-more (kLet x) limit n m l h = h
-kind-more (kTheory k) limit n m l h = h
-kind-more (kIsCtor x) limit n m l h = h
-kind-more (kExists bs) limit n m l h = binders-more bs limit n m l h
-kind-more (kLetFresh k) limit n m l h = omega arith
+kind-more (k_num v) limit n m l h = tt
+kind-more (k_bool b) limit n m l h = tt
+kind-more (k_str s) limit n m l h = h
+kind-more (k_bit_vec v width) limit n m l h = tt
+kind-more (k_fresh k) limit n m l h = omega arith
+kind-more (k_named x) limit n m l h = h
+kind-more k_neg limit n m l h = tt
+kind-more (k_bin op) limit n m l h = tt
+kind-more k_if limit n m l h = tt
+kind-more k_and limit n m l h = tt
+kind-more k_or limit n m l h = tt
+kind-more k_not limit n m l h = tt
+kind-more k_imp limit n m l h = tt
+kind-more k_iff limit n m l h = tt
+kind-more (k_atom r) limit n m l h = tt
+kind-more (k_let x) limit n m l h = h
+kind-more (k_theory k) limit n m l h = h
+kind-more (k_is_ctor x) limit n m l h = h
+kind-more (k_exists bs) limit n m l h = binders-more bs limit n m l h
+kind-more (k_let_fresh k) limit n m l h = omega arith
 
 mutual
   pub coded-more : (e : Expr) (limit n m : ℕ) → n ≤ m → Coded e limit n → Coded e limit m
@@ -99,11 +99,11 @@ unfolding theory all_below pick
 theory-below = all-below 42 theory refl
 
 -- A kind that opens no scope: no more than its operands open.
-quiet-opens : (n more : ℕ) (es : Exprs) → more ≡ 0 → scopesIn n more es ≤ scopesAll es
+quiet_opens : (n more : ℕ) (es : Exprs) → more ≡ 0 → scopes_in n more es ≤ scopes_all es
 unfolding scopes
-quiet-opens n more enil z = omega (arith, z)
-quiet-opens zero more (econs e es) z = omega (arith, z, quiet-opens zero more es z)
-quiet-opens (suc n) more (econs e es) z = omega (arith, quiet-opens n more es z)
+quiet_opens n more enil z = omega (arith, z)
+quiet_opens zero more (econs e es) z = omega (arith, z, quiet_opens zero more es z)
+quiet_opens (suc n) more (econs e es) z = omega (arith, quiet_opens n more es z)
 
 -- The scope of a let is open in its body, which stands in its list like its pair.
 let-opens : (v b u t most : ℕ) → 1 ≤ u → v ≤ u - 1 → b ≤ t - 1 → u ≤ most → t ≤ most → max v (max (1 + b) 1) ≤ suc most - 1
@@ -114,47 +114,47 @@ unfolding depth
 small-leaf t sc n k o c = record { rises = omega arith; deep = omega arith; opens = omega (arith, o); coded = c }
 
 module _ (text : List ℕ) where
-  among : (s : Span) (xs : List Span) (k : ℕ) → IfThere (Scope.numberAmong text s xs k) (λ j. j < k + length xs)
-  unfolding Scope.numberAmong
+  among : (s : Span) (xs : List Span) (k : ℕ) → IfThere (Scope.number_among text s xs k) (λ j. j < k + length xs)
+  unfolding Scope.number_among
   among s [] k = tt
   among s (x ∷ xs) k =
-      pick-holds (Scope.same_name text s x) (just k) (Scope.numberAmong text s xs (suc k)) (λ m. IfThere m (λ j. j < k + suc (length xs))) (omega arith) (later (Scope.numberAmong text s xs (suc k)) (among s xs (suc k)))
+      pick-holds (Scope.same_name text s x) (just k) (Scope.number_among text s xs (suc k)) (λ m. IfThere m (λ j. j < k + suc (length xs))) (omega arith) (later (Scope.number_among text s xs (suc k)) (among s xs (suc k)))
     where
       later : (m : Maybe ℕ) → IfThere m (λ j. j < suc k + length xs) → IfThere m (λ j. j < k + suc (length xs))
       later nothing h = tt
       later (just j) h = omega arith
 
-  number-in : (s : Span) (sc : List Scope) (n : ℕ) → ScopesBelow sc n → IfThere (Scope.number_in text s sc) (λ j. j < n)
+  number_in_lem : (s : Span) (sc : List Scope) (n : ℕ) → ScopesBelow sc n → IfThere (Scope.number_in text s sc) (λ j. j < n)
   unfolding Scope.number_in
-  number-in s [] n h = tt
-  number-in s (x ∷ sc) n h = first (Scope.numberAmong text s x.names x.first) (Scope.number_in text s sc) (among s x.names x.first) (number-in s sc n h.1)
+  number_in_lem s [] n h = tt
+  number_in_lem s (x ∷ sc) n h = first (Scope.number_among text s x.names x.first) (Scope.number_in text s sc) (among s x.names x.first) (number_in_lem s sc n h.1)
     where
       first : (m m' : Maybe ℕ) → IfThere m (λ j. j < x.first + length x.names) → IfThere m' (λ j. j < n) → IfThere (or_else m m') (λ j. j < n)
       first nothing nothing p q = tt
       first nothing (just j) p q = q
       first (just j) m' p q = omega (arith, h.0)
 
-  on-symbol : (s : Span) (sc : List Scope) (n : ℕ) → Small (atom (symbol s)) sc n (Scope.symbolExpr text s sc) n
-  unfolding Scope.symbolExpr scopes exprs
+  on-symbol : (s : Span) (sc : List Scope) (n : ℕ) → Small (atom (symbol s)) sc n (Scope.symbol_expr text s sc) n
+  unfolding Scope.symbol_expr scopes exprs
   on-symbol s sc n = go (lookup theory (bytes_at text s)) (lookup-holds theory (bytes_at text s) (λ _ k. k < 42) theory-below)
     where
-      named-or : (m : Maybe ℕ) → (ScopesBelow sc n → IfThere m (λ j. j < n)) → Small (atom (symbol s)) sc n (Scope.orNamed text s m) n
-      named-or nothing h = small-leaf (atom (symbol s)) sc n (kNamed (record { span = s })) refl (λ limit w b. (refl, w, tt))
-      named-or (just j) h = small-leaf (atom (symbol s)) sc n (kFresh j) refl (λ limit w b. (refl, h b, tt))
+      named_or : (m : Maybe ℕ) → (ScopesBelow sc n → IfThere m (λ j. j < n)) → Small (atom (symbol s)) sc n (Scope.or_named text s m) n
+      named_or nothing h = small-leaf (atom (symbol s)) sc n (k_named (record { span = s })) refl (λ limit w b. (refl, w, tt))
+      named_or (just j) h = small-leaf (atom (symbol s)) sc n (k_fresh j) refl (λ limit w b. (refl, h b, tt))
 
-      go : (m : Maybe ℕ) → IfThere m (λ k. k < 42) → Small (atom (symbol s)) sc n (Scope.orVariable text s sc m) n
-      go (just k) h = small-leaf (atom (symbol s)) sc n (kTheory k) refl (λ limit w b. (refl, h, tt))
-      go nothing h = named-or (Scope.number_in text s sc) (λ b. number-in s sc n b)
+      go : (m : Maybe ℕ) → IfThere m (λ k. k < 42) → Small (atom (symbol s)) sc n (Scope.or_variable text s sc m) n
+      go (just k) h = small-leaf (atom (symbol s)) sc n (k_theory k) refl (λ limit w b. (refl, h, tt))
+      go nothing h = named_or (Scope.number_in text s sc) (λ b. number_in_lem s sc n b)
 
   on-integer : (w : Wide) (sc : List Scope) (n : ℕ) → Small (atom (integer w)) sc n (numeral w) n
   unfolding numeral depth scopes exprs
   on-integer w sc n =
-      pick-holds (ltb (value_of w) (2 ^ 127)) (leaf (kNum w)) (node kNeg (one_of (leaf (kNum (minusOf w))))) (λ e. Small (atom (integer w)) sc n e n)
-      (small-leaf (atom (integer w)) sc n (kNum w) refl (λ limit i b. (refl, tt, tt)))
+      pick-holds (ltb (value_of w) (2 ^ 127)) (leaf (k_num w)) (node k_neg (one_of (leaf (k_num (minus_of w))))) (λ e. Small (atom (integer w)) sc n e n)
+      (small-leaf (atom (integer w)) sc n (k_num w) refl (λ limit i b. (refl, tt, tt)))
       (record { rises = omega arith; deep = omega arith; opens = omega arith; coded = λ limit i b. (refl, tt, ((refl, tt, tt), tt)) })
 
   on-exists : (s v : Tree) (ts : Trees) (sc : List Scope) (n m : ℕ) (names : List Span) (sorts : List Sort) (e : Expr) → BindersOf v names sorts → SmallAll ts (record { names = names; first = n } ∷ sc) (n + length sorts) (one_of e) m
-      → Small (list (tcons s (tcons v ts))) sc n (node (kExists (numbered n sorts)) (one_of e)) m
+      → Small (list (tcons s (tcons v ts))) sc n (node (k_exists (numbered n sorts)) (one_of e)) m
   unfolding depth scopes nesting exprs
   on-exists s v ts sc n m names sorts e b h =
       record {
@@ -165,7 +165,7 @@ module _ (text : List ℕ) where
       }
 
   on-let : (s u : Tree) (ts : Trees) (sc : List Scope) (n m p : ℕ) (x : Span) (v b : Expr) → 1 ≤ nesting u → Small u sc n v m → SmallAll ts (record { names = x ∷ []; first = m } ∷ sc) (m + 1) (one_of b) p
-      → Small (list (tcons s (tcons u ts))) sc n (node (kLetFresh m) (econs v (one_of b))) p
+      → Small (list (tcons s (tcons u ts))) sc n (node (k_let_fresh m) (econs v (one_of b))) p
   unfolding depth scopes nesting exprs
   on-let s u ts sc n m p x v b l g h =
       record {
@@ -181,10 +181,10 @@ module _ (text : List ℕ) where
   unfolding depth scopes nesting exprs
   small =
       record {
-        onSymbol = on-symbol;
-        onQuoted = λ s sc n. small-leaf (atom (quoted s)) sc n (kStr s) refl (λ limit w b. (refl, w, tt));
-        onInteger = on-integer;
-        onBoolean = λ b sc n. small-leaf (atom (boolean b)) sc n (kBool b) refl (λ limit w i. (refl, tt, tt));
+        on_symbol = on-symbol;
+        on_quoted = λ s sc n. small-leaf (atom (quoted s)) sc n (k_str s) refl (λ limit w b. (refl, w, tt));
+        on_integer = on-integer;
+        on_boolean = λ b sc n. small-leaf (atom (boolean b)) sc n (k_bool b) refl (λ limit w i. (refl, tt, tt));
         none = λ ts sc n. record { rises = omega arith; deep = omega arith; opens = omega arith; coded = λ limit w b. tt };
         more = λ t ts sc n m p e es h k.
             record {
@@ -195,22 +195,22 @@ module _ (text : List ℕ) where
             };
         skip = λ t ts sc n m es h. record { rises = h.rises; deep = omega (arith, h.deep); opens = omega (arith, h.opens); coded = λ limit w b. h.coded limit w.1 b };
         item = λ ts sc n m e h. record { rises = h.rises; deep = omega (arith, h.deep); opens = omega (arith, h.opens); coded = λ limit w b. (h.coded limit w b).0 };
-        onNode = λ ts sc n m k es p a h.
-            record { rises = h.rises; deep = omega (arith, h.deep); opens = omega (arith, h.opens, quiet-opens (outside k) (opensScope k) es p.opens); coded = λ limit w b. (a, p.coded limit m w, h.coded limit w b) };
-        onCall = λ t ts sc n m p es h x y.
+        on_node = λ ts sc n m k es p a h.
+            record { rises = h.rises; deep = omega (arith, h.deep); opens = omega (arith, h.opens, quiet_opens (outside k) (opens_scope k) es p.opens); coded = λ limit w b. (a, p.coded limit m w, h.coded limit w b) };
+        on_call = λ t ts sc n m p es h x y.
             record {
               rises = omega (arith, x.rises, y.rises);
               deep = omega (arith, x.deep, y.deep);
               opens = omega (arith, x.opens, y.opens);
               coded = λ limit w b. (coded-all-more es limit m p y.rises (x.coded limit w.1 b), tt, y.coded limit w.0 (scopes-more sc n m x.rises b));
             };
-        onAs = λ t ts sc n m o e s h.
+        on_as = λ t ts sc n m o e s h.
             record {
               rises = h.rises;
               deep = omega (arith, h.deep);
               opens = omega (arith, h.opens);
               coded = λ limit w b. (tt, s.coded limit w.0, (h.coded limit w.1 b).0);
             };
-        onExists = on-exists;
-        onLet = on-let;
+        on_exists = on-exists;
+        on_let = on-let;
       }

@@ -2,8 +2,8 @@
 use Rattle.std.specs.Prelude.{ℕ, suc, Bool, List, [], ◌∷◌, ◌++◌, length}
 use Rattle.reading.specs.Bytes.{Span, Maybe, nothing, just}
 use Rattle.reading.specs.Number.{Wide}
-use Rattle.reading.specs.Tree.{bit, spanWords, wideWords}
-use Rattle.grammar.specs.Sort.{Sort, sortWords}
+use Rattle.reading.specs.Tree.{bit, span_words, wide_words}
+use Rattle.grammar.specs.Sort.{Sort, sort_words}
 use Rattle.grammar.specs.Item.{Item, plain, plains, uses, binds}
 
 -- The name of a variable and the name of a kvar are two types, as in the source.
@@ -14,25 +14,25 @@ pub record KvarName : Type 0 where
   pub span : Span
 
 pub data BinOp : Type 0 where
-  opAdd opSub opMul opDiv opMod : BinOp
+  op_add op_sub op_mul op_div op_mod : BinOp
 
-abbrev pub opNumber : BinOp → ℕ
-opNumber opAdd = 0
-opNumber opSub = 1
-opNumber opMul = 2
-opNumber opDiv = 3
-opNumber opMod = 4
+abbrev pub op_number : BinOp → ℕ
+op_number op_add = 0
+op_number op_sub = 1
+op_number op_mul = 2
+op_number op_div = 3
+op_number op_mod = 4
 
 pub data Relation : Type 0 where
-  relEq relNe relGt relGe relLt relLe : Relation
+  rel_eq rel_ne rel_gt rel_ge rel_lt rel_le : Relation
 
-abbrev pub relNumber : Relation → ℕ
-relNumber relEq = 0
-relNumber relNe = 1
-relNumber relGt = 2
-relNumber relGe = 3
-relNumber relLt = 4
-relNumber relLe = 5
+abbrev pub rel_number : Relation → ℕ
+rel_number rel_eq = 0
+rel_number rel_ne = 1
+rel_number rel_gt = 2
+rel_number rel_ge = 3
+rel_number rel_lt = 4
+rel_number rel_le = 5
 
 -- A bound variable: its fresh number and its sort.
 pub record Binder : Type 0 where
@@ -41,21 +41,21 @@ pub record Binder : Type 0 where
 
 -- What an expression is, but for its operands and but for applications.
 pub data Kind : Type 0 where
-  kNum : Wide → Kind
-  kBool : Bool → Kind
-  kStr : Span → Kind
-  kBitVec : Wide → ℕ → Kind
-  kFresh : ℕ → Kind
-  kNamed : VarName → Kind
-  kNeg : Kind
-  kBin : BinOp → Kind
-  kIf kAnd kOr kNot kImp kIff : Kind
-  kAtom : Relation → Kind
-  kLet : VarName → Kind
-  kTheory : ℕ → Kind
-  kIsCtor : VarName → Kind
-  kExists : List Binder → Kind
-  kLetFresh : ℕ → Kind
+  k_num : Wide → Kind
+  k_bool : Bool → Kind
+  k_str : Span → Kind
+  k_bit_vec : Wide → ℕ → Kind
+  k_fresh : ℕ → Kind
+  k_named : VarName → Kind
+  k_neg : Kind
+  k_bin : BinOp → Kind
+  k_if k_and k_or k_not k_imp k_iff : Kind
+  k_atom : Relation → Kind
+  k_let : VarName → Kind
+  k_theory : ℕ → Kind
+  k_is_ctor : VarName → Kind
+  k_exists : List Binder → Kind
+  k_let_fresh : ℕ → Kind
 
 mutual
   pub data Expr : Type 0 where
@@ -109,101 +109,101 @@ pub record Solution : Type 0 where
   pub params : List Binder
   pub body : Expr
 
-abbrev pub spanItems : Span → List Item
-spanItems s = plains (spanWords s)
+abbrev pub span_items : Span → List Item
+span_items s = plains (span_words s)
 
-abbrev pub sortItems : Sort → List Item
-sortItems s = plains (sortWords s)
+abbrev pub sort_items : Sort → List Item
+sort_items s = plains (sort_words s)
 
-unfoldable pub binderItems : List Binder → List Item
-binderItems [] = []
-binderItems (b ∷ bs) = binds b.var ∷ sortItems b.sort ++ binderItems bs
+unfoldable pub binder_items : List Binder → List Item
+binder_items [] = []
+binder_items (b ∷ bs) = binds b.var ∷ sort_items b.sort ++ binder_items bs
 
 -- The items of a kind, in front of its n operands.
-unfoldable pub kindItems : Kind → ℕ → List Item
-kindItems (kNum v) n = plain 32 ∷ plains (wideWords v)
-kindItems (kBool b) n = plain 33 ∷ plain (bit b) ∷ []
-kindItems (kStr s) n = plain 34 ∷ spanItems s
-kindItems (kBitVec v width) n = plain 35 ∷ plains (wideWords v) ++ (plain width ∷ [])
-kindItems (kFresh k) n = plain 36 ∷ uses k ∷ []
-kindItems (kNamed x) n = plain 37 ∷ spanItems x.span
-kindItems kNeg n = plain 39 ∷ []
-kindItems (kBin op) n = plain 40 ∷ plain (opNumber op) ∷ []
-kindItems kIf n = plain 41 ∷ []
-kindItems kAnd n = plain 42 ∷ plain n ∷ []
-kindItems kOr n = plain 43 ∷ plain n ∷ []
-kindItems kNot n = plain 44 ∷ []
-kindItems kImp n = plain 45 ∷ []
-kindItems kIff n = plain 46 ∷ []
-kindItems (kAtom r) n = plain 47 ∷ plain (relNumber r) ∷ []
-kindItems (kLet x) n = plain 48 ∷ spanItems x.span
-kindItems (kTheory k) n = plain 49 ∷ plain k ∷ []
-kindItems (kIsCtor x) n = plain 50 ∷ spanItems x.span
-kindItems (kExists bs) n = plain 51 ∷ plain (length bs) ∷ binderItems bs
-kindItems (kLetFresh k) n = plain 52 ∷ binds k ∷ []
+unfoldable pub kind_items : Kind → ℕ → List Item
+kind_items (k_num v) n = plain 32 ∷ plains (wide_words v)
+kind_items (k_bool b) n = plain 33 ∷ plain (bit b) ∷ []
+kind_items (k_str s) n = plain 34 ∷ span_items s
+kind_items (k_bit_vec v width) n = plain 35 ∷ plains (wide_words v) ++ (plain width ∷ [])
+kind_items (k_fresh k) n = plain 36 ∷ uses k ∷ []
+kind_items (k_named x) n = plain 37 ∷ span_items x.span
+kind_items k_neg n = plain 39 ∷ []
+kind_items (k_bin op) n = plain 40 ∷ plain (op_number op) ∷ []
+kind_items k_if n = plain 41 ∷ []
+kind_items k_and n = plain 42 ∷ plain n ∷ []
+kind_items k_or n = plain 43 ∷ plain n ∷ []
+kind_items k_not n = plain 44 ∷ []
+kind_items k_imp n = plain 45 ∷ []
+kind_items k_iff n = plain 46 ∷ []
+kind_items (k_atom r) n = plain 47 ∷ plain (rel_number r) ∷ []
+kind_items (k_let x) n = plain 48 ∷ span_items x.span
+kind_items (k_theory k) n = plain 49 ∷ plain k ∷ []
+kind_items (k_is_ctor x) n = plain 50 ∷ span_items x.span
+kind_items (k_exists bs) n = plain 51 ∷ plain (length bs) ∷ binder_items bs
+kind_items (k_let_fresh k) n = plain 52 ∷ binds k ∷ []
 
 -- How many of its operands, the first ones, a kind does not enclose by what it binds: a let's binding.
 abbrev pub outside : Kind → ℕ
-outside (kNum v) = 0
-outside (kBool b) = 0
-outside (kStr s) = 0
-outside (kBitVec v width) = 0
-outside (kFresh k) = 0
-outside (kNamed x) = 0
-outside kNeg = 0
-outside (kBin op) = 0
-outside kIf = 0
-outside kAnd = 0
-outside kOr = 0
-outside kNot = 0
-outside kImp = 0
-outside kIff = 0
-outside (kAtom r) = 0
-outside (kLet x) = 0
-outside (kTheory k) = 0
-outside (kIsCtor x) = 0
-outside (kExists bs) = 0
-outside (kLetFresh k) = 1
+outside (k_num v) = 0
+outside (k_bool b) = 0
+outside (k_str s) = 0
+outside (k_bit_vec v width) = 0
+outside (k_fresh k) = 0
+outside (k_named x) = 0
+outside k_neg = 0
+outside (k_bin op) = 0
+outside k_if = 0
+outside k_and = 0
+outside k_or = 0
+outside k_not = 0
+outside k_imp = 0
+outside k_iff = 0
+outside (k_atom r) = 0
+outside (k_let x) = 0
+outside (k_theory k) = 0
+outside (k_is_ctor x) = 0
+outside (k_exists bs) = 0
+outside (k_let_fresh k) = 1
 
 -- The flag of an application, and its output sort.
 abbrev pub flag : Maybe Sort → ℕ
 flag nothing = 0
 flag (just s) = 1
 
-abbrev pub outSort : Maybe Sort → List Item
-outSort nothing = []
-outSort (just s) = sortItems s
+abbrev pub out_sort : Maybe Sort → List Item
+out_sort nothing = []
+out_sort (just s) = sort_items s
 
 unfoldable mutual
-  pub exprItems : Expr → List Item
-  exprItems (node k es) = kindItems k (exprs es) ++ exprsItems es
-  exprItems (app o es h) = plain 38 ∷ plain (flag o) ∷ plain (exprs es) ∷ exprsItems es ++ (outSort o ++ exprItems h)
+  pub expr_items : Expr → List Item
+  expr_items (node k es) = kind_items k (exprs es) ++ exprs_items es
+  expr_items (app o es h) = plain 38 ∷ plain (flag o) ∷ plain (exprs es) ∷ exprs_items es ++ (out_sort o ++ expr_items h)
 
-  pub exprsItems : Exprs → List Item
-  exprsItems enil = []
-  exprsItems (econs e es) = exprItems e ++ exprsItems es
+  pub exprs_items : Exprs → List Item
+  exprs_items enil = []
+  exprs_items (econs e es) = expr_items e ++ exprs_items es
 
-unfoldable pub nameItems : List VarName → List Item
-nameItems [] = []
-nameItems (x ∷ xs) = plain 37 ∷ spanItems x.span ++ nameItems xs
+unfoldable pub name_items : List VarName → List Item
+name_items [] = []
+name_items (x ∷ xs) = plain 37 ∷ span_items x.span ++ name_items xs
 
-unfoldable pub predItems : Pred → List Item
-predItems (kvar k xs) = plain 64 ∷ spanItems k.span ++ (plain (length xs) ∷ nameItems xs)
-predItems (expr e) = plain 65 ∷ exprItems e
+unfoldable pub pred_items : Pred → List Item
+pred_items (kvar k xs) = plain 64 ∷ span_items k.span ++ (plain (length xs) ∷ name_items xs)
+pred_items (expr e) = plain 65 ∷ expr_items e
 
-unfoldable pub predsItems : List Pred → List Item
-predsItems [] = []
-predsItems (p ∷ ps) = predItems p ++ predsItems ps
+unfoldable pub preds_items : List Pred → List Item
+preds_items [] = []
+preds_items (p ∷ ps) = pred_items p ++ preds_items ps
 
-unfoldable pub bindItems : Bind → List Item
-bindItems b = spanItems b.name.span ++ (sortItems b.sort ++ (plain (length b.preds) ∷ predsItems b.preds))
+unfoldable pub bind_items : Bind → List Item
+bind_items b = span_items b.name.span ++ (sort_items b.sort ++ (plain (length b.preds) ∷ preds_items b.preds))
 
-unfoldable pub solutionItems : Solution → List Item
-solutionItems s = plain (length s.params) ∷ binderItems s.params ++ exprItems s.body
+unfoldable pub solution_items : Solution → List Item
+solution_items s = plain (length s.params) ∷ binder_items s.params ++ expr_items s.body
 
 -- What a draft leaves in the output, and in the draft slice: the parameters, and the body before flattening.
-abbrev pub paramItems : Solution → List Item
-paramItems s = plain (length s.params) ∷ binderItems s.params
+abbrev pub param_items : Solution → List Item
+param_items s = plain (length s.params) ∷ binder_items s.params
 
-abbrev pub bodyItems : Solution → List Item
-bodyItems s = exprItems s.body
+abbrev pub body_items : Solution → List Item
+body_items s = expr_items s.body

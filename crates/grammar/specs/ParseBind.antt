@@ -2,18 +2,18 @@
 use Rattle.std.specs.Prelude.{ℕ, List}
 use Rattle.reading.specs.Tree.{Tree}
 use Rattle.reading.specs.Answer.{and_then, M, ◌>>=◌, chain, done, lifted}
-use Rattle.grammar.specs.ParseSort.{inList, inSymbol, treeAt, parseSort}
+use Rattle.grammar.specs.ParseSort.{in_list, in_symbol, tree_at, parse_sort}
 use Rattle.grammar.specs.Expr.{Bind}
-use Rattle.grammar.specs.Scope.{varOf}
+use Rattle.grammar.specs.Scope.{var_of}
 use Rattle.grammar.specs.ParseExpr.{child}
 
 -- `((name sort) predicate ..)`; the name opens no scope.
-unfoldable pub parseBind : List ℕ → Tree → M Bind
-parseBind text t = do
-  ts ← lifted (inList t)
-  pair ← lifted (and_then (treeAt ts 0) inList)
-  s ← lifted (and_then (treeAt pair 0) inSymbol)
-  o ← lifted (and_then (treeAt pair 1) (parseSort text))
-  p ← lifted (treeAt ts 1)
+unfoldable pub parse_bind : List ℕ → Tree → M Bind
+parse_bind text t = do
+  ts ← lifted (in_list t)
+  pair ← lifted (and_then (tree_at ts 0) in_list)
+  s ← lifted (and_then (tree_at pair 0) in_symbol)
+  o ← lifted (and_then (tree_at pair 1) (parse_sort text))
+  p ← lifted (tree_at ts 1)
   ps ← (child text p).preds
-  done (record { name = varOf s; sort = o; preds = ps })
+  done (record { name = var_of s; sort = o; preds = ps })

@@ -1,28 +1,28 @@
 -- The shape of trees and expressions: which words they can be written in, and how deep they nest.
 use Rattle.std.specs.Prelude.{ℕ, zero, suc, ◌+◌, ◌^◌, ◌<◌, max, ◌≡◌, List, [], ◌∷◌}
 use Rattle.reading.specs.Bytes.{SpanWithin, Maybe, nothing, just}
-use Rattle.grammar.specs.Sort.{Ctor, cSet, cMap, cData, Sort, Sorts, s_int, s_bool, sReal, sStr, sBitVec, sSize, sVar, sFunc, sAbs, sApp, snil, scons}
-use Rattle.grammar.specs.Expr.{Binder, Kind, kNum, kBool, kStr, kBitVec, kFresh, kNamed, kNeg, kBin, kIf, kAnd, kOr, kNot, kImp, kIff, kAtom, kLet, kTheory, kIsCtor, kExists, kLetFresh, outside, Expr, Exprs, node, app, enil, econs, exprs}
+use Rattle.grammar.specs.Sort.{Ctor, c_set, c_map, c_data, Sort, Sorts, s_int, s_bool, s_real, s_str, s_bit_vec, s_size, s_var, s_func, s_abs, s_app, snil, scons}
+use Rattle.grammar.specs.Expr.{Binder, Kind, k_num, k_bool, k_str, k_bit_vec, k_fresh, k_named, k_neg, k_bin, k_if, k_and, k_or, k_not, k_imp, k_iff, k_atom, k_let, k_theory, k_is_ctor, k_exists, k_let_fresh, outside, Expr, Exprs, node, app, enil, econs, exprs}
 
 -- A constructor whose span ends at most at a limit.
 abbrev pub CtorWithin : Ctor → ℕ → Type 0
-CtorWithin cSet limit = Unit {0}
-CtorWithin cMap limit = Unit {0}
-CtorWithin (cData s) limit = SpanWithin s limit
+CtorWithin c_set limit = Unit {0}
+CtorWithin c_map limit = Unit {0}
+CtorWithin (c_data s) limit = SpanWithin s limit
 
 -- A sort whose indexes have 64 bits and whose spans end at most at a limit.
 abbrev mutual
   pub SortCoded : Sort → ℕ → Type 0
   SortCoded s_int limit = Unit {0}
   SortCoded s_bool limit = Unit {0}
-  SortCoded sReal limit = Unit {0}
-  SortCoded sStr limit = Unit {0}
-  SortCoded (sBitVec s) limit = SortCoded s limit
-  SortCoded (sSize width) limit = Unit {0}
-  SortCoded (sVar i) limit = i < 2 ^ 64
-  SortCoded (sFunc s t) limit = SortCoded s limit × SortCoded t limit
-  SortCoded (sAbs i s) limit = SortCoded s limit
-  SortCoded (sApp c ss) limit = CtorWithin c limit × SortsCoded ss limit
+  SortCoded s_real limit = Unit {0}
+  SortCoded s_str limit = Unit {0}
+  SortCoded (s_bit_vec s) limit = SortCoded s limit
+  SortCoded (s_size width) limit = Unit {0}
+  SortCoded (s_var i) limit = i < 2 ^ 64
+  SortCoded (s_func s t) limit = SortCoded s limit × SortCoded t limit
+  SortCoded (s_abs i s) limit = SortCoded s limit
+  SortCoded (s_app c ss) limit = CtorWithin c limit × SortsCoded ss limit
 
   pub SortsCoded : Sorts → ℕ → Type 0
   SortsCoded snil limit = Unit {0}
@@ -39,49 +39,49 @@ BindersCoded (b ∷ bs) limit numbers = (b.var < numbers) × SortCoded b.sort li
 
 -- So many operands are right for a kind.
 abbrev pub HasOperands : Kind → ℕ → Type 0
-HasOperands (kNum v) n = n ≡ 0
-HasOperands (kBool b) n = n ≡ 0
-HasOperands (kStr s) n = n ≡ 0
-HasOperands (kBitVec v width) n = n ≡ 0
-HasOperands (kFresh k) n = n ≡ 0
-HasOperands (kNamed x) n = n ≡ 0
-HasOperands kNeg n = n ≡ 1
-HasOperands (kBin op) n = n ≡ 2
-HasOperands kIf n = n ≡ 3
-HasOperands kAnd n = Unit {0}
-HasOperands kOr n = Unit {0}
-HasOperands kNot n = n ≡ 1
-HasOperands kImp n = n ≡ 2
-HasOperands kIff n = n ≡ 2
-HasOperands (kAtom r) n = n ≡ 2
-HasOperands (kLet x) n = n ≡ 2
-HasOperands (kTheory k) n = n ≡ 0
-HasOperands (kIsCtor x) n = n ≡ 1
-HasOperands (kExists bs) n = n ≡ 1
-HasOperands (kLetFresh k) n = n ≡ 2
+HasOperands (k_num v) n = n ≡ 0
+HasOperands (k_bool b) n = n ≡ 0
+HasOperands (k_str s) n = n ≡ 0
+HasOperands (k_bit_vec v width) n = n ≡ 0
+HasOperands (k_fresh k) n = n ≡ 0
+HasOperands (k_named x) n = n ≡ 0
+HasOperands k_neg n = n ≡ 1
+HasOperands (k_bin op) n = n ≡ 2
+HasOperands k_if n = n ≡ 3
+HasOperands k_and n = Unit {0}
+HasOperands k_or n = Unit {0}
+HasOperands k_not n = n ≡ 1
+HasOperands k_imp n = n ≡ 2
+HasOperands k_iff n = n ≡ 2
+HasOperands (k_atom r) n = n ≡ 2
+HasOperands (k_let x) n = n ≡ 2
+HasOperands (k_theory k) n = n ≡ 0
+HasOperands (k_is_ctor x) n = n ≡ 1
+HasOperands (k_exists bs) n = n ≡ 1
+HasOperands (k_let_fresh k) n = n ≡ 2
 
 -- The fields of a kind are within their codes, its spans end at most at a limit, and its fresh numbers are below a bound.
 abbrev pub KindCoded : Kind → ℕ → ℕ → Type 0
-KindCoded (kNum v) limit numbers = Unit {0}
-KindCoded (kBool b) limit numbers = Unit {0}
-KindCoded (kStr s) limit numbers = SpanWithin s limit
-KindCoded (kBitVec v width) limit numbers = Unit {0}
-KindCoded (kFresh k) limit numbers = k < numbers
-KindCoded (kNamed x) limit numbers = SpanWithin x.span limit
-KindCoded kNeg limit numbers = Unit {0}
-KindCoded (kBin op) limit numbers = Unit {0}
-KindCoded kIf limit numbers = Unit {0}
-KindCoded kAnd limit numbers = Unit {0}
-KindCoded kOr limit numbers = Unit {0}
-KindCoded kNot limit numbers = Unit {0}
-KindCoded kImp limit numbers = Unit {0}
-KindCoded kIff limit numbers = Unit {0}
-KindCoded (kAtom r) limit numbers = Unit {0}
-KindCoded (kLet x) limit numbers = SpanWithin x.span limit
-KindCoded (kTheory k) limit numbers = k < 42
-KindCoded (kIsCtor x) limit numbers = SpanWithin x.span limit
-KindCoded (kExists bs) limit numbers = BindersCoded bs limit numbers
-KindCoded (kLetFresh k) limit numbers = k < numbers
+KindCoded (k_num v) limit numbers = Unit {0}
+KindCoded (k_bool b) limit numbers = Unit {0}
+KindCoded (k_str s) limit numbers = SpanWithin s limit
+KindCoded (k_bit_vec v width) limit numbers = Unit {0}
+KindCoded (k_fresh k) limit numbers = k < numbers
+KindCoded (k_named x) limit numbers = SpanWithin x.span limit
+KindCoded k_neg limit numbers = Unit {0}
+KindCoded (k_bin op) limit numbers = Unit {0}
+KindCoded k_if limit numbers = Unit {0}
+KindCoded k_and limit numbers = Unit {0}
+KindCoded k_or limit numbers = Unit {0}
+KindCoded k_not limit numbers = Unit {0}
+KindCoded k_imp limit numbers = Unit {0}
+KindCoded k_iff limit numbers = Unit {0}
+KindCoded (k_atom r) limit numbers = Unit {0}
+KindCoded (k_let x) limit numbers = SpanWithin x.span limit
+KindCoded (k_theory k) limit numbers = k < 42
+KindCoded (k_is_ctor x) limit numbers = SpanWithin x.span limit
+KindCoded (k_exists bs) limit numbers = BindersCoded bs limit numbers
+KindCoded (k_let_fresh k) limit numbers = k < numbers
 
 -- An expression that its words give back, where its fresh numbers are below 2^64.
 abbrev mutual
@@ -104,40 +104,40 @@ unfoldable mutual
   depths (econs e es) = max (depth e) (depths es)
 
 -- How many scopes a kind opens round its operands, but for those outside.
-abbrev pub opensScope : Kind → ℕ
-opensScope (kNum v) = 0
-opensScope (kBool b) = 0
-opensScope (kStr s) = 0
-opensScope (kBitVec v width) = 0
-opensScope (kFresh k) = 0
-opensScope (kNamed x) = 0
-opensScope kNeg = 0
-opensScope (kBin op) = 0
-opensScope kIf = 0
-opensScope kAnd = 0
-opensScope kOr = 0
-opensScope kNot = 0
-opensScope kImp = 0
-opensScope kIff = 0
-opensScope (kAtom r) = 0
-opensScope (kLet x) = 0
-opensScope (kTheory k) = 0
-opensScope (kIsCtor x) = 0
-opensScope (kExists bs) = 1
-opensScope (kLetFresh k) = 1
+abbrev pub opens_scope : Kind → ℕ
+opens_scope (k_num v) = 0
+opens_scope (k_bool b) = 0
+opens_scope (k_str s) = 0
+opens_scope (k_bit_vec v width) = 0
+opens_scope (k_fresh k) = 0
+opens_scope (k_named x) = 0
+opens_scope k_neg = 0
+opens_scope (k_bin op) = 0
+opens_scope k_if = 0
+opens_scope k_and = 0
+opens_scope k_or = 0
+opens_scope k_not = 0
+opens_scope k_imp = 0
+opens_scope k_iff = 0
+opens_scope (k_atom r) = 0
+opens_scope (k_let x) = 0
+opens_scope (k_theory k) = 0
+opens_scope (k_is_ctor x) = 0
+opens_scope (k_exists bs) = 1
+opens_scope (k_let_fresh k) = 1
 
 -- How many scopes stand inside one another.
 unfoldable mutual
   pub scopes : Expr → ℕ
-  scopes (node k es) = scopesIn (outside k) (opensScope k) es
-  scopes (app o es h) = max (scopesAll es) (scopes h)
+  scopes (node k es) = scopes_in (outside k) (opens_scope k) es
+  scopes (app o es h) = max (scopes_all es) (scopes h)
 
   -- operands, all but the first n of them inside so many more
-  pub scopesIn : ℕ → ℕ → Exprs → ℕ
-  scopesIn n more enil = more
-  scopesIn zero more (econs e es) = max (more + scopes e) (scopesIn zero more es)
-  scopesIn (suc n) more (econs e es) = max (scopes e) (scopesIn n more es)
+  pub scopes_in : ℕ → ℕ → Exprs → ℕ
+  scopes_in n more enil = more
+  scopes_in zero more (econs e es) = max (more + scopes e) (scopes_in zero more es)
+  scopes_in (suc n) more (econs e es) = max (scopes e) (scopes_in n more es)
 
-  pub scopesAll : Exprs → ℕ
-  scopesAll enil = 0
-  scopesAll (econs e es) = max (scopes e) (scopesAll es)
+  pub scopes_all : Exprs → ℕ
+  scopes_all enil = 0
+  scopes_all (econs e es) = max (scopes e) (scopes_all es)

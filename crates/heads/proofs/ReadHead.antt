@@ -8,40 +8,40 @@ use lib.Dec.{eqb, ltb}
 use borrow.Author.Tests.{lt-ltb, le-ltb}
 use Rattle.reading.specs.Pick.{pick}
 use Rattle.reading.specs.Bytes.{Span, nothing}
-use Rattle.reading.specs.Answer.{notWords}
-use Rattle.grammar.specs.Expr.{opAdd, opSub, opMul, opDiv, opMod, relEq, relNe, relGt, relGe, relLt, relLe, VarName, Binder, Kind, kBin, kAtom, kAnd, kOr, kBool, kStr, kFresh, kNamed, kLet, kTheory, kIsCtor, kExists, kLetFresh}
-use Rattle.grammar.specs.Scope.{varOf}
+use Rattle.reading.specs.Answer.{not_words}
+use Rattle.grammar.specs.Expr.{op_add, op_sub, op_mul, op_div, op_mod, rel_eq, rel_ne, rel_gt, rel_ge, rel_lt, rel_le, VarName, Binder, Kind, k_bin, k_atom, k_and, k_or, k_bool, k_str, k_fresh, k_named, k_let, k_theory, k_is_ctor, k_exists, k_let_fresh}
+use Rattle.grammar.specs.Scope.{var_of}
 use Rattle.judging.specs.declared.End.{End}
 use Rattle.judging.specs.declared.End.TheVariants as end
 use Rattle.heads.specs.declared.Header.{Header}
 use Rattle.heads.specs.declared.Header.TheVariants.{Operands, Arguments, No}
-use Rattle.judging.specs.Judge.{Judged, reads, fails, FromWords, Plan, goOn, ret, fail, plan, among, word, wordBelow, choose, two_words, fourWords, several, spanWithin, nameWithin, bindersAt, kinds, header}
+use Rattle.judging.specs.Judge.{Judged, reads, fails, FromWords, Plan, go_on, ret, fail, plan, among, word, word_below, choose, two_words, four_words, several, span_within, name_within, binders_at, kinds, header}
 use Rattle.judging.specs.Ends.{end_of}
-use Rattle.heads.specs.Heads.{head_of, operandsAt}
-use Rattle.judging.proofs.ReadFields.{anyWords, ends-ret, word_in, word_out}
+use Rattle.heads.specs.Heads.{head_of, operands_at}
+use Rattle.judging.proofs.ReadFields.{any_words, ends-ret, word_in, word_out}
 
 -- Operands behind fields, of whatever kind these make.
-fields : {A : Type 0} (x : Judged A) (f : A → Kind) (n : ℕ) (ws : List ℕ) → operandsAt (end_of x) n ≡ head_of (goOn x (λ a. plan (f a) n) ws)
+fields : {A : Type 0} (x : Judged A) (f : A → Kind) (n : ℕ) (ws : List ℕ) → operands_at (end_of x) n ≡ head_of (go_on x (λ a. plan (f a) n) ws)
 fields (reads a m) f n ws = refl
 fields (fails r) f n ws = refl
 
 -- The same behind a name.
-named : (x : Judged Span) (f : VarName → Kind) (n : ℕ) (ws : List ℕ) → operandsAt (end_of x) n ≡ head_of (goOn (goOn x (λ s. ret (varOf s)) ws) (λ v. plan (f v) n) ws)
+named : (x : Judged Span) (f : VarName → Kind) (n : ℕ) (ws : List ℕ) → operands_at (end_of x) n ≡ head_of (go_on (go_on x (λ s. ret (var_of s)) ws) (λ v. plan (f v) n) ws)
 named (reads s m) f n ws = refl
 named (fails r) f n ws = refl
 
 -- So many words of any value, of which the first is read by itself.
 module _ (ws : List ℕ) (p n : ℕ) where
-  more : {B : Type 0} (x : Judged ℕ) (f : ℕ → FromWords B) (g : B → FromWords Plan) → ((a m : ℕ) → operandsAt (end_of (anyWords n ws m)) p ≡ head_of (goOn (f a ws m) g ws)) → operandsAt (end_of (goOn x (λ a us m. goOn (anyWords n us m) (λ rest. ret (a ∷ rest)) us) ws)) p ≡ head_of (goOn (goOn x f ws) g ws)
-  more (reads a m) f g h = ap (λ e. operandsAt e p) (ends-ret (anyWords n ws m) (λ rest. a ∷ rest) ws) ∙ h a m
+  more : {B : Type 0} (x : Judged ℕ) (f : ℕ → FromWords B) (g : B → FromWords Plan) → ((a m : ℕ) → operands_at (end_of (any_words n ws m)) p ≡ head_of (go_on (f a ws m) g ws)) → operands_at (end_of (go_on x (λ a us m. go_on (any_words n us m) (λ rest. ret (a ∷ rest)) us) ws)) p ≡ head_of (go_on (go_on x f ws) g ws)
+  more (reads a m) f g h = ap (λ e. operands_at e p) (ends-ret (any_words n ws m) (λ rest. a ∷ rest) ws) ∙ h a m
   more (fails r) f g h = refl
 
-  last : (x : Judged ℕ) (g : ℕ → FromWords Plan) → ((a m : ℕ) → operandsAt (end_of (anyWords n ws m)) p ≡ head_of (g a ws m)) → operandsAt (end_of (goOn x (λ a us m. goOn (anyWords n us m) (λ rest. ret (a ∷ rest)) us) ws)) p ≡ head_of (goOn x g ws)
-  last (reads a m) g h = ap (λ e. operandsAt e p) (ends-ret (anyWords n ws m) (λ rest. a ∷ rest) ws) ∙ h a m
+  last : (x : Judged ℕ) (g : ℕ → FromWords Plan) → ((a m : ℕ) → operands_at (end_of (any_words n ws m)) p ≡ head_of (g a ws m)) → operands_at (end_of (go_on x (λ a us m. go_on (any_words n us m) (λ rest. ret (a ∷ rest)) us) ws)) p ≡ head_of (go_on x g ws)
+  last (reads a m) g h = ap (λ e. operands_at e p) (ends-ret (any_words n ws m) (λ rest. a ∷ rest) ws) ∙ h a m
   last (fails r) g h = refl
 
 -- The same behind a number of two words.
-numbered : (ws : List ℕ) (at : ℕ) (f : ℕ → Kind) (n : ℕ) → operandsAt (end_of (anyWords 2 ws at)) n ≡ head_of (goOn (two_words ws at) (λ k. plan (f k) n) ws)
+numbered : (ws : List ℕ) (at : ℕ) (f : ℕ → Kind) (n : ℕ) → operands_at (end_of (any_words 2 ws at)) n ≡ head_of (go_on (two_words ws at) (λ k. plan (f k) n) ws)
 unfolding several two_words
 numbered ws at f n = more ws n 1 (word ws at) _ _ λ a i. more ws n 0 (word ws i) _ _ λ b j. refl
 
@@ -50,7 +50,7 @@ less_none : (k : ℕ) → k - 0 ≡ k
 less_none k = omega arith
 
 -- One of five operators, one of six relations: a word below a bound.
-operator : (x : Judged ℕ) (ws : List ℕ) → operandsAt (end_of (goOn x (λ k. pick (ltb k 5) (ret k) (fail notWords)) ws)) 2 ≡ head_of (goOn x (choose 0 (plan (kBin opAdd) 2 ∷ plan (kBin opSub) 2 ∷ plan (kBin opMul) 2 ∷ plan (kBin opDiv) 2 ∷ plan (kBin opMod) 2 ∷ [])) ws)
+operator : (x : Judged ℕ) (ws : List ℕ) → operands_at (end_of (go_on x (λ k. pick (ltb k 5) (ret k) (fail not_words)) ws)) 2 ≡ head_of (go_on x (choose 0 (plan (k_bin op_add) 2 ∷ plan (k_bin op_sub) 2 ∷ plan (k_bin op_mul) 2 ∷ plan (k_bin op_div) 2 ∷ plan (k_bin op_mod) 2 ∷ [])) ws)
 unfolding choose pick
 operator (reads zero m) ws = refl
 operator (reads (suc zero) m) ws = refl
@@ -61,7 +61,7 @@ operator (reads (suc (suc (suc (suc (suc k))))) m) ws =
     rw (le-ltb (suc (suc (suc (suc (suc k))))) 5 (omega arith), le-ltb (suc (suc (suc (suc (suc k))))) 0 (omega arith), less_none (suc (suc (suc (suc (suc k)))))) refl
 operator (fails r) ws = refl
 
-relation : (x : Judged ℕ) (ws : List ℕ) → operandsAt (end_of (goOn x (λ k. pick (ltb k 6) (ret k) (fail notWords)) ws)) 2 ≡ head_of (goOn x (choose 0 (plan (kAtom relEq) 2 ∷ plan (kAtom relNe) 2 ∷ plan (kAtom relGt) 2 ∷ plan (kAtom relGe) 2 ∷ plan (kAtom relLt) 2 ∷ plan (kAtom relLe) 2 ∷ [])) ws)
+relation : (x : Judged ℕ) (ws : List ℕ) → operands_at (end_of (go_on x (λ k. pick (ltb k 6) (ret k) (fail not_words)) ws)) 2 ≡ head_of (go_on x (choose 0 (plan (k_atom rel_eq) 2 ∷ plan (k_atom rel_ne) 2 ∷ plan (k_atom rel_gt) 2 ∷ plan (k_atom rel_ge) 2 ∷ plan (k_atom rel_lt) 2 ∷ plan (k_atom rel_le) 2 ∷ [])) ws)
 unfolding choose pick
 relation (reads zero m) ws = refl
 relation (reads (suc zero) m) ws = refl
@@ -74,137 +74,137 @@ relation (reads (suc (suc (suc (suc (suc (suc k)))))) m) ws =
 relation (fails r) ws = refl
 
 -- Or counts its operands like And.
-alike : (x : Judged ℕ) (ws : List ℕ) → head_of (goOn x (λ n. plan kAnd n) ws) ≡ head_of (goOn x (λ n. plan kOr n) ws)
+alike : (x : Judged ℕ) (ws : List ℕ) → head_of (go_on x (λ n. plan k_and n) ws) ≡ head_of (go_on x (λ n. plan k_or n) ws)
 alike (reads n m) ws = refl
 alike (fails r) ws = refl
 
 -- The fields of each kind.
 module _ (limit : ℕ) (ws : List ℕ) (at : ℕ) {e : End} {r : Header} where
-  behind : (x : End) (n : ℕ) → e ≡ x → r ≡ operandsAt e n → r ≡ operandsAt x n
-  behind x n q o = o ∙ ap (λ y. operandsAt y n) q
+  behind : (x : End) (n : ℕ) → e ≡ x → r ≡ operands_at e n → r ≡ operands_at x n
+  behind x n q o = o ∙ ap (λ y. operands_at y n) q
 
-  pub at-32 : e ≡ end_of (anyWords 4 ws at) → r ≡ operandsAt e 0 → r ≡ head_of (choose 32 (kinds limit) 32 ws at)
-  unfolding choose kinds pick several fourWords
-  at-32 q o =
-      behind (end_of (anyWords 4 ws at)) 0 q o ∙ more ws 0 3 (word ws at) _ _ λ a i. more ws 0 2 (word ws i) _ _ λ b j. more ws 0 1 (word ws j) _ _ λ c k. more ws 0 0 (word ws k) _ _ λ d l. refl
+  pub at_32 : e ≡ end_of (any_words 4 ws at) → r ≡ operands_at e 0 → r ≡ head_of (choose 32 (kinds limit) 32 ws at)
+  unfolding choose kinds pick several four_words
+  at_32 q o =
+      behind (end_of (any_words 4 ws at)) 0 q o ∙ more ws 0 3 (word ws at) _ _ λ a i. more ws 0 2 (word ws i) _ _ λ b j. more ws 0 1 (word ws j) _ _ λ c k. more ws 0 0 (word ws k) _ _ λ d l. refl
 
-  pub at-33 : e ≡ end_of (wordBelow 2 ws at) → r ≡ operandsAt e 0 → r ≡ head_of (choose 32 (kinds limit) 33 ws at)
+  pub at_33 : e ≡ end_of (word_below 2 ws at) → r ≡ operands_at e 0 → r ≡ head_of (choose 32 (kinds limit) 33 ws at)
   unfolding choose kinds pick
-  at-33 q o = behind (end_of (wordBelow 2 ws at)) 0 q o ∙ fields (wordBelow 2 ws at) (λ b. kBool (eqb b 1)) 0 ws
+  at_33 q o = behind (end_of (word_below 2 ws at)) 0 q o ∙ fields (word_below 2 ws at) (λ b. k_bool (eqb b 1)) 0 ws
 
-  pub at-34 : e ≡ end_of (spanWithin limit ws at) → r ≡ operandsAt e 0 → r ≡ head_of (choose 32 (kinds limit) 34 ws at)
+  pub at_34 : e ≡ end_of (span_within limit ws at) → r ≡ operands_at e 0 → r ≡ head_of (choose 32 (kinds limit) 34 ws at)
   unfolding choose kinds pick
-  at-34 q o = behind (end_of (spanWithin limit ws at)) 0 q o ∙ fields (spanWithin limit ws at) kStr 0 ws
+  at_34 q o = behind (end_of (span_within limit ws at)) 0 q o ∙ fields (span_within limit ws at) k_str 0 ws
 
-  pub at-35 : e ≡ end_of (anyWords 5 ws at) → r ≡ operandsAt e 0 → r ≡ head_of (choose 32 (kinds limit) 35 ws at)
-  unfolding choose kinds pick several fourWords
-  at-35 q o =
-      behind (end_of (anyWords 5 ws at)) 0 q o ∙ more ws 0 4 (word ws at) _ _ λ a i. more ws 0 3 (word ws i) _ _ λ b j. more ws 0 2 (word ws j) _ _ λ c k. more ws 0 1 (word ws k) _ _ λ d l. last ws 0 0 (word ws l) _ λ w m. refl
+  pub at_35 : e ≡ end_of (any_words 5 ws at) → r ≡ operands_at e 0 → r ≡ head_of (choose 32 (kinds limit) 35 ws at)
+  unfolding choose kinds pick several four_words
+  at_35 q o =
+      behind (end_of (any_words 5 ws at)) 0 q o ∙ more ws 0 4 (word ws at) _ _ λ a i. more ws 0 3 (word ws i) _ _ λ b j. more ws 0 2 (word ws j) _ _ λ c k. more ws 0 1 (word ws k) _ _ λ d l. last ws 0 0 (word ws l) _ λ w m. refl
 
-  pub at-36 : e ≡ end_of (anyWords 2 ws at) → r ≡ operandsAt e 0 → r ≡ head_of (choose 32 (kinds limit) 36 ws at)
+  pub at_36 : e ≡ end_of (any_words 2 ws at) → r ≡ operands_at e 0 → r ≡ head_of (choose 32 (kinds limit) 36 ws at)
   unfolding choose kinds pick
-  at-36 q o = behind (end_of (anyWords 2 ws at)) 0 q o ∙ numbered ws at kFresh 0
+  at_36 q o = behind (end_of (any_words 2 ws at)) 0 q o ∙ numbered ws at k_fresh 0
 
-  pub at-37 : e ≡ end_of (spanWithin limit ws at) → r ≡ operandsAt e 0 → r ≡ head_of (choose 32 (kinds limit) 37 ws at)
-  unfolding choose kinds pick nameWithin
-  at-37 q o = behind (end_of (spanWithin limit ws at)) 0 q o ∙ named (spanWithin limit ws at) kNamed 0 ws
+  pub at_37 : e ≡ end_of (span_within limit ws at) → r ≡ operands_at e 0 → r ≡ head_of (choose 32 (kinds limit) 37 ws at)
+  unfolding choose kinds pick name_within
+  at_37 q o = behind (end_of (span_within limit ws at)) 0 q o ∙ named (span_within limit ws at) k_named 0 ws
 
-  pub at-40 : e ≡ end_of (wordBelow 5 ws at) → r ≡ operandsAt e 2 → r ≡ head_of (choose 32 (kinds limit) 40 ws at)
-  unfolding choose kinds pick wordBelow
-  at-40 q o = behind (end_of (wordBelow 5 ws at)) 2 q o ∙ operator (word ws at) ws
+  pub at_40 : e ≡ end_of (word_below 5 ws at) → r ≡ operands_at e 2 → r ≡ head_of (choose 32 (kinds limit) 40 ws at)
+  unfolding choose kinds pick word_below
+  at_40 q o = behind (end_of (word_below 5 ws at)) 2 q o ∙ operator (word ws at) ws
 
-  pub at-47 : e ≡ end_of (wordBelow 6 ws at) → r ≡ operandsAt e 2 → r ≡ head_of (choose 32 (kinds limit) 47 ws at)
-  unfolding choose kinds pick wordBelow
-  at-47 q o = behind (end_of (wordBelow 6 ws at)) 2 q o ∙ relation (word ws at) ws
+  pub at_47 : e ≡ end_of (word_below 6 ws at) → r ≡ operands_at e 2 → r ≡ head_of (choose 32 (kinds limit) 47 ws at)
+  unfolding choose kinds pick word_below
+  at_47 q o = behind (end_of (word_below 6 ws at)) 2 q o ∙ relation (word ws at) ws
 
-  pub at-48 : e ≡ end_of (spanWithin limit ws at) → r ≡ operandsAt e 2 → r ≡ head_of (choose 32 (kinds limit) 48 ws at)
-  unfolding choose kinds pick nameWithin
-  at-48 q o = behind (end_of (spanWithin limit ws at)) 2 q o ∙ named (spanWithin limit ws at) kLet 2 ws
+  pub at_48 : e ≡ end_of (span_within limit ws at) → r ≡ operands_at e 2 → r ≡ head_of (choose 32 (kinds limit) 48 ws at)
+  unfolding choose kinds pick name_within
+  at_48 q o = behind (end_of (span_within limit ws at)) 2 q o ∙ named (span_within limit ws at) k_let 2 ws
 
-  pub at-49 : e ≡ end_of (wordBelow 42 ws at) → r ≡ operandsAt e 0 → r ≡ head_of (choose 32 (kinds limit) 49 ws at)
+  pub at_49 : e ≡ end_of (word_below 42 ws at) → r ≡ operands_at e 0 → r ≡ head_of (choose 32 (kinds limit) 49 ws at)
   unfolding choose kinds pick
-  at-49 q o = behind (end_of (wordBelow 42 ws at)) 0 q o ∙ fields (wordBelow 42 ws at) kTheory 0 ws
+  at_49 q o = behind (end_of (word_below 42 ws at)) 0 q o ∙ fields (word_below 42 ws at) k_theory 0 ws
 
-  pub at-50 : e ≡ end_of (spanWithin limit ws at) → r ≡ operandsAt e 1 → r ≡ head_of (choose 32 (kinds limit) 50 ws at)
-  unfolding choose kinds pick nameWithin
-  at-50 q o = behind (end_of (spanWithin limit ws at)) 1 q o ∙ named (spanWithin limit ws at) kIsCtor 1 ws
+  pub at_50 : e ≡ end_of (span_within limit ws at) → r ≡ operands_at e 1 → r ≡ head_of (choose 32 (kinds limit) 50 ws at)
+  unfolding choose kinds pick name_within
+  at_50 q o = behind (end_of (span_within limit ws at)) 1 q o ∙ named (span_within limit ws at) k_is_ctor 1 ws
 
-  pub at-52 : e ≡ end_of (anyWords 2 ws at) → r ≡ operandsAt e 2 → r ≡ head_of (choose 32 (kinds limit) 52 ws at)
+  pub at_52 : e ≡ end_of (any_words 2 ws at) → r ≡ operands_at e 2 → r ≡ head_of (choose 32 (kinds limit) 52 ws at)
   unfolding choose kinds pick
-  at-52 q o = behind (end_of (anyWords 2 ws at)) 2 q o ∙ numbered ws at kLetFresh 2
+  at_52 q o = behind (end_of (any_words 2 ws at)) 2 q o ∙ numbered ws at k_let_fresh 2
 
 module _ (limit : ℕ) (ws : List ℕ) (at : ℕ) where
-  pub at-38 : {r : Header} → r ≡ head_of (choose 32 (kinds 0) 38 ws at) → r ≡ head_of (choose 32 (kinds limit) 38 ws at)
+  pub at_38 : {r : Header} → r ≡ head_of (choose 32 (kinds 0) 38 ws at) → r ≡ head_of (choose 32 (kinds limit) 38 ws at)
   unfolding choose kinds pick
-  at-38 q = q
+  at_38 q = q
 
-  pub at-42 : {r : Header} → r ≡ head_of (choose 32 (kinds 0) 42 ws at) → r ≡ head_of (choose 32 (kinds limit) 42 ws at)
+  pub at_42 : {r : Header} → r ≡ head_of (choose 32 (kinds 0) 42 ws at) → r ≡ head_of (choose 32 (kinds limit) 42 ws at)
   unfolding choose kinds pick
-  at-42 q = q
+  at_42 q = q
 
-  pub at-43 : {r : Header} → r ≡ head_of (choose 32 (kinds 0) 42 ws at) → r ≡ head_of (choose 32 (kinds limit) 43 ws at)
+  pub at_43 : {r : Header} → r ≡ head_of (choose 32 (kinds 0) 42 ws at) → r ≡ head_of (choose 32 (kinds limit) 43 ws at)
   unfolding choose kinds pick
-  at-43 q = q ∙ alike (word ws at) ws
+  at_43 q = q ∙ alike (word ws at) ws
 
   -- Kinds that have no fields.
-  pub at-39 : Operands at 1 ≡ head_of (choose 32 (kinds limit) 39 ws at)
+  pub at_39 : Operands at 1 ≡ head_of (choose 32 (kinds limit) 39 ws at)
   unfolding choose kinds pick
-  at-39 = refl
+  at_39 = refl
 
-  pub at-41 : Operands at 3 ≡ head_of (choose 32 (kinds limit) 41 ws at)
+  pub at_41 : Operands at 3 ≡ head_of (choose 32 (kinds limit) 41 ws at)
   unfolding choose kinds pick
-  at-41 = refl
+  at_41 = refl
 
-  pub at-44 : Operands at 1 ≡ head_of (choose 32 (kinds limit) 44 ws at)
+  pub at_44 : Operands at 1 ≡ head_of (choose 32 (kinds limit) 44 ws at)
   unfolding choose kinds pick
-  at-44 = refl
+  at_44 = refl
 
-  pub at-45 : Operands at 2 ≡ head_of (choose 32 (kinds limit) 45 ws at)
+  pub at_45 : Operands at 2 ≡ head_of (choose 32 (kinds limit) 45 ws at)
   unfolding choose kinds pick
-  at-45 = refl
+  at_45 = refl
 
-  pub at-46 : Operands at 2 ≡ head_of (choose 32 (kinds limit) 46 ws at)
+  pub at_46 : Operands at 2 ≡ head_of (choose 32 (kinds limit) 46 ws at)
   unfolding choose kinds pick
-  at-46 = refl
+  at_46 = refl
 
 -- Operands behind fields.
-pub fields-end : {e : End} {a : ℕ} (n : ℕ) → e ≡ end.At a → Operands a n ≡ operandsAt e n
+pub fields-end : {e : End} {a : ℕ} (n : ℕ) → e ≡ end.At a → Operands a n ≡ operands_at e n
 fields-end n q = rw q refl
 
-pub fields-no : {e : End} {r : ℕ} (n : ℕ) → e ≡ end.No r → No r ≡ operandsAt e n
+pub fields-no : {e : End} {r : ℕ} (n : ℕ) → e ≡ end.No r → No r ≡ operands_at e n
 fields-no n q = rw q refl
 
 -- The fields of And, of an application and of Exists, by what the code has tested.
 module _ (ws : List ℕ) (at : ℕ) where
-  pub counted-in : at < length ws → Operands (at + 1) (get_or ws at 0) ≡ head_of (choose 32 (kinds 0) 42 ws at)
+  pub counted_in : at < length ws → Operands (at + 1) (get_or ws at 0) ≡ head_of (choose 32 (kinds 0) 42 ws at)
   unfolding choose kinds pick
-  counted-in h = rw (word_in ws at h) refl
+  counted_in h = rw (word_in ws at h) refl
 
   pub counted-out : length ws ≤ at → No 14 ≡ head_of (choose 32 (kinds 0) 42 ws at)
   unfolding choose kinds pick
   counted-out h = rw (word_out ws at h) refl
 
-  pub arguments-in : at < length ws → get_or ws at 0 < 2 → at + 1 < length ws → Arguments (at + 1 + 1) (eqb (get_or ws at 0) 1) (get_or ws (at + 1) 0) ≡ head_of (choose 32 (kinds 0) 38 ws at)
-  unfolding choose kinds pick wordBelow
-  arguments-in h l k = rw (word_in ws at h, lt-ltb (get_or ws at 0) 2 l, word_in ws (at + 1) k) refl
+  pub arguments_in : at < length ws → get_or ws at 0 < 2 → at + 1 < length ws → Arguments (at + 1 + 1) (eqb (get_or ws at 0) 1) (get_or ws (at + 1) 0) ≡ head_of (choose 32 (kinds 0) 38 ws at)
+  unfolding choose kinds pick word_below
+  arguments_in h l k = rw (word_in ws at h, lt-ltb (get_or ws at 0) 2 l, word_in ws (at + 1) k) refl
 
   pub arguments-half : at < length ws → get_or ws at 0 < 2 → length ws ≤ at + 1 → No 14 ≡ head_of (choose 32 (kinds 0) 38 ws at)
-  unfolding choose kinds pick wordBelow
+  unfolding choose kinds pick word_below
   arguments-half h l k = rw (word_in ws at h, lt-ltb (get_or ws at 0) 2 l, word_out ws (at + 1) k) refl
 
   pub arguments-no : at < length ws → 2 ≤ get_or ws at 0 → No 14 ≡ head_of (choose 32 (kinds 0) 38 ws at)
-  unfolding choose kinds pick wordBelow
+  unfolding choose kinds pick word_below
   arguments-no h l = rw (word_in ws at h, le-ltb (get_or ws at 0) 2 l) refl
 
   pub arguments-out : length ws ≤ at → No 14 ≡ head_of (choose 32 (kinds 0) 38 ws at)
-  unfolding choose kinds pick wordBelow
+  unfolding choose kinds pick word_below
   arguments-out h = rw (word_out ws at h) refl
 
-  pub quantified-in : (limit : ℕ) {e : End} {r : Header} → at < length ws → e ≡ end_of (bindersAt limit (get_or ws at 0) ws (at + 1)) → r ≡ operandsAt e 1 → r ≡ head_of (choose 32 (kinds limit) 51 ws at)
+  pub quantified_in : (limit : ℕ) {e : End} {r : Header} → at < length ws → e ≡ end_of (binders_at limit (get_or ws at 0) ws (at + 1)) → r ≡ operands_at e 1 → r ≡ head_of (choose 32 (kinds limit) 51 ws at)
   unfolding choose kinds pick
-  quantified-in limit h q o =
-      let bs : Judged (List Binder) = bindersAt limit (get_or ws at 0) ws (at + 1) in
-      rw (word_in ws at h) (o ∙ ap (λ y. operandsAt y 1) q ∙ fields bs kExists 1 ws)
+  quantified_in limit h q o =
+      let bs : Judged (List Binder) = binders_at limit (get_or ws at 0) ws (at + 1) in
+      rw (word_in ws at h) (o ∙ ap (λ y. operands_at y 1) q ∙ fields bs k_exists 1 ws)
 
   pub quantified-out : (limit : ℕ) → length ws ≤ at → No 14 ≡ head_of (choose 32 (kinds limit) 51 ws at)
   unfolding choose kinds pick

@@ -1,8 +1,8 @@
 // The kind and the fields of an expression, judged: where they end, and what follows them; or the refusal of words that are none.
 ghost use Rattle.std.specs.Prelude.{◌≡◌, [], ◌∷◌, ◌≤◌, length};
-ghost use Rattle.judging.specs.Judge.{word, wordBelow, choose, kinds, header, several};
+ghost use Rattle.judging.specs.Judge.{word, word_below, choose, kinds, header, several};
 ghost use Rattle.judging.specs.Ends.{end_of};
-ghost use Rattle.heads.specs.Heads.{head_of, operandsAt};
+ghost use Rattle.heads.specs.Heads.{head_of, operands_at};
 
 use judging::End;
 use sortwords::{binders_end, span_end};
@@ -33,7 +33,7 @@ fn skip(words: &[u32], at: usize, n: usize) -> End
 
 // A word below a bound.
 fn below(words: &[u32], at: usize, bound: u32) -> End
-    ensures { result ≡ end_of (wordBelow bound words.now at) }
+    ensures { result ≡ end_of (word_below bound words.now at) }
 {
     if at < words.len() {
         if words[at] < bound {
@@ -45,7 +45,7 @@ fn below(words: &[u32], at: usize, bound: u32) -> End
 
 // So many operands behind the fields.
 fn operands(fields: End, n: u32) -> Header
-    ensures { result ≡ operandsAt fields n }
+    ensures { result ≡ operands_at fields n }
 {
     match fields {
         End::At(a) => Header::Operands(a, n),

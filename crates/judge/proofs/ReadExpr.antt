@@ -6,14 +6,14 @@ use mathlib.Core.List.{List}
 use native.Mathlib.Omega.{arith}
 use lib.ListN.{length, get_or}
 use borrow.Author.Tests.{lt-ltb, le-ltb, eq-eqb, ne_eqb}
-use Rattle.reading.specs.Limits.{maxNodes}
+use Rattle.reading.specs.Limits.{max_nodes}
 use Rattle.reading.specs.Pick.{pick}
 use Rattle.reading.specs.Bytes.{just}
 use Rattle.grammar.specs.Expr.{Kind, Exprs, node, app, enil, econs}
 use Rattle.judging.specs.declared.End.{End}
 use Rattle.judging.specs.declared.End.TheVariants.{At, No}
 use Rattle.heads.specs.declared.Header.TheVariants as head
-use Rattle.judging.specs.Judge.{Judged, reads, fails, FromWords, Plan, operandsOf, argumentsOf, several, sortAt, sortIf, kinds, header, planned, exprDeep, atEnd, exprAt, judgeExpr, judgeSolution, word, bindersAt}
+use Rattle.judging.specs.Judge.{Judged, reads, fails, FromWords, Plan, operands_of, arguments_of, several, sort_at, sort_if, kinds, header, planned, expr_deep, at_end, expr_at, judge_expr, judge_solution, word, binders_at}
 use Rattle.judging.specs.Ends.{end_of}
 use Rattle.heads.specs.Heads.{head_of}
 use Rattle.judging.proofs.ReadFields.{ends-ret, word_in, word_out}
@@ -28,19 +28,19 @@ ends-no (reads a m) e = let z : ◌≡◌ {A = ℕ} 0 1 = cc in absurd (omega ar
 ends-no (fails r) e = cc
 
 -- A header whose answer is known.
-pub head-operands : (x : Judged Plan) {a n : ℕ} → head.Operands a n ≡ head_of x → (k : Kind) × (x ≡ reads (operandsOf k n) a)
-head-operands (reads (operandsOf k m) b) e = (k, cc)
-head-operands (reads (argumentsOf f m) b) e = let z : ◌≡◌ {A = ℕ} 0 1 = cc in absurd (omega arith)
+pub head-operands : (x : Judged Plan) {a n : ℕ} → head.Operands a n ≡ head_of x → (k : Kind) × (x ≡ reads (operands_of k n) a)
+head-operands (reads (operands_of k m) b) e = (k, cc)
+head-operands (reads (arguments_of f m) b) e = let z : ◌≡◌ {A = ℕ} 0 1 = cc in absurd (omega arith)
 head-operands (fails r) e = let z : ◌≡◌ {A = ℕ} 0 1 = cc in absurd (omega arith)
 
-pub head-arguments : (x : Judged Plan) {a n : ℕ} {f : Bool} → head.Arguments a f n ≡ head_of x → x ≡ reads (argumentsOf f n) a
-head-arguments (reads (operandsOf k m) b) e = let z : ◌≡◌ {A = ℕ} 0 1 = cc in absurd (omega arith)
-head-arguments (reads (argumentsOf f m) b) e = cc
+pub head-arguments : (x : Judged Plan) {a n : ℕ} {f : Bool} → head.Arguments a f n ≡ head_of x → x ≡ reads (arguments_of f n) a
+head-arguments (reads (operands_of k m) b) e = let z : ◌≡◌ {A = ℕ} 0 1 = cc in absurd (omega arith)
+head-arguments (reads (arguments_of f m) b) e = cc
 head-arguments (fails r) e = let z : ◌≡◌ {A = ℕ} 0 1 = cc in absurd (omega arith)
 
 pub head-no : (x : Judged Plan) {r : ℕ} → head.No r ≡ head_of x → x ≡ fails r
-head-no (reads (operandsOf k m) b) e = let z : ◌≡◌ {A = ℕ} 0 1 = cc in absurd (omega arith)
-head-no (reads (argumentsOf f m) b) e = let z : ◌≡◌ {A = ℕ} 0 1 = cc in absurd (omega arith)
+head-no (reads (operands_of k m) b) e = let z : ◌≡◌ {A = ℕ} 0 1 = cc in absurd (omega arith)
+head-no (reads (arguments_of f m) b) e = let z : ◌≡◌ {A = ℕ} 0 1 = cc in absurd (omega arith)
 head-no (fails r) e = cc
 
 -- So many, one after the other: one more, or none.
@@ -65,127 +65,127 @@ module _ {A B : Type 0} (p : FromWords A) (none : B) (put : A → B → B) (ws :
 
 -- So many expressions with room for so many inside one another.
 abbrev pub siblings : ℕ → ℕ → ℕ → FromWords Exprs
-siblings limit room n = several (exprDeep limit room) enil econs n
+siblings limit room n = several (expr_deep limit room) enil econs n
 
 module _ (ws : List ℕ) (at : ℕ) where
   -- Where there is no room.
-  pub full-known : at < length ws → 32 ≤ get_or ws at 0 → get_or ws at 0 < 53 → No 6 ≡ end_of (exprDeep 0 0 ws at)
-  unfolding exprDeep pick kinds
+  pub full-known : at < length ws → 32 ≤ get_or ws at 0 → get_or ws at 0 < 53 → No 6 ≡ end_of (expr_deep 0 0 ws at)
+  unfolding expr_deep pick kinds
   full-known h l k = rw (word_in ws at h, le-ltb (get_or ws at 0) 32 l, lt-ltb (get_or ws at 0) 53 k) refl
 
-  pub full-high : at < length ws → 32 ≤ get_or ws at 0 → 53 ≤ get_or ws at 0 → No 14 ≡ end_of (exprDeep 0 0 ws at)
-  unfolding exprDeep pick kinds
+  pub full-high : at < length ws → 32 ≤ get_or ws at 0 → 53 ≤ get_or ws at 0 → No 14 ≡ end_of (expr_deep 0 0 ws at)
+  unfolding expr_deep pick kinds
   full-high h l k = rw (word_in ws at h, le-ltb (get_or ws at 0) 32 l, le-ltb (get_or ws at 0) 53 k) refl
 
-  pub full-low : at < length ws → get_or ws at 0 < 32 → No 14 ≡ end_of (exprDeep 0 0 ws at)
-  unfolding exprDeep pick
+  pub full-low : at < length ws → get_or ws at 0 < 32 → No 14 ≡ end_of (expr_deep 0 0 ws at)
+  unfolding expr_deep pick
   full-low h l = rw (word_in ws at h, lt-ltb (get_or ws at 0) 32 l) refl
 
-  pub full-out : length ws ≤ at → No 14 ≡ end_of (exprDeep 0 0 ws at)
-  unfolding exprDeep
+  pub full-out : length ws ≤ at → No 14 ≡ end_of (expr_deep 0 0 ws at)
+  unfolding expr_deep
   full-out h = rw (word_out ws at h) refl
 
 module _ (limit : ℕ) (ws : List ℕ) (at : ℕ) where
   -- An output sort.
-  pub sort-none : {f : Bool} → f ≡ false → At at ≡ end_of (sortIf limit f ws at)
-  unfolding sortIf
+  pub sort-none : {f : Bool} → f ≡ false → At at ≡ end_of (sort_if limit f ws at)
+  unfolding sort_if
   sort-none e = rw e refl
 
-  pub sort-some : {f : Bool} {r : End} → f ≡ true → r ≡ end_of (sortAt limit ws at) → r ≡ end_of (sortIf limit f ws at)
-  unfolding sortIf
-  sort-some e q = rw e (q ∙ sym (ends-ret (sortAt limit ws at) just ws))
+  pub sort-some : {f : Bool} {r : End} → f ≡ true → r ≡ end_of (sort_at limit ws at) → r ≡ end_of (sort_if limit f ws at)
+  unfolding sort_if
+  sort-some e q = rw e (q ∙ sym (ends-ret (sort_at limit ws at) just ws))
 
   -- An expression.
-  pub expr-full : (room : ℕ) {r : End} → room ≡ 0 → r ≡ end_of (exprDeep 0 0 ws at) → r ≡ end_of (exprDeep limit room ws at)
-  unfolding exprDeep kinds
+  pub expr-full : (room : ℕ) {r : End} → room ≡ 0 → r ≡ end_of (expr_deep 0 0 ws at) → r ≡ end_of (expr_deep limit room ws at)
+  unfolding expr_deep kinds
   expr-full room e q = rw e q
 
-  pub expr-no : (room : ℕ) {r : ℕ} → (room ≡ 0 → ⊥) → head.No r ≡ head_of (header limit ws at) → No r ≡ end_of (exprDeep limit room ws at)
-  unfolding exprDeep
+  pub expr-no : (room : ℕ) {r : ℕ} → (room ≡ 0 → ⊥) → head.No r ≡ head_of (header limit ws at) → No r ≡ end_of (expr_deep limit room ws at)
+  unfolding expr_deep
   expr-no zero z e = absurd (z refl)
   expr-no (suc room) {r} z e = let h : header limit ws at ≡ fails r = head-no (header limit ws at) e in rw h refl
 
-  pub expr-operands : (room : ℕ) {r : End} {a n : ℕ} → (room ≡ 0 → ⊥) → head.Operands a n ≡ head_of (header limit ws at) → r ≡ end_of (siblings limit (room - 1) n ws a) → r ≡ end_of (exprDeep limit room ws at)
-  unfolding exprDeep planned
+  pub expr-operands : (room : ℕ) {r : End} {a n : ℕ} → (room ≡ 0 → ⊥) → head.Operands a n ≡ head_of (header limit ws at) → r ≡ end_of (siblings limit (room - 1) n ws a) → r ≡ end_of (expr_deep limit room ws at)
+  unfolding expr_deep planned
   expr-operands zero z e s = absurd (z refl)
   expr-operands (suc room) {r} {a} {n} z e s =
       let h = head-operands (header limit ws at) e in
       let p : suc room - 1 ≡ room = omega arith in
       rw (h.1, ← p) (s ∙ sym (ends-ret (siblings limit (suc room - 1) n ws a) (node h.0) ws))
 
-  pub expr-arguments : (room : ℕ) {a n r : ℕ} {f : Bool} → (room ≡ 0 → ⊥) → head.Arguments a f n ≡ head_of (header limit ws at) → No r ≡ end_of (siblings limit (room - 1) n ws a) → No r ≡ end_of (exprDeep limit room ws at)
-  unfolding exprDeep planned
+  pub expr-arguments : (room : ℕ) {a n r : ℕ} {f : Bool} → (room ≡ 0 → ⊥) → head.Arguments a f n ≡ head_of (header limit ws at) → No r ≡ end_of (siblings limit (room - 1) n ws a) → No r ≡ end_of (expr_deep limit room ws at)
+  unfolding expr_deep planned
   expr-arguments zero z e s = absurd (z refl)
   expr-arguments (suc room) {a} {n} {r} {f} z e s =
-      let h : header limit ws at ≡ reads (argumentsOf f n) a = head-arguments (header limit ws at) e in
+      let h : header limit ws at ≡ reads (arguments_of f n) a = head-arguments (header limit ws at) e in
       let p : suc room - 1 ≡ room = omega arith in
       let x : siblings limit (suc room - 1) n ws a ≡ fails r = ends-no (siblings limit (suc room - 1) n ws a) s in
       rw (h, ← p, x) refl
 
-  pub expr-sort : (room : ℕ) {a n d r : ℕ} {f : Bool} → (room ≡ 0 → ⊥) → head.Arguments a f n ≡ head_of (header limit ws at) → At d ≡ end_of (siblings limit (room - 1) n ws a) → No r ≡ end_of (sortIf limit f ws d) → No r ≡ end_of (exprDeep limit room ws at)
-  unfolding exprDeep planned
+  pub expr-sort : (room : ℕ) {a n d r : ℕ} {f : Bool} → (room ≡ 0 → ⊥) → head.Arguments a f n ≡ head_of (header limit ws at) → At d ≡ end_of (siblings limit (room - 1) n ws a) → No r ≡ end_of (sort_if limit f ws d) → No r ≡ end_of (expr_deep limit room ws at)
+  unfolding expr_deep planned
   expr-sort zero z e s o = absurd (z refl)
   expr-sort (suc room) {a} {n} {d} {r} {f} z e s o =
-      let h : header limit ws at ≡ reads (argumentsOf f n) a = head-arguments (header limit ws at) e in
+      let h : header limit ws at ≡ reads (arguments_of f n) a = head-arguments (header limit ws at) e in
       let p : suc room - 1 ≡ room = omega arith in
       let x = ends_at (siblings limit (suc room - 1) n ws a) s in
-      let y : sortIf limit f ws d ≡ fails r = ends-no (sortIf limit f ws d) o in
+      let y : sort_if limit f ws d ≡ fails r = ends-no (sort_if limit f ws d) o in
       rw (h, ← p, x.1, y) refl
 
-  pub expr-app : (room : ℕ) {a n d g : ℕ} {f : Bool} {r : End} → (room ≡ 0 → ⊥) → head.Arguments a f n ≡ head_of (header limit ws at) → At d ≡ end_of (siblings limit (room - 1) n ws a) → At g ≡ end_of (sortIf limit f ws d) → r ≡ end_of (exprDeep limit (room - 1) ws g) → r ≡ end_of (exprDeep limit room ws at)
-  unfolding exprDeep planned
+  pub expr-app : (room : ℕ) {a n d g : ℕ} {f : Bool} {r : End} → (room ≡ 0 → ⊥) → head.Arguments a f n ≡ head_of (header limit ws at) → At d ≡ end_of (siblings limit (room - 1) n ws a) → At g ≡ end_of (sort_if limit f ws d) → r ≡ end_of (expr_deep limit (room - 1) ws g) → r ≡ end_of (expr_deep limit room ws at)
+  unfolding expr_deep planned
   expr-app zero z e s o q = absurd (z refl)
   expr-app (suc room) {a} {n} {d} {g} {f} {r} z e s o q =
-      let h : header limit ws at ≡ reads (argumentsOf f n) a = head-arguments (header limit ws at) e in
+      let h : header limit ws at ≡ reads (arguments_of f n) a = head-arguments (header limit ws at) e in
       let p : suc room - 1 ≡ room = omega arith in
       let x = ends_at (siblings limit (suc room - 1) n ws a) s in
-      let y = ends_at (sortIf limit f ws d) o in
-      rw (h, ← p, x.1, y.1) (q ∙ sym (ends-ret (exprDeep limit (suc room - 1) ws g) (app y.0 x.0) ws))
+      let y = ends_at (sort_if limit f ws d) o in
+      rw (h, ← p, x.1, y.1) (q ∙ sym (ends-ret (expr_deep limit (suc room - 1) ws g) (app y.0 x.0) ws))
 
 -- The whole of the words.
 module _ (limit : ℕ) (ws : List ℕ) where
-  pub whole-all : {n : ℕ} → At n ≡ end_of (exprDeep limit maxNodes ws 0) → n ≡ length ws → At n ≡ end_of (judgeExpr limit ws)
-  unfolding judgeExpr exprAt atEnd pick
-  whole-all {n} e l = let m = ends_at (exprDeep limit maxNodes ws 0) e in rw (m.1, eq-eqb n (length ws) l) refl
+  pub whole-all : {n : ℕ} → At n ≡ end_of (expr_deep limit max_nodes ws 0) → n ≡ length ws → At n ≡ end_of (judge_expr limit ws)
+  unfolding judge_expr expr_at at_end pick
+  whole-all {n} e l = let m = ends_at (expr_deep limit max_nodes ws 0) e in rw (m.1, eq-eqb n (length ws) l) refl
 
-  pub whole-left : {n : ℕ} → At n ≡ end_of (exprDeep limit maxNodes ws 0) → (n ≡ length ws → ⊥) → No 14 ≡ end_of (judgeExpr limit ws)
-  unfolding judgeExpr exprAt atEnd pick
-  whole-left {n} e l = let m = ends_at (exprDeep limit maxNodes ws 0) e in rw (m.1, ne_eqb n (length ws) l) refl
+  pub whole-left : {n : ℕ} → At n ≡ end_of (expr_deep limit max_nodes ws 0) → (n ≡ length ws → ⊥) → No 14 ≡ end_of (judge_expr limit ws)
+  unfolding judge_expr expr_at at_end pick
+  whole-left {n} e l = let m = ends_at (expr_deep limit max_nodes ws 0) e in rw (m.1, ne_eqb n (length ws) l) refl
 
-  pub whole-no : {r : ℕ} → No r ≡ end_of (exprDeep limit maxNodes ws 0) → No r ≡ end_of (judgeExpr limit ws)
-  unfolding judgeExpr exprAt
-  whole-no {r} e = let m : exprDeep limit maxNodes ws 0 ≡ fails r = ends-no (exprDeep limit maxNodes ws 0) e in rw m refl
+  pub whole-no : {r : ℕ} → No r ≡ end_of (expr_deep limit max_nodes ws 0) → No r ≡ end_of (judge_expr limit ws)
+  unfolding judge_expr expr_at
+  whole-no {r} e = let m : expr_deep limit max_nodes ws 0 ≡ fails r = ends-no (expr_deep limit max_nodes ws 0) e in rw m refl
 
   -- A solution: the number of its parameters, these, the body, and nothing more.
-  pub solution-none : length ws ≡ 0 → No 14 ≡ end_of (judgeSolution limit ws)
-  unfolding judgeSolution
+  pub solution-none : length ws ≡ 0 → No 14 ≡ end_of (judge_solution limit ws)
+  unfolding judge_solution
   solution-none h = rw (word_out ws 0 (omega (arith, h))) refl
 
   module _ (some : length ws ≡ 0 → ⊥) where
     first_word : word ws 0 ≡ reads (get_or ws 0 0) (0 + 1)
     first_word = word_in ws 0 (omega (arith, some))
 
-    pub solution-params : {r : ℕ} → No r ≡ end_of (bindersAt limit (get_or ws 0 0) ws 1) → No r ≡ end_of (judgeSolution limit ws)
-    unfolding judgeSolution
-    solution-params e = rw (first_word, ends-no (bindersAt limit (get_or ws 0 0) ws 1) e) refl
+    pub solution-params : {r : ℕ} → No r ≡ end_of (binders_at limit (get_or ws 0 0) ws 1) → No r ≡ end_of (judge_solution limit ws)
+    unfolding judge_solution
+    solution-params e = rw (first_word, ends-no (binders_at limit (get_or ws 0 0) ws 1) e) refl
 
-    module _ {a : ℕ} (e : At a ≡ end_of (bindersAt limit (get_or ws 0 0) ws 1)) where
-      pub solution-body : {r : ℕ} → No r ≡ end_of (exprDeep limit maxNodes ws a) → No r ≡ end_of (judgeSolution limit ws)
-      unfolding judgeSolution exprAt
+    module _ {a : ℕ} (e : At a ≡ end_of (binders_at limit (get_or ws 0 0) ws 1)) where
+      pub solution-body : {r : ℕ} → No r ≡ end_of (expr_deep limit max_nodes ws a) → No r ≡ end_of (judge_solution limit ws)
+      unfolding judge_solution expr_at
       solution-body f =
-          let b = ends_at (bindersAt limit (get_or ws 0 0) ws 1) e in
-          rw (first_word, b.1, ends-no (exprDeep limit maxNodes ws a) f) refl
+          let b = ends_at (binders_at limit (get_or ws 0 0) ws 1) e in
+          rw (first_word, b.1, ends-no (expr_deep limit max_nodes ws a) f) refl
 
-      pub solution-left : {n : ℕ} → At n ≡ end_of (exprDeep limit maxNodes ws a) → (n ≡ length ws → ⊥) → No 14 ≡ end_of (judgeSolution limit ws)
-      unfolding judgeSolution exprAt atEnd pick
+      pub solution-left : {n : ℕ} → At n ≡ end_of (expr_deep limit max_nodes ws a) → (n ≡ length ws → ⊥) → No 14 ≡ end_of (judge_solution limit ws)
+      unfolding judge_solution expr_at at_end pick
       solution-left {n} f l =
-          let b = ends_at (bindersAt limit (get_or ws 0 0) ws 1) e in
-          let x = ends_at (exprDeep limit maxNodes ws a) f in
+          let b = ends_at (binders_at limit (get_or ws 0 0) ws 1) e in
+          let x = ends_at (expr_deep limit max_nodes ws a) f in
           rw (first_word, b.1, x.1, ne_eqb n (length ws) l) refl
 
-      pub solution-all : {n : ℕ} → At n ≡ end_of (exprDeep limit maxNodes ws a) → n ≡ length ws → At n ≡ end_of (judgeSolution limit ws)
-      unfolding judgeSolution exprAt atEnd pick
+      pub solution-all : {n : ℕ} → At n ≡ end_of (expr_deep limit max_nodes ws a) → n ≡ length ws → At n ≡ end_of (judge_solution limit ws)
+      unfolding judge_solution expr_at at_end pick
       solution-all {n} f l =
-          let b = ends_at (bindersAt limit (get_or ws 0 0) ws 1) e in
-          let x = ends_at (exprDeep limit maxNodes ws a) f in
+          let b = ends_at (binders_at limit (get_or ws 0 0) ws 1) e in
+          let x = ends_at (expr_deep limit max_nodes ws a) f in
           rw (first_word, b.1, x.1, eq-eqb n (length ws) l) refl

@@ -1,7 +1,7 @@
 // Words judged: where an expression ends that begins at a place, and words that are one expression or one solution; or the refusal of others.
 ghost use Rattle.std.specs.Prelude.{◌≡◌};
 ghost use Rattle.grammar.specs.Expr.{enil, econs};
-ghost use Rattle.judging.specs.Judge.{sortIf, exprDeep, several, judgeExpr, judgeSolution};
+ghost use Rattle.judging.specs.Judge.{sort_if, expr_deep, several, judge_expr, judge_solution};
 ghost use Rattle.judging.specs.Ends.{end_of};
 
 use heads::{Header, head};
@@ -15,7 +15,7 @@ pub const NO_TEXT: u64 = 8589934592;
 
 // An expression where there is no room for one.
 fn no_room(words: &[u32], at: usize) -> End
-    ensures { result ≡ end_of (exprDeep 0 0 words.now at) }
+    ensures { result ≡ end_of (expr_deep 0 0 words.now at) }
 {
     if at < words.len() {
         let k = words[at];
@@ -30,7 +30,7 @@ fn no_room(words: &[u32], at: usize) -> End
 
 // An output sort where the flag says that there is one.
 pub fn out_sort(words: &[u32], at: usize, limit: u64, flag: bool) -> End
-    ensures { result ≡ end_of (sortIf limit flag words.now at) }
+    ensures { result ≡ end_of (sort_if limit flag words.now at) }
 {
     if flag {
         return sort_end(words, at, limit);
@@ -41,7 +41,7 @@ pub fn out_sort(words: &[u32], at: usize, limit: u64, flag: bool) -> End
 // The expression at a place, with room for so many inside one another.
 #[cycle(expr_end_exprs_end)]
 pub fn expr_end(words: &[u32], at: usize, limit: u64, room: u32) -> End
-    ensures { result ≡ end_of (exprDeep limit room words.now at) }
+    ensures { result ≡ end_of (expr_deep limit room words.now at) }
 {
     if room == 0 {
         return no_room(words, at);
@@ -62,7 +62,7 @@ pub fn expr_end(words: &[u32], at: usize, limit: u64, room: u32) -> End
 // So many expressions, one after the other.
 #[cycle(expr_end_exprs_end)]
 pub fn exprs_end(words: &[u32], at: usize, n: u32, limit: u64, room: u32) -> End
-    ensures { result ≡ end_of (several (exprDeep limit room) enil econs n words.now at) }
+    ensures { result ≡ end_of (several (expr_deep limit room) enil econs n words.now at) }
 {
     let mut a = at;
     let mut i = n;
@@ -82,7 +82,7 @@ pub fn exprs_end(words: &[u32], at: usize, n: u32, limit: u64, room: u32) -> End
 
 // Words that are one expression and no more.
 pub fn judge(words: &[u32], limit: u64) -> End
-    ensures { result ≡ end_of (judgeExpr limit words.now) }
+    ensures { result ≡ end_of (judge_expr limit words.now) }
 {
     match expr_end(words, 0, limit, MAX_NODES) {
         End::At(n) => {
@@ -98,7 +98,7 @@ pub fn judge(words: &[u32], limit: u64) -> End
 
 // Words that are one solution and no more: how many parameters, these, and the body.
 pub fn solution(words: &[u32], limit: u64) -> End
-    ensures { result ≡ end_of (judgeSolution limit words.now) }
+    ensures { result ≡ end_of (judge_solution limit words.now) }
 {
     if words.len() == 0 {
         return End::No(14);

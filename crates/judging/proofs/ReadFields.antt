@@ -7,15 +7,15 @@ use lib.ListN.{length, get_or}
 use borrow.Author.Tests.{lt-ltb, le-ltb}
 use Rattle.reading.specs.Pick.{pick}
 use Rattle.judging.specs.declared.End.TheVariants.{At, No}
-use Rattle.judging.specs.Judge.{Judged, reads, fails, FromWords, goOn, ret, word, wordBelow, several}
+use Rattle.judging.specs.Judge.{Judged, reads, fails, FromWords, go_on, ret, word, word_below, several}
 use Rattle.judging.specs.Ends.{end_of}
 
 -- So many words of any value.
-abbrev pub anyWords : ℕ → FromWords (List ℕ)
-anyWords n = several word [] (λ a rest. a ∷ rest) n
+abbrev pub any_words : ℕ → FromWords (List ℕ)
+any_words n = several word [] (λ a rest. a ∷ rest) n
 
 -- What is made of what was read does not matter to the place behind it.
-pub ends-ret : {A B : Type 0} (x : Judged A) (g : A → B) (ws : List ℕ) → end_of (goOn x (λ a. ret (g a)) ws) ≡ end_of x
+pub ends-ret : {A B : Type 0} (x : Judged A) (g : A → B) (ws : List ℕ) → end_of (go_on x (λ a. ret (g a)) ws) ≡ end_of x
 ends-ret (reads a m) g ws = refl
 ends-ret (fails r) g ws = refl
 
@@ -30,34 +30,34 @@ module _ (ws : List ℕ) (at : ℕ) where
   word_out h = rw (le-ltb at (length ws) h) refl
 
   -- A word below a bound.
-  pub below_in : (m : ℕ) → at < length ws → get_or ws at 0 < m → At (at + 1) ≡ end_of (wordBelow m ws at)
-  unfolding wordBelow pick
+  pub below_in : (m : ℕ) → at < length ws → get_or ws at 0 < m → At (at + 1) ≡ end_of (word_below m ws at)
+  unfolding word_below pick
   below_in m h l = rw (word_in h, lt-ltb (get_or ws at 0) m l) refl
 
-  pub below-no : (m : ℕ) → at < length ws → m ≤ get_or ws at 0 → No 14 ≡ end_of (wordBelow m ws at)
-  unfolding wordBelow pick
+  pub below-no : (m : ℕ) → at < length ws → m ≤ get_or ws at 0 → No 14 ≡ end_of (word_below m ws at)
+  unfolding word_below pick
   below-no m h l = rw (word_in h, le-ltb (get_or ws at 0) m l) refl
 
-  pub below_out : (m : ℕ) → length ws ≤ at → No 14 ≡ end_of (wordBelow m ws at)
-  unfolding wordBelow
+  pub below_out : (m : ℕ) → length ws ≤ at → No 14 ≡ end_of (word_below m ws at)
+  unfolding word_below
   below_out m h = rw (word_out h) refl
 
 module _ (ws : List ℕ) where
   -- So many words are there, or they are not.
-  pub any-in : (n at : ℕ) → at ≤ length ws → n ≤ length ws - at → At (at + n) ≡ end_of (anyWords n ws at)
+  pub any_in : (n at : ℕ) → at ≤ length ws → n ≤ length ws - at → At (at + n) ≡ end_of (any_words n ws at)
   unfolding several
-  any-in zero at h l = ap At (omega arith)
-  any-in (suc n) at h l =
+  any_in zero at h l = ap At (omega arith)
+  any_in (suc n) at h l =
       let e : at + suc n ≡ at + 1 + n = omega arith in
-      rw (word_in ws at (omega arith), e) (any-in n (at + 1) (omega arith) (omega arith) ∙ sym (ends-ret (anyWords n ws (at + 1)) (λ rest. get_or ws at 0 ∷ rest) ws))
+      rw (word_in ws at (omega arith), e) (any_in n (at + 1) (omega arith) (omega arith) ∙ sym (ends-ret (any_words n ws (at + 1)) (λ rest. get_or ws at 0 ∷ rest) ws))
 
-  out_step : (n at left : ℕ) → length ws - at ≡ left → (at < length ws → No 14 ≡ end_of (anyWords n ws (at + 1))) → No 14 ≡ end_of (anyWords (suc n) ws at)
+  out_step : (n at left : ℕ) → length ws - at ≡ left → (at < length ws → No 14 ≡ end_of (any_words n ws (at + 1))) → No 14 ≡ end_of (any_words (suc n) ws at)
   unfolding several
   out_step n at zero e h = rw (word_out ws at (omega arith)) refl
   out_step n at (suc left) e h =
       let l : at < length ws = omega arith in
-      rw (word_in ws at l) (h l ∙ sym (ends-ret (anyWords n ws (at + 1)) (λ rest. get_or ws at 0 ∷ rest) ws))
+      rw (word_in ws at l) (h l ∙ sym (ends-ret (any_words n ws (at + 1)) (λ rest. get_or ws at 0 ∷ rest) ws))
 
-  pub any_out : (n at : ℕ) → at ≤ length ws → length ws - at < n → No 14 ≡ end_of (anyWords n ws at)
+  pub any_out : (n at : ℕ) → at ≤ length ws → length ws - at < n → No 14 ≡ end_of (any_words n ws at)
   any_out zero at h l = absurd (omega arith)
   any_out (suc n) at h l = out_step n at (length ws - at) refl λ k. any_out n (at + 1) (omega arith) (omega arith)

@@ -10,6 +10,6 @@ end_of (reads a at) = end.At at
 end_of (fails r) = end.No r
 
 -- The place behind what was judged, or the place before it.
-abbrev pub behindOf : End → ℕ → ℕ
-behindOf (end.At n) at = n
-behindOf (end.No r) at = at
+abbrev pub behind_of : End → ℕ → ℕ
+behind_of (end.At n) at = n
+behind_of (end.No r) at = at

@@ -2,7 +2,7 @@
 // proofs say that the words of a term are read as that term, and that judged words are the words of what was read. The code answers where
 // what is judged ends.
 ghost use Rattle.std.specs.Prelude.{◌≡◌};
-ghost use Rattle.judging.specs.Ends.{behindOf};
+ghost use Rattle.judging.specs.Ends.{behind_of};
 
 // The place behind what was read, or the number of a refusal.
 #[derive(Drop)]
@@ -13,7 +13,7 @@ pub enum End {
 
 // The place behind what was judged before, or the place before it.
 pub fn behind(end: End, at: usize) -> usize
-    ensures { result ≡ behindOf end at }
+    ensures { result ≡ behind_of end at }
 {
     match end {
         End::At(n) => n,

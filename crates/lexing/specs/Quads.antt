@@ -13,28 +13,28 @@ use Rattle.lexing.specs.declared.number.Quick.{Quick}
 use Rattle.lexing.specs.declared.number.Quick.TheVariants as quick
 
 -- Four words, as a definition and as the code have them.
-abbrev pub asQuad : Wide → Quad
-asQuad w = record { a = w.a; b = w.b; c = w.c; d = w.d }
+abbrev pub as_quad : Wide → Quad
+as_quad w = record { a = w.a; b = w.b; c = w.c; d = w.d }
 
 abbrev pub as_wide : Quad → Wide
 as_wide q = record { a = q.a; b = q.b; c = q.c; d = q.d }
 
 -- A number below 2^128, an integer in two's complement, and numbers of 32 and 64 bits.
-abbrev pub asMag : Maybe ℕ → Mag
-asMag nothing = mag.No
-asMag (just n) = mag.Is (asQuad (wide_of n))
+abbrev pub as_mag : Maybe ℕ → Mag
+as_mag nothing = mag.No
+as_mag (just n) = mag.Is (as_quad (wide_of n))
 
-abbrev pub asInteger : Maybe Wide → Mag
-asInteger nothing = mag.No
-asInteger (just w) = mag.Is (asQuad w)
+abbrev pub as_integer : Maybe Wide → Mag
+as_integer nothing = mag.No
+as_integer (just w) = mag.Is (as_quad w)
 
-abbrev pub asWord32 : Maybe ℕ → Word32
-asWord32 nothing = word32.No
-asWord32 (just n) = word32.Is n
+abbrev pub as_word32 : Maybe ℕ → Word32
+as_word32 nothing = word32.No
+as_word32 (just n) = word32.Is n
 
-abbrev pub asWord64 : Maybe ℕ → Word64
-asWord64 nothing = word64.No
-asWord64 (just n) = word64.Is n
+abbrev pub as_word64 : Maybe ℕ → Word64
+as_word64 nothing = word64.No
+as_word64 (just n) = word64.Is n
 
 -- The number that four words stand for, if they are there.
 abbrev pub number_of : Mag → Maybe ℕ

@@ -1,10 +1,10 @@
 // Byte strings compared with one another, and found in a text.
 ghost use Rattle.std.specs.Prelude.{◌≡◌, ◌+◌, ◌≤◌, length, drop};
-ghost use Rattle.reading.specs.Bytes.{sameBytes, beginsWith, before, starts_with};
+ghost use Rattle.reading.specs.Bytes.{same_bytes, begins_with, before, starts_with};
 
 // Whether two slices hold the same bytes. Names of one length often begin alike, so the last bytes are compared first.
 pub fn same(a: &[u8], b: &[u8]) -> bool
-    ensures { result ≡ sameBytes a.now b.now }
+    ensures { result ≡ same_bytes a.now b.now }
 {
     let n = a.len();
     if n != b.len() {
@@ -29,7 +29,7 @@ pub fn same(a: &[u8], b: &[u8]) -> bool
 
 // Whether s begins with w.
 pub fn begins_with(w: &[u8], s: &[u8]) -> bool
-    ensures { result ≡ beginsWith w.now s.now }
+    ensures { result ≡ begins_with w.now s.now }
 {
     let n = w.len();
     if s.len() < n {

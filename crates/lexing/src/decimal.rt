@@ -1,7 +1,7 @@
 // Which bytes are a decimal.
 ghost use Rattle.std.specs.Prelude.{◌≡◌, ◌≤◌, length, drop};
-ghost use Rattle.reading.specs.Number.{signBytes};
-ghost use Rattle.reading.specs.Decimal.{leadingDigits, someDigits, isExponent, isFraction, isUnsignedDecimal, isDecimal};
+ghost use Rattle.reading.specs.Number.{sign_bytes};
+ghost use Rattle.reading.specs.Decimal.{leading_digits, some_digits, is_exponent, is_fraction, is_unsigned_decimal, is_decimal};
 
 use crate::integer::sign_bytes;
 use crate::number::is_digit;
@@ -9,7 +9,7 @@ use words::number::byte_to_long;
 
 // How many digits stand in front.
 fn leading_digits(t: &[u8]) -> usize
-    ensures { (result ≡ leadingDigits t.now) × (result ≤ length t.now) }
+    ensures { (result ≡ leading_digits t.now) × (result ≤ length t.now) }
 {
     let mut i = 0;
     while i < t.len() {
@@ -23,7 +23,7 @@ fn leading_digits(t: &[u8]) -> usize
 
 // Whether the bytes are digits, at least one.
 fn some_digits(t: &[u8]) -> bool
-    ensures { result ≡ someDigits t.now }
+    ensures { result ≡ some_digits t.now }
 {
     if t.len() == 0 {
         return false;
@@ -33,7 +33,7 @@ fn some_digits(t: &[u8]) -> bool
 
 // Whether the bytes are an optional sign and digits.
 fn signed_digits(t: &[u8]) -> bool
-    ensures { result ≡ someDigits (drop (signBytes t.now) t.now) }
+    ensures { result ≡ some_digits (drop (sign_bytes t.now) t.now) }
 {
     let k = sign_bytes(t);
     some_digits(&t[k..])
@@ -41,7 +41,7 @@ fn signed_digits(t: &[u8]) -> bool
 
 // Whether the bytes are an exponent, or none are there.
 fn is_exponent(t: &[u8]) -> bool
-    ensures { result ≡ isExponent t.now }
+    ensures { result ≡ is_exponent t.now }
 {
     if t.len() == 0 {
         return true;
@@ -59,7 +59,7 @@ fn is_exponent(t: &[u8]) -> bool
 // Whether n digits in front and the bytes behind them are a decimal.
 fn is_fraction(t: &[u8], n: usize) -> bool
     requires { n ≤ length t.now }
-    ensures { result ≡ isFraction n (drop n t.now) }
+    ensures { result ≡ is_fraction n (drop n t.now) }
 {
     if t.len() <= n {
         return 0 < n;
@@ -79,7 +79,7 @@ fn is_fraction(t: &[u8], n: usize) -> bool
 
 // Whether the bytes are a decimal without a sign.
 fn is_unsigned(t: &[u8]) -> bool
-    ensures { result ≡ isUnsignedDecimal t.now }
+    ensures { result ≡ is_unsigned_decimal t.now }
 {
     let n = leading_digits(t);
     is_fraction(t, n)
@@ -87,7 +87,7 @@ fn is_unsigned(t: &[u8]) -> bool
 
 // Whether the bytes are a decimal.
 pub fn is_decimal(t: &[u8]) -> bool
-    ensures { result ≡ isDecimal t.now }
+    ensures { result ≡ is_decimal t.now }
 {
     let k = sign_bytes(t);
     is_unsigned(&t[k..])

@@ -1,15 +1,15 @@
 // Integers of 128 bits, in two's complement.
 ghost use Rattle.std.specs.Prelude.{◌≡◌, true, false, ◌≤◌, length};
 ghost use Rattle.reading.specs.Bytes.{just};
-ghost use Rattle.reading.specs.Number.{value_of, signBytes, signed as signed_of, integerOf};
-ghost use Rattle.lexing.specs.Quads.{as_wide, asInteger, number_of};
+ghost use Rattle.reading.specs.Number.{value_of, sign_bytes, signed as signed_of, integer_of};
+ghost use Rattle.lexing.specs.Quads.{as_wide, as_integer, number_of};
 
 use crate::number::{Mag, magnitude, plus_bytes};
 use crate::quad::{Quad, negate};
 
 // How many bytes a sign takes in front.
 pub fn sign_bytes(t: &[u8]) -> usize
-    ensures { (result ≡ signBytes t.now) × (result ≤ length t.now) }
+    ensures { (result ≡ sign_bytes t.now) × (result ≤ length t.now) }
 {
     if t.len() == 0 {
         return 0;
@@ -22,7 +22,7 @@ pub fn sign_bytes(t: &[u8]) -> usize
 
 // A magnitude as an integer, where it is in range.
 fn positive(q: Quad) -> Mag
-    ensures { result ≡ asInteger (signed_of false (just (value_of (as_wide q)))) }
+    ensures { result ≡ as_integer (signed_of false (just (value_of (as_wide q)))) }
 {
     if q.d < 0x8000_0000 {
         return Mag::Is(q);
@@ -32,7 +32,7 @@ fn positive(q: Quad) -> Mag
 
 // Minus a magnitude as an integer, where it is in range: 2^127 is the last.
 fn negative(q: Quad) -> Mag
-    ensures { result ≡ asInteger (signed_of true (just (value_of (as_wide q)))) }
+    ensures { result ≡ as_integer (signed_of true (just (value_of (as_wide q)))) }
 {
     if q.d < 0x8000_0000 {
         return Mag::Is(negate(q));
@@ -54,7 +54,7 @@ fn negative(q: Quad) -> Mag
 
 // A magnitude with its sign as an integer, where there is one and it is in range.
 fn signed(minus: bool, m: Mag) -> Mag
-    ensures { result ≡ asInteger (signed_of minus (number_of m)) }
+    ensures { result ≡ as_integer (signed_of minus (number_of m)) }
 {
     match m {
         Mag::Is(q) => {
@@ -69,7 +69,7 @@ fn signed(minus: bool, m: Mag) -> Mag
 
 // The integer that the bytes are: an optional sign and digits.
 pub fn integer(t: &[u8]) -> Mag
-    ensures { result ≡ asInteger (integerOf t.now) }
+    ensures { result ≡ as_integer (integer_of t.now) }
 {
     if t.len() == 0 {
         return Mag::No;

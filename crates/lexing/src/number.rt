@@ -1,8 +1,8 @@
 // Numbers in digits.
 ghost use Rattle.std.specs.Prelude.{◌≡◌, ◌^◌, ◌≤◌, length};
 ghost use Rattle.reading.specs.Bytes.{just};
-ghost use Rattle.reading.specs.Number.{value_of, isDigit, digits, below, plusBytes, unsigned as unsignedOf};
-ghost use Rattle.lexing.specs.Quads.{as_wide, asMag, asWord32, asWord64, QuickOf};
+ghost use Rattle.reading.specs.Number.{value_of, is_digit, digits, below, plus_bytes, unsigned as unsignedOf};
+ghost use Rattle.lexing.specs.Quads.{as_wide, as_mag, as_word32, as_word64, QuickOf};
 
 use crate::quad::{Quad, grow, quad_of};
 use words::number::{WORD, byte_to_long};
@@ -42,7 +42,7 @@ const LAST: u64 = 1844674407370955160;
 // Whether a byte is a digit.
 pub fn is_digit(base: u64, b: u64) -> bool
     requires { base ≤ 10 }
-    ensures { result ≡ isDigit base b }
+    ensures { result ≡ is_digit base b }
 {
     if b < 48 {
         return false;
@@ -77,7 +77,7 @@ fn short_digits(t: &[u8], base: u64) -> Quick
 // The number that the digits give, in four words from the start.
 fn long_digits(t: &[u8], base: u64) -> Mag
     requires { (1 ≤ base) × (base ≤ 10) }
-    ensures { result ≡ asMag (below (2 ^ 128) (digits base t.now)) }
+    ensures { result ≡ as_mag (below (2 ^ 128) (digits base t.now)) }
 {
     if t.len() == 0 {
         return Mag::No;
@@ -107,7 +107,7 @@ fn long_digits(t: &[u8], base: u64) -> Mag
 // The number that the digits give, below 2^128.
 pub fn magnitude(t: &[u8], base: u64) -> Mag
     requires { (1 ≤ base) × (base ≤ 10) }
-    ensures { result ≡ asMag (below (2 ^ 128) (digits base t.now)) }
+    ensures { result ≡ as_mag (below (2 ^ 128) (digits base t.now)) }
 {
     let n = short_digits(t, base);
     match n {
@@ -119,7 +119,7 @@ pub fn magnitude(t: &[u8], base: u64) -> Mag
 
 // How many bytes a `+` takes in front.
 pub fn plus_bytes(t: &[u8]) -> usize
-    ensures { (result ≡ plusBytes t.now) × (result ≤ length t.now) }
+    ensures { (result ≡ plus_bytes t.now) × (result ≤ length t.now) }
 {
     if t.len() == 0 {
         return 0;
@@ -133,7 +133,7 @@ pub fn plus_bytes(t: &[u8]) -> usize
 // An optional `+` and digits, below 2^128.
 pub fn unsigned(t: &[u8], base: u64) -> Mag
     requires { (1 ≤ base) × (base ≤ 10) }
-    ensures { result ≡ asMag (unsignedOf base (2 ^ 128) t.now) }
+    ensures { result ≡ as_mag (unsignedOf base (2 ^ 128) t.now) }
 {
     let k = plus_bytes(t);
     magnitude(&t[k..], base)
@@ -141,7 +141,7 @@ pub fn unsigned(t: &[u8], base: u64) -> Mag
 
 // The number of four words, where it has 32 bits.
 fn low_word(q: Quad) -> Word32
-    ensures { result ≡ asWord32 (below (2 ^ 32) (just (value_of (as_wide q)))) }
+    ensures { result ≡ as_word32 (below (2 ^ 32) (just (value_of (as_wide q)))) }
 {
     if q.d != 0 {
         return Word32::No;
@@ -157,7 +157,7 @@ fn low_word(q: Quad) -> Word32
 
 // The number of four words, where it has 64 bits.
 fn low_words(q: Quad) -> Word64
-    ensures { result ≡ asWord64 (below (2 ^ 64) (just (value_of (as_wide q)))) }
+    ensures { result ≡ as_word64 (below (2 ^ 64) (just (value_of (as_wide q)))) }
 {
     if q.d != 0 {
         return Word64::No;
@@ -170,7 +170,7 @@ fn low_words(q: Quad) -> Word64
 
 // An optional `+` and decimal digits, of 32 bits.
 pub fn u32_of(t: &[u8]) -> Word32
-    ensures { result ≡ asWord32 (unsignedOf 10 (2 ^ 32) t.now) }
+    ensures { result ≡ as_word32 (unsignedOf 10 (2 ^ 32) t.now) }
 {
     let m = unsigned(t, 10);
     match m {
@@ -181,7 +181,7 @@ pub fn u32_of(t: &[u8]) -> Word32
 
 // An optional `+` and decimal digits, of 64 bits.
 pub fn u64_of(t: &[u8]) -> Word64
-    ensures { result ≡ asWord64 (unsignedOf 10 (2 ^ 64) t.now) }
+    ensures { result ≡ as_word64 (unsignedOf 10 (2 ^ 64) t.now) }
 {
     let m = unsigned(t, 10);
     match m {

@@ -1,7 +1,7 @@
 // 128-bit numbers as four words.
 ghost use Rattle.std.specs.Prelude.{◌≡◌, ◌+◌, ◌*◌, ◌^◌, ◌≤◌, ◌<◌};
-ghost use Rattle.reading.specs.Number.{wide_of, value_of, minusOf};
-ghost use Rattle.lexing.specs.Quads.{asQuad, as_wide, Grows};
+ghost use Rattle.reading.specs.Number.{wide_of, value_of, minus_of};
+ghost use Rattle.lexing.specs.Quads.{as_quad, as_wide, Grows};
 
 use words::number::WORD;
 
@@ -30,7 +30,7 @@ pub struct Grown {
 
 // The words of a 64-bit number.
 pub fn quad_of(n: u64) -> Quad
-    ensures { result ≡ asQuad (wide_of n) }
+    ensures { result ≡ as_quad (wide_of n) }
 {
     Quad {
         a: (n % WORD) as u32,
@@ -86,7 +86,7 @@ fn flip(w: u32, k: u64) -> Limb
 
 // Minus q, in two's complement.
 pub fn negate(q: Quad) -> Quad
-    ensures { result ≡ asQuad (minusOf (as_wide q)) }
+    ensures { result ≡ as_quad (minus_of (as_wide q)) }
 {
     let x = flip(q.a, 0);
     let y = flip(q.b, x.hi);

@@ -1,13 +1,13 @@
 // White space in UTF-8 bytes, and where an atom ends. A byte that says enough is not decoded.
 ghost use Rattle.std.specs.Prelude.{◌≡◌, ◌+◌, ◌≤◌, ◌<◌, length, get_or, drop};
 ghost use Rattle.reading.specs.Bytes.{before};
-ghost use Rattle.reading.specs.Space.{isWhite, charBytes, char_at, spaceBytes, endsAtom};
+ghost use Rattle.reading.specs.Space.{is_white, char_bytes, char_at, space_bytes, ends_atom};
 
 use words::number::byte_to_word;
 
 // Whether a character is white space.
 fn is_white(c: u32) -> bool
-    ensures { result ≡ isWhite c }
+    ensures { result ≡ is_white c }
 {
     if c < 9 {
         return false;
@@ -50,7 +50,7 @@ fn is_white(c: u32) -> bool
 
 // How many bytes the character has that a byte begins; 0 for a byte inside a character.
 fn char_bytes(b: u8) -> usize
-    ensures { result ≡ charBytes b }
+    ensures { result ≡ char_bytes b }
 {
     if b < 0x80 {
         return 1;
@@ -101,7 +101,7 @@ fn char_at(text: &[u8], at: usize) -> u32
 // How many bytes the white space character at a place has, by its decoded character.
 fn decoded_space(text: &[u8], at: usize) -> usize
     requires { at < length text.now }
-    ensures { result ≡ spaceBytes (drop at text.now) }
+    ensures { result ≡ space_bytes (drop at text.now) }
 {
     let n = char_bytes(text[at]);
     if text.len() - at < n {
@@ -115,7 +115,7 @@ fn decoded_space(text: &[u8], at: usize) -> usize
 
 // Whether the character with the number of a byte is white space.
 fn white_byte(b: u8) -> bool
-    ensures { result ≡ isWhite b }
+    ensures { result ≡ is_white b }
 {
     if b < 9 {
         return false;
@@ -139,7 +139,7 @@ fn white_byte(b: u8) -> bool
 // characters and first bytes that begin no white space are told apart without decoding.
 pub fn space_bytes(text: &[u8], at: usize) -> usize
     requires { at < length text.now }
-    ensures { result ≡ spaceBytes (drop at text.now) }
+    ensures { result ≡ space_bytes (drop at text.now) }
 {
     let b = text[at];
     if b == b' ' {
@@ -175,7 +175,7 @@ pub fn space_bytes(text: &[u8], at: usize) -> usize
 // Whether an atom ends before a place. The bytes that most often go on inside one, and the blank that most often ends one, are told first.
 fn ends_atom(text: &[u8], at: usize) -> bool
     requires { at < length text.now }
-    ensures { result ≡ endsAtom (drop at text.now) }
+    ensures { result ≡ ends_atom (drop at text.now) }
 {
     let b = text[at];
     if (b')' < b) & (b < 0x80) {
@@ -199,7 +199,7 @@ fn ends_atom(text: &[u8], at: usize) -> bool
 // The place where the atom ends that stands from `from` on.
 pub fn atom_end(text: &[u8], from: usize) -> usize
     requires { from ≤ length text.now }
-    ensures { (result ≡ from + before endsAtom (drop from text.now)) × (result ≤ length text.now) }
+    ensures { (result ≡ from + before ends_atom (drop from text.now)) × (result ≤ length text.now) }
 {
     let mut i = from;
     while i < text.len() {

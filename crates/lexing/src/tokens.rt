@@ -1,11 +1,11 @@
 // What stands at a byte of a text.
 ghost use Rattle.std.specs.Prelude.{◌≡◌, ◌+◌, ◌^◌, ◌≤◌, ◌<◌, [], ◌∷◌, length, get_or, take, drop};
 ghost use Rattle.std.proofs.lemmas.List.Edits.{sets};
-ghost use Rattle.reading.specs.Limits.{maxBytes};
-ghost use Rattle.reading.specs.Number.{integerOf};
-ghost use Rattle.reading.specs.Decimal.{isDecimal};
-ghost use Rattle.reading.specs.Token.{orDecimal, atomOf, tokenAt};
-ghost use Rattle.lexing.specs.TokenWords.{asCoded, spanCoded, quotedAt, symbol_at, asToken};
+ghost use Rattle.reading.specs.Limits.{max_bytes};
+ghost use Rattle.reading.specs.Number.{integer_of};
+ghost use Rattle.reading.specs.Decimal.{is_decimal};
+ghost use Rattle.reading.specs.Token.{or_decimal, atom_of, token_at};
+ghost use Rattle.lexing.specs.TokenWords.{as_coded, span_coded, quoted_at, symbol_at, as_token};
 
 use crate::byte::{find, same};
 use crate::decimal::is_decimal;
@@ -45,8 +45,8 @@ pub enum Token {
 
 // A word that says what an atom is, and its span.
 fn spanned(kind: u32, start: usize, len: usize) -> Coded
-    requires { (start ≤ maxBytes) × (len ≤ maxBytes) }
-    ensures { result ≡ spanCoded kind (record { start = start; len = len }) }
+    requires { (start ≤ max_bytes) × (len ≤ max_bytes) }
+    ensures { result ≡ span_coded kind (record { start = start; len = len }) }
 {
     Coded {
         count: 3,
@@ -62,8 +62,8 @@ fn spanned(kind: u32, start: usize, len: usize) -> Coded
 
 // An integer, a decimal or a symbol. No number begins with a byte behind `9`.
 fn number_or_symbol(t: &[u8], start: usize) -> Coded
-    requires { (start ≤ maxBytes) × (length t.now ≤ maxBytes) }
-    ensures { result ≡ asCoded (orDecimal (integerOf t.now) (isDecimal t.now)
+    requires { (start ≤ max_bytes) × (length t.now ≤ max_bytes) }
+    ensures { result ≡ as_coded (or_decimal (integer_of t.now) (is_decimal t.now)
         (record { start = start; len = length t.now })) }
 {
     if t.len() != 0 {
@@ -110,8 +110,8 @@ fn flag(bit: u32) -> Coded
 
 // The atom of these bytes, which stand at a place.
 fn atom(t: &[u8], start: usize) -> Coded
-    requires { (start ≤ maxBytes) × (length t.now ≤ maxBytes) }
-    ensures { result ≡ asCoded (atomOf t.now (record { start = start; len = length t.now })) }
+    requires { (start ≤ max_bytes) × (length t.now ≤ max_bytes) }
+    ensures { result ≡ as_coded (atom_of t.now (record { start = start; len = length t.now })) }
 {
     if same(t, b"true") {
         return flag(1);
@@ -124,8 +124,8 @@ fn atom(t: &[u8], start: usize) -> Coded
 
 // A string that begins at a place.
 fn quoted(text: &[u8], at: usize) -> Token
-    requires { (length text.now ≤ maxBytes) × (at < length text.now) }
-    ensures { result ≡ asToken at (quotedAt at (drop (at + 1) text.now)) }
+    requires { (length text.now ≤ max_bytes) × (at < length text.now) }
+    ensures { result ≡ as_token at (quoted_at at (drop (at + 1) text.now)) }
 {
     let e = find(text, at + 1, b'"');
     if text.len() <= e {
@@ -138,8 +138,8 @@ fn quoted(text: &[u8], at: usize) -> Token
 
 // An `@` at a place, a symbol up to the next `)`.
 fn at_sign(text: &[u8], at: usize) -> Token
-    requires { (length text.now ≤ maxBytes) × (at < length text.now) }
-    ensures { result ≡ asToken at (symbol_at at (drop (at + 1) text.now)) }
+    requires { (length text.now ≤ max_bytes) × (at < length text.now) }
+    ensures { result ≡ as_token at (symbol_at at (drop (at + 1) text.now)) }
 {
     let e = find(text, at + 1, b')');
     if text.len() <= e {
@@ -152,8 +152,8 @@ fn at_sign(text: &[u8], at: usize) -> Token
 
 // What stands at a place.
 pub fn token_at(text: &[u8], at: usize) -> Token
-    requires { (length text.now ≤ maxBytes) × (at < length text.now) }
-    ensures { result ≡ asToken at (tokenAt at (get_or text.now at 0) (drop (at + 1) text.now)) }
+    requires { (length text.now ≤ max_bytes) × (at < length text.now) }
+    ensures { result ≡ as_token at (token_at at (get_or text.now at 0) (drop (at + 1) text.now)) }
 {
     let b = text[at];
     if b == b'(' {

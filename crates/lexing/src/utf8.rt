@@ -1,7 +1,7 @@
 // UTF-8, checked a character at a time.
 ghost use Rattle.std.specs.Prelude.{◌≡◌, ◌≤◌, ◌<◌, length, drop};
-ghost use Rattle.reading.specs.Utf8.{first, inside, afterFirst, wellFormed, utf8};
-ghost use Rattle.lexing.specs.Next.{allAscii, expected, CharacterEnds};
+ghost use Rattle.reading.specs.Utf8.{first, inside, after_first, well_formed, utf8};
+ghost use Rattle.lexing.specs.Next.{all_ascii, expected, CharacterEnds};
 
 // What may follow a byte: a character's first byte; a byte from the first number to the second, and
 // so many more behind it; or the byte was wrong.
@@ -14,7 +14,7 @@ enum Next {
 
 // What may follow a character's first byte.
 fn after_first(b: u8) -> Next
-    ensures { expected result ≡ afterFirst b }
+    ensures { expected result ≡ after_first b }
 {
     if b <= 0x7f {
         return Next::First;
@@ -97,7 +97,7 @@ fn character(text: &[u8], at: usize) -> usize
 // The place behind the ASCII characters that stand from `from` on.
 fn ascii_end(text: &[u8], from: usize) -> usize
     requires { from ≤ length text.now }
-    ensures { (wellFormed first (drop from text.now) ≡ wellFormed first (drop result text.now))
+    ensures { (well_formed first (drop from text.now) ≡ well_formed first (drop result text.now))
         × (from ≤ result) × (result ≤ length text.now) }
 {
     let mut i = from;
@@ -112,7 +112,7 @@ fn ascii_end(text: &[u8], from: usize) -> usize
 
 // Whether all characters are ASCII ones. No byte ends the loop, so that the compiled one takes many bytes at a time.
 fn is_ascii(text: &[u8]) -> bool
-    ensures { result ≡ allAscii text.now }
+    ensures { result ≡ all_ascii text.now }
 {
     let mut all = true;
     let mut i = 0;

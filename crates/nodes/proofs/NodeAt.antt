@@ -10,11 +10,11 @@ use borrow.Author.Tests.{lt-ltb, le-ltb}
 use Rattle.reading.specs.Pick.{pick}
 use Rattle.reading.specs.Bytes.{Span, nothing}
 use Rattle.reading.specs.Number.{Wide}
-use Rattle.reading.specs.Answer.{notWords}
-use Rattle.grammar.specs.Expr.{VarName, opAdd, opSub, opMul, opDiv, opMod, relEq, relNe, relGt, relGe, relLt, relLe, Kind, kNum, kBool, kStr, kBitVec, kFresh, kNamed, kBin, kAtom, kLet, kTheory, kIsCtor, kExists, kLetFresh}
-use Rattle.grammar.specs.Scope.{varOf}
-use Rattle.judging.specs.Judge.{reads, FromWords, ◌>>=◌, ret, fail, word, wordBelow, among, orFail, choose, two_words, fourWords, Plan, operandsOf, argumentsOf, plan, spanWithin, nameWithin, bindersAt, kinds, header}
-use Rattle.nodes.specs.Node.{node_of, nodesAt, orOther, nodeAt}
+use Rattle.reading.specs.Answer.{not_words}
+use Rattle.grammar.specs.Expr.{VarName, op_add, op_sub, op_mul, op_div, op_mod, rel_eq, rel_ne, rel_gt, rel_ge, rel_lt, rel_le, Kind, k_num, k_bool, k_str, k_bit_vec, k_fresh, k_named, k_bin, k_atom, k_let, k_theory, k_is_ctor, k_exists, k_let_fresh}
+use Rattle.grammar.specs.Scope.{var_of}
+use Rattle.judging.specs.Judge.{reads, FromWords, ◌>>=◌, ret, fail, word, word_below, among, or_fail, choose, two_words, four_words, Plan, operands_of, arguments_of, plan, span_within, name_within, binders_at, kinds, header}
+use Rattle.nodes.specs.Node.{node_of, nodes_at, or_other, node_at}
 use Rattle.nodes.specs.declared.kind.Node.{Node}
 use Rattle.nodes.specs.declared.kind.Node.TheVariants as told
 use Rattle.judging.proofs.SpellKind.{binders-count}
@@ -34,21 +34,21 @@ past (x ∷ xs) (suc k) h = past xs k (omega (arith, h))
 
 module _ (ws : List ℕ) (at : ℕ) where
   -- A kind by its number, and numbers that are none.
-  pub told_at : (k : ℕ) {r : Node} → 32 ≤ k → get_or ws at 0 ≡ k → r ≡ orOther (among (nodesAt ws (at + 1)) (k - 32)) → r ≡ nodeAt ws at
-  unfolding nodeAt pick
+  pub told_at : (k : ℕ) {r : Node} → 32 ≤ k → get_or ws at 0 ≡ k → r ≡ or_other (among (nodes_at ws (at + 1)) (k - 32)) → r ≡ node_at ws at
+  unfolding node_at pick
   told_at k {r} low e q = rw (e, le-ltb k 32 low) q
 
-  pub told-low : get_or ws at 0 < 32 → told.Other ≡ nodeAt ws at
-  unfolding nodeAt pick
+  pub told-low : get_or ws at 0 < 32 → told.Other ≡ node_at ws at
+  unfolding node_at pick
   told-low h = rw (lt-ltb (get_or ws at 0) 32 h) refl
 
-  pub told-high : 53 ≤ get_or ws at 0 → told.Other ≡ nodeAt ws at
-  unfolding nodeAt nodesAt pick
+  pub told-high : 53 ≤ get_or ws at 0 → told.Other ≡ node_at ws at
+  unfolding node_at nodes_at pick
   told-high h =
-      rw (le-ltb (get_or ws at 0) 32 (omega (arith, h)), past (nodesAt ws (at + 1)) (get_or ws at 0 - 32) (omega (arith, h))) refl
+      rw (le-ltb (get_or ws at 0) 32 (omega (arith, h)), past (nodes_at ws (at + 1)) (get_or ws at 0 - 32) (omega (arith, h))) refl
 
 -- A value that is kept by a test.
-kept : {A : Type 0} (t : Bool) (a : A) (ws : List ℕ) (at : ℕ) {b : A} {n : ℕ} → pick t (ret a) (fail notWords) ws at ≡ reads b n → b ≡ a
+kept : {A : Type 0} (t : Bool) (a : A) (ws : List ℕ) (at : ℕ) {b : A} {n : ℕ} → pick t (ret a) (fail not_words) ws at ≡ reads b n → b ≡ a
 unfolding pick
 kept true a ws at e = sym (same-value e)
 kept false a ws at e = never-reads e
@@ -64,8 +64,8 @@ module _ (ws : List ℕ) (at : ℕ) where
       let q = word_read ws m u in
       sym (same-value v) ∙ rw (p.0, q.0, p.1)
 
-  four_is : {v : Wide} {n : ℕ} → fourWords ws at ≡ reads v n → (v ≡ record { a = get_or ws at 0; b = get_or ws (at + 1) 0; c = get_or ws (at + 2) 0; d = get_or ws (at + 3) 0 }) × (n ≡ at + 4)
-  unfolding fourWords
+  four_is : {v : Wide} {n : ℕ} → four_words ws at ≡ reads v n → (v ≡ record { a = get_or ws at 0; b = get_or ws (at + 1) 0; c = get_or ws (at + 2) 0; d = get_or ws (at + 3) 0 }) × (n ≡ at + 4)
+  unfolding four_words
   four_is e =
       first_read (word ws at) _ ws e λ a i x y.
       first_read (word ws i) _ ws y λ b j z w.
@@ -81,8 +81,8 @@ module _ (ws : List ℕ) (at : ℕ) where
       let end : l ≡ at + 4 = omega (arith, three, h.1) in
       (sym (same-value r) ∙ rw (p.0, q.0, g.0, h.0, one, two, three), sym (same_end r) ∙ end)
 
-  span-is : (limit : ℕ) {s : Span} {n : ℕ} → spanWithin limit ws at ≡ reads s n → s ≡ record { start = get_or ws at 0; len = get_or ws (at + 1) 0 }
-  unfolding spanWithin
+  span-is : (limit : ℕ) {s : Span} {n : ℕ} → span_within limit ws at ≡ reads s n → s ≡ record { start = get_or ws at 0; len = get_or ws (at + 1) 0 }
+  unfolding span_within
   span-is limit e =
       first_read (word ws at) _ ws e λ a m x y.
       first_read (word ws m) _ ws y λ b l u v.
@@ -90,21 +90,21 @@ module _ (ws : List ℕ) (at : ℕ) where
       let q = word_read ws m u in
       kept (leb (a + b) limit) (record { start = a; len = b }) ws l v ∙ rw (p.0, q.0, p.1)
 
-  name-is : (limit : ℕ) {x : VarName} {n : ℕ} → nameWithin limit ws at ≡ reads x n → x ≡ varOf (record { start = get_or ws at 0; len = get_or ws (at + 1) 0 })
-  unfolding nameWithin
+  name-is : (limit : ℕ) {x : VarName} {n : ℕ} → name_within limit ws at ≡ reads x n → x ≡ var_of (record { start = get_or ws at 0; len = get_or ws (at + 1) 0 })
+  unfolding name_within
   name-is limit e =
-      first_read (spanWithin limit ws at) _ ws e λ s m x y.
-      sym (same-value y) ∙ ap varOf (span-is limit x)
+      first_read (span_within limit ws at) _ ws e λ s m x y.
+      sym (same-value y) ∙ ap var_of (span-is limit x)
 
-  below-is : (bound : ℕ) {k n : ℕ} → wordBelow bound ws at ≡ reads k n → k ≡ get_or ws at 0
-  unfolding wordBelow
+  below-is : (bound : ℕ) {k n : ℕ} → word_below bound ws at ≡ reads k n → k ≡ get_or ws at 0
+  unfolding word_below
   below-is bound e =
       first_read (word ws at) _ ws e λ a m x y.
       kept (ltb a bound) a ws m y ∙ (word_read ws at x).0
 
 -- A reader of fields reads what is told of them.
 abbrev Tells : List ℕ → ℕ → FromWords Plan → Node → Type 0
-Tells ws at r x = (k : Kind) (n b : ℕ) → r ws at ≡ reads (operandsOf k n) b → x ≡ node_of k
+Tells ws at r x = (k : Kind) (n b : ℕ) → r ws at ≡ reads (operands_of k n) b → x ≡ node_of k
 
 abbrev TellAll : List ℕ → ℕ → List (FromWords Plan) → List Node → Type 0
 TellAll ws at [] [] = Unit {0}
@@ -112,7 +112,7 @@ TellAll ws at [] (x ∷ xs) = ⊥
 TellAll ws at (r ∷ rs) [] = ⊥
 TellAll ws at (r ∷ rs) (x ∷ xs) = Tells ws at r x × TellAll ws at rs xs
 
-among-tells : (ws : List ℕ) (at : ℕ) (rs : List (FromWords Plan)) (xs : List Node) → TellAll ws at rs xs → (j : ℕ) → Tells ws at (orFail (among rs j)) (orOther (among xs j))
+among-tells : (ws : List ℕ) (at : ℕ) (rs : List (FromWords Plan)) (xs : List Node) → TellAll ws at rs xs → (j : ℕ) → Tells ws at (or_fail (among rs j)) (or_other (among xs j))
 among-tells ws at [] [] t j k n b e = never-reads e
 among-tells ws at [] (x ∷ xs) t j k n b e = absurd t
 among-tells ws at (r ∷ rs) [] t j k n b e = absurd t
@@ -120,10 +120,10 @@ among-tells ws at (r ∷ rs) (x ∷ xs) t zero k n b e = t.0 k n b e
 among-tells ws at (r ∷ rs) (x ∷ xs) t (suc j) k n b e = among-tells ws at rs xs t.1 j k n b e
 
 -- The kind in a plan.
-plan-kind : {k l : Kind} {m n a b : ℕ} → reads (operandsOf k m) a ≡ reads (operandsOf l n) b → k ≡ l
+plan-kind : {k l : Kind} {m n a b : ℕ} → reads (operands_of k m) a ≡ reads (operands_of l n) b → k ≡ l
 plan-kind e = cc
 
-no_kind : {P : Type 0} {l : Kind} {f : Bool} {m n a b : ℕ} → reads (argumentsOf f m) a ≡ reads (operandsOf l n) b → P
+no_kind : {P : Type 0} {l : Kind} {f : Bool} {m n a b : ℕ} → reads (arguments_of f m) a ≡ reads (operands_of l n) b → P
 no_kind e = let z : ◌≡◌ {A = ℕ} 0 1 = cc in absurd (omega arith)
 
 -- Kinds that have no fields.
@@ -144,11 +144,11 @@ NumberedFrom i f [] = Unit {0}
 NumberedFrom i f (l ∷ ls) = (f i ≡ node_of l) × NumberedFrom (suc i) f ls
 
 -- Kinds that have no fields.
-abbrev pub plansOf : ℕ → List Kind → List (FromWords Plan)
-plansOf m [] = []
-plansOf m (l ∷ ls) = plan l m ∷ plansOf m ls
+abbrev pub plans_of : ℕ → List Kind → List (FromWords Plan)
+plans_of m [] = []
+plans_of m (l ∷ ls) = plan l m ∷ plans_of m ls
 
-numbered-tells : (ws : List ℕ) (at m i : ℕ) (f : ℕ → Node) (ls : List Kind) → NumberedFrom i f ls → (j : ℕ) → Tells ws at (orFail (among (plansOf m ls) j)) (f (i + j))
+numbered-tells : (ws : List ℕ) (at m i : ℕ) (f : ℕ → Node) (ls : List Kind) → NumberedFrom i f ls → (j : ℕ) → Tells ws at (or_fail (among (plans_of m ls) j)) (f (i + j))
 numbered-tells ws at m i f [] h j k n b e = never-reads e
 numbered-tells ws at m i f (l ∷ ls) h zero k n b e =
     let z : i + 0 ≡ i = omega arith in
@@ -157,56 +157,56 @@ numbered-tells ws at m i f (l ∷ ls) h (suc j) k n b e =
     let z : i + suc j ≡ suc i + j = omega arith in
     ap f z ∙ numbered-tells ws at m (suc i) f ls h.1 j k n b e
 
-by_number : (ws : List ℕ) (at m : ℕ) (f : ℕ → Node) (ls : List Kind) → NumberedFrom 0 f ls → Tells ws at (word >>= λ w. choose 0 (plansOf m ls) w) (f (get_or ws at 0))
+by_number_lem : (ws : List ℕ) (at m : ℕ) (f : ℕ → Node) (ls : List Kind) → NumberedFrom 0 f ls → Tells ws at (word >>= λ w. choose 0 (plans_of m ls) w) (f (get_or ws at 0))
 unfolding choose pick
-by_number ws at m f ls h k n b e =
+by_number_lem ws at m f ls h k n b e =
     first_read (word ws at) _ ws e λ w i x y.
     let z : w - 0 ≡ w = omega arith in
-    let q : orFail (among (plansOf m ls) w) ws i ≡ reads (operandsOf k n) b = rw (le-ltb w 0 (omega arith), z) at y in
+    let q : or_fail (among (plans_of m ls) w) ws i ≡ reads (operands_of k n) b = rw (le-ltb w 0 (omega arith), z) at y in
     let o : 0 + w ≡ w = omega arith in
     ap f (sym (word_read ws at x).0) ∙ (ap f (sym o) ∙ numbered-tells ws i m 0 f ls h w k n b q)
 
-by-binders : (limit : ℕ) (ws : List ℕ) (at : ℕ) → Tells ws at (word >>= λ m. bindersAt limit m >>= λ bs. plan (kExists bs) 1) (told.Exists (get_or ws at 0))
+by-binders : (limit : ℕ) (ws : List ℕ) (at : ℕ) → Tells ws at (word >>= λ m. binders_at limit m >>= λ bs. plan (k_exists bs) 1) (told.Exists (get_or ws at 0))
 by-binders limit ws at k n b e =
     first_read (word ws at) _ ws e λ m i x y.
-    first_read (bindersAt limit m ws i) _ ws y λ bs j u v.
+    first_read (binders_at limit m ws i) _ ws y λ bs j u v.
     ap told.Exists (sym (word_read ws at x).0 ∙ sym (binders-count limit ws i m u)) ∙ ap node_of (plan-kind v)
 
-by_bits : (ws : List ℕ) (at : ℕ) → Tells ws at (fourWords >>= λ v. word >>= λ width. plan (kBitVec v width) 0) (told.BitVec (get_or ws at 0) (get_or ws (at + 1) 0) (get_or ws (at + 2) 0) (get_or ws (at + 3) 0) (get_or ws (at + 4) 0))
+by_bits : (ws : List ℕ) (at : ℕ) → Tells ws at (four_words >>= λ v. word >>= λ width. plan (k_bit_vec v width) 0) (told.BitVec (get_or ws at 0) (get_or ws (at + 1) 0) (get_or ws (at + 2) 0) (get_or ws (at + 3) 0) (get_or ws (at + 4) 0))
 by_bits ws at k n b e =
-    first_read (fourWords ws at) _ ws e λ v i x y.
+    first_read (four_words ws at) _ ws e λ v i x y.
     first_read (word ws i) _ ws y λ width j u w.
     let p = four_is ws at x in
     let q = word_read ws i u in
     let z : get_or ws (at + 4) 0 ≡ width = sym (q.0 ∙ ap (λ (m : ℕ). get_or ws m 0) p.1) in
     rw (z) (ap (λ (o : Wide). told.BitVec o.a o.b o.c o.d width) (sym p.0) ∙ ap node_of (plan-kind w))
 
-by-arguments : (ws : List ℕ) (at : ℕ) (x : Node) → Tells ws at (wordBelow 2 >>= λ f. word >>= λ m. ret (argumentsOf (eqb f 1) m)) x
+by-arguments : (ws : List ℕ) (at : ℕ) (x : Node) → Tells ws at (word_below 2 >>= λ f. word >>= λ m. ret (arguments_of (eqb f 1) m)) x
 by-arguments ws at x k n b e =
-    first_read (wordBelow 2 ws at) _ ws e λ f i y z.
+    first_read (word_below 2 ws at) _ ws e λ f i y z.
     first_read (word ws i) _ ws z λ m j u v. no_kind v
 
 -- All the kinds.
-kinds-tell : (limit : ℕ) (ws : List ℕ) (at : ℕ) → TellAll ws at (kinds limit) (nodesAt ws at)
-unfolding kinds nodesAt
-kinds-tell limit ws at = (
-  by-fields ws at fourWords kNum 0 _ (λ v n e. ap (λ (o : Wide). told.Num o.a o.b o.c o.d) (sym (four_is ws at e).0)),
+kinds_tell : (limit : ℕ) (ws : List ℕ) (at : ℕ) → TellAll ws at (kinds limit) (nodes_at ws at)
+unfolding kinds nodes_at
+kinds_tell limit ws at = (
+  by-fields ws at four_words k_num 0 _ (λ v n e. ap (λ (o : Wide). told.Num o.a o.b o.c o.d) (sym (four_is ws at e).0)),
   (
-    by-fields ws at (wordBelow 2) (λ b. kBool (eqb b 1)) 0 _ (λ b n e. ap (λ (o : ℕ). told.Bool (eqb o 1)) (sym (below-is ws at 2 e))),
+    by-fields ws at (word_below 2) (λ b. k_bool (eqb b 1)) 0 _ (λ b n e. ap (λ (o : ℕ). told.Bool (eqb o 1)) (sym (below-is ws at 2 e))),
     (
-      by-fields ws at (spanWithin limit) kStr 0 _ (λ s n e. ap (λ (o : Span). told.Str o.start o.len) (sym (span-is ws at limit e))),
+      by-fields ws at (span_within limit) k_str 0 _ (λ s n e. ap (λ (o : Span). told.Str o.start o.len) (sym (span-is ws at limit e))),
       (
         by_bits ws at,
         (
-          by-fields ws at two_words kFresh 0 _ (λ k n e. ap told.Fresh (sym (two_is ws at e))),
+          by-fields ws at two_words k_fresh 0 _ (λ k n e. ap told.Fresh (sym (two_is ws at e))),
           (
-            by-fields ws at (nameWithin limit) kNamed 0 _ (λ x n e. ap (λ (o : VarName). told.Named o.span.start o.span.len) (sym (name-is ws at limit e))),
+            by-fields ws at (name_within limit) k_named 0 _ (λ x n e. ap (λ (o : VarName). told.Named o.span.start o.span.len) (sym (name-is ws at limit e))),
             (
               by-arguments ws at _,
               (
                 plainly ws at _ _,
                 (
-                  by_number ws at 2 told.Bin (kBin opAdd ∷ kBin opSub ∷ kBin opMul ∷ kBin opDiv ∷ kBin opMod ∷ []) (refl, (refl, (refl, (refl, (refl, tt))))),
+                  by_number_lem ws at 2 told.Bin (k_bin op_add ∷ k_bin op_sub ∷ k_bin op_mul ∷ k_bin op_div ∷ k_bin op_mod ∷ []) (refl, (refl, (refl, (refl, (refl, tt))))),
                   (
                     plainly ws at _ _,
                     (
@@ -220,16 +220,16 @@ kinds-tell limit ws at = (
                             (
                               plainly ws at _ _,
                               (
-                                by_number ws at 2 told.Atom (kAtom relEq ∷ kAtom relNe ∷ kAtom relGt ∷ kAtom relGe ∷ kAtom relLt ∷ kAtom relLe ∷ []) (refl, (refl, (refl, (refl, (refl, (refl, tt)))))),
+                                by_number_lem ws at 2 told.Atom (k_atom rel_eq ∷ k_atom rel_ne ∷ k_atom rel_gt ∷ k_atom rel_ge ∷ k_atom rel_lt ∷ k_atom rel_le ∷ []) (refl, (refl, (refl, (refl, (refl, (refl, tt)))))),
                                 (
-                                  by-fields ws at (nameWithin limit) kLet 2 _ (λ x n e. ap (λ (o : VarName). told.Let o.span.start o.span.len) (sym (name-is ws at limit e))),
+                                  by-fields ws at (name_within limit) k_let 2 _ (λ x n e. ap (λ (o : VarName). told.Let o.span.start o.span.len) (sym (name-is ws at limit e))),
                                   (
-                                    by-fields ws at (wordBelow 42) kTheory 0 _ (λ k n e. ap told.Theory (sym (below-is ws at 42 e))),
+                                    by-fields ws at (word_below 42) k_theory 0 _ (λ k n e. ap told.Theory (sym (below-is ws at 42 e))),
                                     (
-                                      by-fields ws at (nameWithin limit) kIsCtor 1 _ (λ x n e. ap (λ (o : VarName). told.IsCtor o.span.start o.span.len) (sym (name-is ws at limit e))),
+                                      by-fields ws at (name_within limit) k_is_ctor 1 _ (λ x n e. ap (λ (o : VarName). told.IsCtor o.span.start o.span.len) (sym (name-is ws at limit e))),
                                       (
                                         by-binders limit ws at,
-                                        (by-fields ws at two_words kLetFresh 2 _ (λ k n e. ap told.LetFresh (sym (two_is ws at e))), tt),
+                                        (by-fields ws at two_words k_let_fresh 2 _ (λ k n e. ap told.LetFresh (sym (two_is ws at e))), tt),
                                       ),
                                     ),
                                   ),
@@ -251,15 +251,15 @@ kinds-tell limit ws at = (
   ),
 )
 
-kind-picked : (limit : ℕ) (ws : List ℕ) (m w : ℕ) (t : Bool) {k : Kind} {n a : ℕ} → pick t (fail notWords) (orFail (among (kinds limit) (w - 32))) ws m ≡ reads (operandsOf k n) a → pick t told.Other (orOther (among (nodesAt ws m) (w - 32))) ≡ node_of k
+kind_picked : (limit : ℕ) (ws : List ℕ) (m w : ℕ) (t : Bool) {k : Kind} {n a : ℕ} → pick t (fail not_words) (or_fail (among (kinds limit) (w - 32))) ws m ≡ reads (operands_of k n) a → pick t told.Other (or_other (among (nodes_at ws m) (w - 32))) ≡ node_of k
 unfolding pick
-kind-picked limit ws m w true e = never-reads e
-kind-picked limit ws m w false {k} {n} {a} e = among-tells ws m (kinds limit) (nodesAt ws m) (kinds-tell limit ws m) (w - 32) k n a e
+kind_picked limit ws m w true e = never-reads e
+kind_picked limit ws m w false {k} {n} {a} e = among-tells ws m (kinds limit) (nodes_at ws m) (kinds_tell limit ws m) (w - 32) k n a e
 
 -- A kind that was read is told.
-pub node-told : (limit : ℕ) (ws : List ℕ) (at : ℕ) {k : Kind} {n a : ℕ} → header limit ws at ≡ reads (operandsOf k n) a → nodeAt ws at ≡ node_of k
-unfolding header choose nodeAt
+pub node-told : (limit : ℕ) (ws : List ℕ) (at : ℕ) {k : Kind} {n a : ℕ} → header limit ws at ≡ reads (operands_of k n) a → node_at ws at ≡ node_of k
+unfolding header choose node_at
 node-told limit ws at {k} {n} {a} e =
     first_read (word ws at) _ ws e λ w m x y.
     let p = word_read ws at x in
-    rw (← p.0, ← p.1) (kind-picked limit ws m w (ltb w 32) y)
+    rw (← p.0, ← p.1) (kind_picked limit ws m w (ltb w 32) y)

@@ -1,6 +1,6 @@
 // The kind of an expression and its fields, told as values to a walk over words that were judged before.
 ghost use Rattle.std.specs.Prelude.{◌≡◌, get_or};
-ghost use Rattle.nodes.specs.Node.{nodeAt};
+ghost use Rattle.nodes.specs.Node.{node_at};
 
 use words::expr_kinds::{
     AND, APP, ATOM, BINARY, BIT_VEC, BOOLEAN, EXISTS, FRESH, IF, IFF, IMP, IS_CTOR, LET, LET_FRESH,
@@ -47,7 +47,7 @@ pub fn word_at(words: &[u32], at: usize) -> u32
 
 // The kind whose word stands at a place, and the fields behind it.
 pub fn kind_at(words: &[u32], at: usize) -> Node
-    ensures { result ≡ nodeAt words.now at }
+    ensures { result ≡ node_at words.now at }
 {
     if words.len() <= at {
         return Node::Other;

@@ -8,22 +8,22 @@ use native.Mathlib.Nat.{zero-add}
 use lib.Dec.{ltb}
 use lib.ListN.{length, take, replicate, length-take}
 use borrow.Author.Tests.{ltb-true, ltb-false, le-leb, lt-leb}
-use Rattle.reading.specs.Limits.{maxNumber}
+use Rattle.reading.specs.Limits.{max_number}
 use Rattle.reading.specs.Pick.{pick}
-use Rattle.reading.specs.Tree.{Tree, treeWords}
-use Rattle.reading.specs.Answer.{got, Res, ok, no, Final, accepts, refuses, finish, fitsIn, outputOf}
+use Rattle.reading.specs.Tree.{Tree, tree_words}
+use Rattle.reading.specs.Answer.{got, Res, ok, no, Final, accepts, refuses, finish, fits_in, output_of}
 use Rattle.reading.proofs.Finish.{finish-spent, finish-short, finish-long}
 use Rattle.grammar.specs.Item.{Item, raise, words_of}
-use Rattle.grammar.specs.Expr.{exprItems, bindItems}
+use Rattle.grammar.specs.Expr.{expr_items, bind_items}
 use Rattle.grammar.specs.ParseExpr
-use Rattle.grammar.specs.ParseBind.{parseBind}
-use Rattle.grammar.specs.Written.{toldOf}
-use Rattle.grammar.specs.Operations.{theTree, makeExpr, exprFinal, makeBind, bindFinal}
+use Rattle.grammar.specs.ParseBind.{parse_bind}
+use Rattle.grammar.specs.Written.{told_of}
+use Rattle.grammar.specs.Operations.{the_tree, make_expr, expr_final, make_bind, bind_final}
 use Rattle.scopes.specs.Scopes.{slots}
 use Rattle.plans.specs.Plans.{Parsed, wrote, refused, Here}
 use Rattle.plans.specs.Whole.{Whole}
-use Rattle.grammar.specs.Item.{raisedWords}
-use Rattle.parse.specs.Answers.{Laid, AttemptedAt, countedBy, finishedBy, closedBy}
+use Rattle.grammar.specs.Item.{raised_words}
+use Rattle.parse.specs.Answers.{Laid, AttemptedAt, counted_by, finished_by, closed_by}
 use Rattle.parse.specs.declared.Counted.{Counted}
 use Rattle.parse.specs.declared.Counted.TheVariants.{Done, Refused}
 use Rattle.plans.specs.declared.progress.Progress.{Progress}
@@ -33,38 +33,38 @@ use Rattle.parse.specs.TreeOf.{TreeIn, NoTree}
 
 -- ---- the end of an operation
 
-module _ {A : Type 0} (items : A → List Item) (c : ℕ) (out out' : List ℕ) (m : c ≤ maxNumber) where
+module _ {A : Type 0} (items : A → List Item) (c : ℕ) (out out' : List ℕ) (m : c ≤ max_number) where
   abbrev decided : Res A → Final A
-  decided x = finish (λ a. fitsIn out (words_of (items a))) c x
+  decided x = finish (λ a. fits_in out (words_of (items a))) c x
 
   -- What was parsed, and then 13 and 7.
-  pub ended : (x : Res A) {b : ℕ} {p : Progress} {room : ℕ} → Parsed (toldOf items c x) 0 out out' b p → room ≡ length out → AttemptedAt items c (decided x) out out' (finishedBy p c room)
+  pub ended : (x : Res A) {b : ℕ} {p : Progress} {room : ℕ} → Parsed (told_of items c x) 0 out out' b p → room ≡ length out → AttemptedAt items c (decided x) out out' (finished_by p c room)
   unfolding finish pick
   ended (no e) (refused is) r = rw is (record { answer = refl; left = tt })
-  ended (ok a n) {room = room} (wrote y) r = rw y.is (go (ltb (maxNumber - c) n) (ltb room (0 + length (words_of (raise c (items a))))) refl refl)
+  ended (ok a n) {room = room} (wrote y) r = rw y.is (go (ltb (max_number - c) n) (ltb room (0 + length (words_of (raise c (items a))))) refl refl)
     where
       size : 0 + length (words_of (raise c (items a))) ≡ length (words_of (items a))
       size = zero-add _ ∙ words-raise c (items a)
 
-      go : (s t : Bool) → ltb (maxNumber - c) n ≡ s → ltb room (0 + length (words_of (raise c (items a)))) ≡ t
+      go : (s t : Bool) → ltb (max_number - c) n ≡ s → ltb room (0 + length (words_of (raise c (items a)))) ≡ t
           → AttemptedAt items c (decided (ok a n)) out out' (pick s (Refused 13) (pick t (Refused 7) (Done (0 + length (words_of (raise c (items a)))) (c + n))))
       go true t p q =
-          let f : decided (ok a n) ≡ refuses 13 = finish-spent (λ z. fitsIn out (words_of (items z))) c a n (omega (arith, ltb-true (maxNumber - c) n p)) in
+          let f : decided (ok a n) ≡ refuses 13 = finish-spent (λ z. fits_in out (words_of (items z))) c a n (omega (arith, ltb-true (max_number - c) n p)) in
           record { answer = rw f refl; left = rw f tt }
       go false true p q =
-          let f : decided (ok a n) ≡ refuses 7 = finish-short (λ z. fitsIn out (words_of (items z))) c a n (omega (arith, ltb-false (maxNumber - c) n p)) (lt-leb (length (words_of (items a))) (length out) (omega (arith, ltb-true room (0 + length (words_of (raise c (items a)))) q, r, size))) in
+          let f : decided (ok a n) ≡ refuses 7 = finish-short (λ z. fits_in out (words_of (items z))) c a n (omega (arith, ltb-false (max_number - c) n p)) (lt-leb (length (words_of (items a))) (length out) (omega (arith, ltb-true room (0 + length (words_of (raise c (items a)))) q, r, size))) in
           record { answer = rw f refl; left = rw f tt }
       go false false p q =
-          let f : decided (ok a n) ≡ accepts a n = finish-long (λ z. fitsIn out (words_of (items z))) c a n (omega (arith, ltb-false (maxNumber - c) n p)) (le-leb (length (words_of (items a))) (length out) (omega (arith, ltb-false room (0 + length (words_of (raise c (items a)))) q, r, size))) in
+          let f : decided (ok a n) ≡ accepts a n = finish-long (λ z. fits_in out (words_of (items z))) c a n (omega (arith, ltb-false (max_number - c) n p)) (le-leb (length (words_of (items a))) (length out) (omega (arith, ltb-false room (0 + length (words_of (raise c (items a)))) q, r, size))) in
           record { answer = rw f (ap (λ k. Done k (c + n)) size); left = rw f (y.words ∙ over-start (words_of (raise c (items a))) out) }
 
 -- Slices are cleared.
 module _ {A : Type 0} {items : A → List Item} {c : ℕ} {f : Final A} {out out' : List ℕ} {r : Counted} (s : AttemptedAt items c f out out' r) where
-  pub closed : length out' ≡ length out → closedBy r out' ≡ outputOf (raisedWords items c) f out
-  unfolding outputOf
+  pub closed : length out' ≡ length out → closed_by r out' ≡ output_of (raised_words items c) f out
+  unfolding output_of
   closed k = rw s.answer (go f s.left)
     where
-      go : (g : Final A) → Laid (raisedWords items c) g out out' → closedBy (countedBy items c g) out' ≡ outputOf (raisedWords items c) g out
+      go : (g : Final A) → Laid (raised_words items c) g out out' → closed_by (counted_by items c g) out' ≡ output_of (raised_words items c) g out
       go (accepts a n) l = l
       go (refuses e) l = ap (λ (i : ℕ). replicate i 0) k
 
@@ -76,13 +76,13 @@ module _ {text tree tree' : List ℕ} {n : ℕ} (x : TreeIn text tree tree' n) w
   whole_in = record { tree = x.it; words = x.there; small = rw length-take (omega (arith, x.small)); nests = x.nests; bytes = x.short }
 
   -- So many words it has.
-  pub in_size : n ≡ length (treeWords x.it)
+  pub in_size : n ≡ length (tree_words x.it)
   in_size = sym (rw length-take (omega (arith, x.within))) ∙ ap length x.there
 
   -- What an expression asks for: no scope is open.
   abbrev pub here_in : {es : List ℕ} → slots ≤ length es → Here text (take n tree') 0 es 0 0 0
   here_in l = record {
-    spot = record { tree = x.it; rest = []; words = x.there ∙ sym (append-nil (treeWords x.it)) };
+    spot = record { tree = x.it; rest = []; words = x.there ∙ sym (append-nil (tree_words x.it)) };
     scopes = [];
     holds = tt;
     long = l;
@@ -92,28 +92,28 @@ module _ {text tree tree' : List ℕ} {n : ℕ} (x : TreeIn text tree tree' n) w
   }
 
 module _ (text tree out : List ℕ) (c : ℕ) where
-  expr-from : (t : Tree) → theTree text tree ≡ got t → makeExpr text tree 0 ≡ (ParseExpr.child text t).plainly [] 0
-  unfolding makeExpr ParseExpr.parseExpr
-  expr-from t e = rw e
+  expr_from : (t : Tree) → the_tree text tree ≡ got t → make_expr text tree 0 ≡ (ParseExpr.child text t).plainly [] 0
+  unfolding make_expr ParseExpr.parse_expr
+  expr_from t e = rw e
 
-  bind-from : (t : Tree) → theTree text tree ≡ got t → makeBind text tree 0 ≡ parseBind text t 0
-  unfolding makeBind
-  bind-from t e = rw e
+  bind_from : (t : Tree) → the_tree text tree ≡ got t → make_bind text tree 0 ≡ parse_bind text t 0
+  unfolding make_bind
+  bind_from t e = rw e
 
   -- The final decision, once there is a tree.
-  pub expr-final : (t : Tree) → theTree text tree ≡ got t → exprFinal text tree out c ≡ finish (λ e. fitsIn out (words_of (exprItems e))) c ((ParseExpr.child text t).plainly [] 0)
-  unfolding exprFinal
-  expr-final t e = rw (expr-from t e)
+  pub expr-final : (t : Tree) → the_tree text tree ≡ got t → expr_final text tree out c ≡ finish (λ e. fits_in out (words_of (expr_items e))) c ((ParseExpr.child text t).plainly [] 0)
+  unfolding expr_final
+  expr-final t e = rw (expr_from t e)
 
-  pub bind-final : (t : Tree) → theTree text tree ≡ got t → bindFinal text tree out c ≡ finish (λ b. fitsIn out (words_of (bindItems b))) c (parseBind text t 0)
-  unfolding bindFinal
-  bind-final t e = rw (bind-from t e)
+  pub bind-final : (t : Tree) → the_tree text tree ≡ got t → bind_final text tree out c ≡ finish (λ b. fits_in out (words_of (bind_items b))) c (parse_bind text t 0)
+  unfolding bind_final
+  bind-final t e = rw (bind_from t e)
 
   -- And where there is none.
-  pub expr-none : {k : ℕ} {out' : List ℕ} → NoTree text tree k → AttemptedAt exprItems c (exprFinal text tree out c) out out' (Refused k)
-  unfolding exprFinal makeExpr finish
+  pub expr-none : {k : ℕ} {out' : List ℕ} → NoTree text tree k → AttemptedAt expr_items c (expr_final text tree out c) out out' (Refused k)
+  unfolding expr_final make_expr finish
   expr-none x = rw x.is (record { answer = ap Refused x.tells; left = tt })
 
-  pub bind-none : {k : ℕ} {out' : List ℕ} → NoTree text tree k → AttemptedAt bindItems c (bindFinal text tree out c) out out' (Refused k)
-  unfolding bindFinal makeBind finish
+  pub bind-none : {k : ℕ} {out' : List ℕ} → NoTree text tree k → AttemptedAt bind_items c (bind_final text tree out c) out out' (Refused k)
+  unfolding bind_final make_bind finish
   bind-none x = rw x.is (record { answer = ap Refused x.tells; left = tt })

@@ -1,26 +1,26 @@
 -- The tree that a text is, as it stands in the tree slice.
 use Rattle.std.specs.Prelude.{ℕ, ◌^◌, ◌≤◌, ◌<◌, ◌≡◌, List, length, take}
-use Rattle.reading.specs.Limits.{maxBytes, maxLists}
-use Rattle.reading.specs.Tree.{Tree, treeWords, nesting}
+use Rattle.reading.specs.Limits.{max_bytes, max_lists}
+use Rattle.reading.specs.Tree.{Tree, tree_words, nesting}
 use Rattle.reading.specs.Answer.{Refusal, number, got, bad}
-use Rattle.grammar.specs.Operations.{theTree}
+use Rattle.grammar.specs.Operations.{the_tree}
 use Rattle.words.specs.declared.Answer.{Answer}
 use Rattle.words.specs.declared.Answer.TheVariants.{Done, Refused}
 
 -- The first n words of the slice are those of the tree.
 pub record TreeIn (text tree tree' : List ℕ) (n : ℕ) : Type 0 where
   pub it : Tree
-  pub is : theTree text tree ≡ got it
-  pub there : take n tree' ≡ treeWords it
+  pub is : the_tree text tree ≡ got it
+  pub there : take n tree' ≡ tree_words it
   pub within : n ≤ length tree'
   pub small : n < 2 ^ 32
-  pub nests : nesting it ≤ maxLists
-  pub short : length text ≤ maxBytes
+  pub nests : nesting it ≤ max_lists
+  pub short : length text ≤ max_bytes
 
 -- There is no tree, or no room for it.
 pub record NoTree (text tree : List ℕ) (n : ℕ) : Type 0 where
   pub why : Refusal
-  pub is : theTree text tree ≡ bad why
+  pub is : the_tree text tree ≡ bad why
   pub tells : n ≡ number why
 
 -- What is answered: how many words of the slice are the tree's, or the refusal.

@@ -1,10 +1,10 @@
 // The operation bind.
 ghost use Rattle.std.specs.Prelude.{◌≡◌};
-ghost use Rattle.reading.specs.Answer.{zeros, outputOf};
-ghost use Rattle.grammar.specs.Item.{raisedWords};
-ghost use Rattle.grammar.specs.Expr.{bindItems};
-ghost use Rattle.grammar.specs.Operations.{bindFinal};
-ghost use Rattle.parse.specs.Answers.{bindSaid, AttemptedAt};
+ghost use Rattle.reading.specs.Answer.{zeros, output_of};
+ghost use Rattle.grammar.specs.Item.{raised_words};
+ghost use Rattle.grammar.specs.Expr.{bind_items};
+ghost use Rattle.grammar.specs.Operations.{bind_final};
+ghost use Rattle.parse.specs.Answers.{bind_said, AttemptedAt};
 
 use crate::Counted;
 use crate::ending::{close, finished};
@@ -14,7 +14,7 @@ use words::Answer;
 
 // The bind and its words; no slice is cleared yet.
 fn attempt(text: &[u8], tree: &mut [u32], out: &mut [u32], count: u64) -> Counted
-    ensures { AttemptedAt bindItems count (bindFinal text.now tree.old out.old count) out.old out.new result }
+    ensures { AttemptedAt bind_items count (bind_final text.now tree.old out.old count) out.old out.new result }
 {
     match tree_of(text, tree) {
         Answer::Refused(n) => Counted::Refused(n),
@@ -27,9 +27,9 @@ fn attempt(text: &[u8], tree: &mut [u32], out: &mut [u32], count: u64) -> Counte
 
 // The bind that a text begins with: a name, its sort, and predicates.
 pub fn bind(text: &[u8], tree: &mut [u32], out: &mut [u32], count: u64) -> Counted
-    ensures answer { result ≡ bindSaid count (bindFinal text.now tree.old out.old count) }
+    ensures answer { result ≡ bind_said count (bind_final text.now tree.old out.old count) }
     ensures working { tree.new ≡ zeros tree.old }
-    ensures output { out.new ≡ outputOf (raisedWords bindItems count) (bindFinal text.now tree.old out.old count) out.old }
+    ensures output { out.new ≡ output_of (raised_words bind_items count) (bind_final text.now tree.old out.old count) out.old }
 {
     let answer = attempt(text, tree, out, count);
     close(tree, out, answer)

@@ -1,7 +1,7 @@
 // What an operation that takes fresh numbers decides in the end.
 ghost use Rattle.std.specs.Prelude.{◌≡◌};
 ghost use Rattle.reading.specs.Answer.{zeros};
-ghost use Rattle.parse.specs.Answers.{finishedBy, closedBy};
+ghost use Rattle.parse.specs.Answers.{finished_by, closed_by};
 
 use crate::Counted;
 use plans::progress::Progress;
@@ -10,7 +10,7 @@ use words::output::clear;
 
 // 13 if the numbers run out, then 7 if there is room for fewer words.
 pub fn finished(p: Progress, count: u64, room: usize) -> Counted
-    ensures { result ≡ finishedBy p count room }
+    ensures { result ≡ finished_by p count room }
 {
     match p {
         Progress::Refused(e) => Counted::Refused(e),
@@ -30,7 +30,7 @@ pub fn finished(p: Progress, count: u64, room: usize) -> Counted
 pub fn close(working: &mut [u32], out: &mut [u32], answer: Counted) -> Counted
     ensures answer { result ≡ answer }
     ensures working { working.new ≡ zeros working.old }
-    ensures output { out.new ≡ closedBy answer out.old }
+    ensures output { out.new ≡ closed_by answer out.old }
 {
     clear(working);
     match answer {

@@ -1,10 +1,10 @@
 // The operation expression.
 ghost use Rattle.std.specs.Prelude.{◌≡◌};
-ghost use Rattle.reading.specs.Answer.{zeros, outputOf};
-ghost use Rattle.grammar.specs.Item.{raisedWords};
-ghost use Rattle.grammar.specs.Expr.{exprItems};
-ghost use Rattle.grammar.specs.Operations.{exprFinal};
-ghost use Rattle.parse.specs.Answers.{exprSaid, AttemptedAt};
+ghost use Rattle.reading.specs.Answer.{zeros, output_of};
+ghost use Rattle.grammar.specs.Item.{raised_words};
+ghost use Rattle.grammar.specs.Expr.{expr_items};
+ghost use Rattle.grammar.specs.Operations.{expr_final};
+ghost use Rattle.parse.specs.Answers.{expr_said, AttemptedAt};
 
 use crate::Counted;
 use crate::ending::{close, finished};
@@ -15,7 +15,7 @@ use words::Answer;
 
 // The expression and its words; no slice is cleared yet.
 fn attempt(text: &[u8], tree: &mut [u32], out: &mut [u32], count: u64) -> Counted
-    ensures { AttemptedAt exprItems count (exprFinal text.now tree.old out.old count) out.old out.new result }
+    ensures { AttemptedAt expr_items count (expr_final text.now tree.old out.old count) out.old out.new result }
 {
     match tree_of(text, tree) {
         Answer::Refused(n) => Counted::Refused(n),
@@ -29,9 +29,9 @@ fn attempt(text: &[u8], tree: &mut [u32], out: &mut [u32], count: u64) -> Counte
 
 // The expression that a text begins with, not flattened. Its fresh numbers are the reader's count and those behind it.
 pub fn expression(text: &[u8], tree: &mut [u32], out: &mut [u32], count: u64) -> Counted
-    ensures answer { result ≡ exprSaid count (exprFinal text.now tree.old out.old count) }
+    ensures answer { result ≡ expr_said count (expr_final text.now tree.old out.old count) }
     ensures working { tree.new ≡ zeros tree.old }
-    ensures output { out.new ≡ outputOf (raisedWords exprItems count) (exprFinal text.now tree.old out.old count) out.old }
+    ensures output { out.new ≡ output_of (raised_words expr_items count) (expr_final text.now tree.old out.old count) out.old }
 {
     let answer = attempt(text, tree, out, count);
     close(tree, out, answer)

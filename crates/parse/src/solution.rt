@@ -1,11 +1,11 @@
 // The solution that a text begins with, before its body is flattened.
 ghost use Rattle.std.specs.Prelude.{◌≡◌};
 ghost use Rattle.reading.specs.Answer.{zeros};
-ghost use Rattle.grammar.specs.Item.{raisedWords};
-ghost use Rattle.grammar.specs.Expr.{paramItems, bodyItems};
-ghost use Rattle.grammar.specs.Operations.{draftFinal};
-ghost use Rattle.parse.specs.Answers.{Laid, draftSaid};
-ghost use Rattle.parse.specs.DraftAnswers.{judgedBy, AttemptedDraft};
+ghost use Rattle.grammar.specs.Item.{raised_words};
+ghost use Rattle.grammar.specs.Expr.{param_items, body_items};
+ghost use Rattle.grammar.specs.Operations.{draft_final};
+ghost use Rattle.parse.specs.Answers.{Laid, draft_said};
+ghost use Rattle.parse.specs.DraftAnswers.{judged_by, AttemptedDraft};
 
 use crate::Drafted;
 use crate::tree::tree_of;
@@ -16,7 +16,7 @@ use words::output::clear;
 
 // 13 if the numbers run out, then 7 if the draft slice has room for fewer words.
 fn judged(p: Parts, count: u64, room: usize) -> Drafted
-    ensures { result ≡ judgedBy p count room }
+    ensures { result ≡ judged_by p count room }
 {
     match p {
         Parts::Refused(e) => Drafted::Refused(e),
@@ -34,7 +34,7 @@ fn judged(p: Parts, count: u64, room: usize) -> Drafted
 
 // The draft and its words; no slice is cleared yet.
 fn attempt(text: &[u8], tree: &mut [u32], draft: &mut [u32], out: &mut [u32], count: u64) -> Drafted
-    ensures { AttemptedDraft count (draftFinal text.now tree.old draft.old count) draft.old draft.new out.old out.new result }
+    ensures { AttemptedDraft count (draft_final text.now tree.old draft.old count) draft.old draft.new out.old out.new result }
 {
     match tree_of(text, tree) {
         Answer::Refused(n) => Drafted::Refused(n),
@@ -54,10 +54,10 @@ pub fn solution_draft(
     out: &mut [u32],
     count: u64,
 ) -> Drafted
-    ensures answer { result ≡ draftSaid count (draftFinal text.now tree.old draft.old count) }
+    ensures answer { result ≡ draft_said count (draft_final text.now tree.old draft.old count) }
     ensures working { tree.new ≡ zeros tree.old }
-    ensures body { Laid (raisedWords bodyItems count) (draftFinal text.now tree.old draft.old count) draft.old draft.new }
-    ensures params { Laid (raisedWords paramItems count) (draftFinal text.now tree.old draft.old count) out.old out.new }
+    ensures body { Laid (raised_words body_items count) (draft_final text.now tree.old draft.old count) draft.old draft.new }
+    ensures params { Laid (raised_words param_items count) (draft_final text.now tree.old draft.old count) out.old out.new }
 {
     let answer = attempt(text, tree, draft, out, count);
     clear(tree);

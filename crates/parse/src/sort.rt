@@ -1,9 +1,9 @@
 // The operation sort.
 ghost use Rattle.std.specs.Prelude.{◌≡◌};
-ghost use Rattle.reading.specs.Answer.{zeros, outputOf};
-ghost use Rattle.grammar.specs.Sort.{sortWords};
-ghost use Rattle.grammar.specs.Operations.{sortFinal};
-ghost use Rattle.parse.specs.Answers.{sortSaid, Attempted};
+ghost use Rattle.reading.specs.Answer.{zeros, output_of};
+ghost use Rattle.grammar.specs.Sort.{sort_words};
+ghost use Rattle.grammar.specs.Operations.{sort_final};
+ghost use Rattle.parse.specs.Answers.{sort_said, Attempted};
 
 use crate::tree::tree_of;
 use words::Answer;
@@ -11,7 +11,7 @@ use words::output::clear;
 
 // The sort and its words; no slice is cleared yet.
 fn attempt(text: &[u8], tree: &mut [u32], out: &mut [u32]) -> Answer
-    ensures { Attempted sortWords (sortFinal text.now tree.old out.old) out.old out.new result }
+    ensures { Attempted sort_words (sort_final text.now tree.old out.old) out.old out.new result }
 {
     match tree_of(text, tree) {
         Answer::Refused(n) => Answer::Refused(n),
@@ -32,9 +32,9 @@ fn attempt(text: &[u8], tree: &mut [u32], out: &mut [u32]) -> Answer
 // that is no sort, 12 for the number of a `func` that is out of range. The tree is a working slice, and zero afterwards; a refusal zeroes
 // the output too.
 pub fn sort(text: &[u8], tree: &mut [u32], out: &mut [u32]) -> Answer
-    ensures answer { result ≡ sortSaid (sortFinal text.now tree.old out.old) }
+    ensures answer { result ≡ sort_said (sort_final text.now tree.old out.old) }
     ensures working { tree.new ≡ zeros tree.old }
-    ensures output { out.new ≡ outputOf sortWords (sortFinal text.now tree.old out.old) out.old }
+    ensures output { out.new ≡ output_of sort_words (sort_final text.now tree.old out.old) out.old }
 {
     match attempt(text, tree, out) {
         Answer::Done(w) => {

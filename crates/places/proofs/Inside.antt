@@ -9,51 +9,51 @@ use lib.ListN.{length, get_or, drop, length-append}
 use lib.Seq.{drop-drop, drop_at}
 use borrow.Author.Tests.{eqb-true, eq-eqb}
 use Rattle.reading.specs.Pick.{pick}
-use Rattle.reading.specs.Tree.{Tree, Trees, atom, list, tnil, tcons, trees, treeWords, treesWords}
+use Rattle.reading.specs.Tree.{Tree, Trees, atom, list, tnil, tcons, trees, tree_words, trees_words}
 use Rattle.grammar.specs.ParseExpr
-use Rattle.grammar.specs.ParseExpr.{atomChild}
+use Rattle.grammar.specs.ParseExpr.{atom_child}
 use Rattle.places.specs.Spot.{Spot}
 use Rattle.places.specs.declared.place.Node.{Node}
 use Rattle.places.specs.declared.place.Node.TheVariants as Node
 use Rattle.places.proofs.Spots.{word}
 
 -- A list stands at a place: its items stand behind three words, which say what it is, how many items there are, and how many words they have.
-module _ (ws : List ℕ) (at : ℕ) (items : Trees) (rest : List ℕ) (e : drop at ws ≡ treeWords (list items) ++ rest) where
+module _ (ws : List ℕ) (at : ℕ) (items : Trees) (rest : List ℕ) (e : drop at ws ≡ tree_words (list items) ++ rest) where
   abbrev pub list-spot : Spot ws at
   list-spot = record { tree = list items; rest = rest; words = e }
 
   pub list-many : get_or ws (at + 1) 0 ≡ trees items
-  unfolding treeWords
+  unfolding tree_words
   list-many = word list-spot 1
 
-  pub list-words : get_or ws (at + 2) 0 ≡ length (treesWords items)
-  unfolding treeWords
+  pub list-words : get_or ws (at + 2) 0 ≡ length (trees_words items)
+  unfolding tree_words
   list-words = word list-spot 2
 
-  pub items-there : drop (at + 3) ws ≡ treesWords items ++ rest
-  unfolding treeWords
+  pub items-there : drop (at + 3) ws ≡ trees_words items ++ rest
+  unfolding tree_words
   items-there = sym (drop-drop 3 at ws) ∙ ap (drop 3) e
 
 -- Trees stand from a place on: the first, and the others behind it.
-module _ (ws : List ℕ) (at : ℕ) (t : Tree) (ts : Trees) (rest : List ℕ) (e : drop at ws ≡ treesWords (tcons t ts) ++ rest) where
-  pub first-there : drop at ws ≡ treeWords t ++ (treesWords ts ++ rest)
-  unfolding treeWords
-  first-there = e ∙ append_assoc (treeWords t) (treesWords ts) rest
+module _ (ws : List ℕ) (at : ℕ) (t : Tree) (ts : Trees) (rest : List ℕ) (e : drop at ws ≡ trees_words (tcons t ts) ++ rest) where
+  pub first-there : drop at ws ≡ tree_words t ++ (trees_words ts ++ rest)
+  unfolding tree_words
+  first-there = e ∙ append_assoc (tree_words t) (trees_words ts) rest
 
   abbrev pub first-spot : Spot ws at
-  first-spot = record { tree = t; rest = treesWords ts ++ rest; words = first-there }
+  first-spot = record { tree = t; rest = trees_words ts ++ rest; words = first-there }
 
-  pub others-there : (j : ℕ) → j ≡ length (treeWords t) → drop (at + j) ws ≡ treesWords ts ++ rest
-  others-there j h = sym (drop-drop j at ws) ∙ ap (drop j) first-there ∙ drop_at (treeWords t) (treesWords ts ++ rest) j (sym h)
+  pub others-there : (j : ℕ) → j ≡ length (tree_words t) → drop (at + j) ws ≡ trees_words ts ++ rest
+  others-there j h = sym (drop-drop j at ws) ∙ ap (drop j) first-there ∙ drop_at (tree_words t) (trees_words ts ++ rest) j (sym h)
 
 -- How many words they have.
-pub trees-size : (t : Tree) (ts : Trees) → length (treesWords (tcons t ts)) ≡ length (treeWords t) + length (treesWords ts)
-unfolding treeWords
-trees-size t ts = length-append (treeWords t) (treesWords ts)
+pub trees-size : (t : Tree) (ts : Trees) → length (trees_words (tcons t ts)) ≡ length (tree_words t) + length (trees_words ts)
+unfolding tree_words
+trees-size t ts = length-append (tree_words t) (trees_words ts)
 
-pub list_length : (ts : Trees) → length (treeWords (list ts)) ≡ 3 + length (treesWords ts)
-unfolding treeWords
-list_length ts = let z : length (treeWords (list ts)) ≡ suc (suc (suc (length (treesWords ts)))) = refl in omega arith
+pub list_length : (ts : Trees) → length (tree_words (list ts)) ≡ 3 + length (trees_words ts)
+unfolding tree_words
+list_length ts = let z : length (tree_words (list ts)) ≡ suc (suc (suc (length (trees_words ts)))) = refl in omega arith
 
 -- Two trees.
 pub record Pair (ts : Trees) : Type 0 where
@@ -89,6 +89,6 @@ module _ (ws : List ℕ) (at : ℕ) {r : Node} (e : r ≡ pick (eqb (get_or ws a
 
 -- An item of a list is made of its tree.
 pub child-tree : (text : List ℕ) (t : Tree) → (ParseExpr.child text t).tree ≡ t
-unfolding ParseExpr.child ParseExpr.listChild atomChild
+unfolding ParseExpr.child ParseExpr.list_child atom_child
 child-tree text (atom a) = refl
 child-tree text (list ts) = refl

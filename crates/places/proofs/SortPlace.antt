@@ -6,18 +6,18 @@ use native.Mathlib.Omega.{arith}
 use native.Mathlib.Nat.{zero-add}
 use lib.ListN.{length, take, drop}
 use lib.Seq.{take_at}
-use Rattle.reading.specs.Tree.{Tree, treeWords}
+use Rattle.reading.specs.Tree.{Tree, tree_words}
 use Rattle.reading.specs.Answer.{Refusal, number, Ans, got, bad}
-use Rattle.grammar.specs.Sort.{Sort, sortWords}
-use Rattle.grammar.specs.ParseSort.{parseSort}
+use Rattle.grammar.specs.Sort.{Sort, sort_words}
+use Rattle.grammar.specs.ParseSort.{parse_sort}
 use Rattle.sorts.specs.Outcome.{Outcome, wrote, refused}
 use Rattle.places.specs.Spot.{Spot}
 use Rattle.writing.proofs.Laid.{laid-over}
-use Rattle.places.specs.Outcome.{Put, OutcomeAt, wroteAt, refusedAt}
+use Rattle.places.specs.Outcome.{Put, OutcomeAt, wrote_at, refused_at}
 use Rattle.words.specs.declared.Answer.{Answer}
 use Rattle.words.specs.declared.Answer.TheVariants.{Done, Refused}
 use Rattle.grammar.proofs.AnswerHolds.{Every}
-use Rattle.grammar.proofs.SortOf.{SortOf, sort-of}
+use Rattle.grammar.proofs.SortOf.{SortOf, sort_of_lem}
 use Rattle.sorts.proofs.Lend.{lent-rest}
 
 -- ---- what an outcome says
@@ -46,28 +46,28 @@ pub record BadAt {A : Type 0} (a : Ans A) (e : ℕ) : Type 0 where
 
 module _ {A : Type 0} {words : A → List ℕ} where
   pub got-at : {a : Ans A} {w u : ℕ} {o o' : List ℕ} {r : Answer} → OutcomeAt words a w o o' r → r ≡ Done u → GotAt words a w o o' u
-  got-at (wroteAt {a} d l) e = record { value = a; is = refl; put = record { is = same-done e d; words = l } }
-  got-at (refusedAt d) e = never e d
+  got-at (wrote_at {a} d l) e = record { value = a; is = refl; put = record { is = same-done e d; words = l } }
+  got-at (refused_at d) e = never e d
 
   pub bad-at : {a : Ans A} {w e : ℕ} {o o' : List ℕ} {r : Answer} → OutcomeAt words a w o o' r → r ≡ Refused e → BadAt a e
-  bad-at (wroteAt d l) e = never d e
-  bad-at (refusedAt {e = why} d) e = record { why = why; is = refl; same = same-refused e d }
+  bad-at (wrote_at d l) e = never d e
+  bad-at (refused_at {e = why} d) e = record { why = why; is = refl; same = same-refused e d }
 
   -- The rest of m from f on was lent, and came back as ys.
   pub lent-done : {a : Ans A} {w f n : ℕ} {m ys : List ℕ} {r : Answer} → f ≡ min w (length m) → Outcome words a (take (length m - f) (drop f m)) ys r → r ≡ Done n
       → OutcomeAt words a w m (take f m ++ (ys ++ drop (length m - f) (drop f m))) (Done (w + n))
   lent-done {w = w} {f = f} {m = m} {ys = ys} p (wrote {a} d l) e =
-      wroteAt (ap (λ (k : ℕ). Done (w + k)) (same-done e d)) (lent-rest (words a) m ys w f p l ∙ laid-over (words a) m w)
+      wrote_at (ap (λ (k : ℕ). Done (w + k)) (same-done e d)) (lent-rest (words a) m ys w f p l ∙ laid-over (words a) m w)
   lent-done p (refused d) e = never e d
 
   pub lent-refused : {a : Ans A} {w n : ℕ} {m z o ys : List ℕ} {r : Answer} → Outcome words a o ys r → r ≡ Refused n → OutcomeAt words a w m z (Refused n)
   lent-refused (wrote d l) e = never d e
-  lent-refused (refused d) e = refusedAt (ap Refused (same-refused e d))
+  lent-refused (refused d) e = refused_at (ap Refused (same-refused e d))
 
   -- Words laid over an output are laid from its start on.
   pub over-at : {a : Ans A} {o o' : List ℕ} {r : Answer} → Outcome words a o o' r → OutcomeAt words a 0 o o' r
-  over-at {o = o} (wrote {a} d l) = wroteAt (d ∙ ap Done (sym (zero-add (length (words a))))) (l ∙ laid-over (words a) o 0)
-  over-at (refused d) = refusedAt d
+  over-at {o = o} (wrote {a} d l) = wrote_at (d ∙ ap Done (sym (zero-add (length (words a))))) (l ∙ laid-over (words a) o 0)
+  over-at (refused d) = refused_at d
 
 -- What holds of every value holds of this one.
 pub every_got : {A : Type 0} {a : Ans A} {x : A} (Q : A → Type 0) → Every a Q → a ≡ got x → Q x
@@ -76,9 +76,9 @@ every_got {a = a} {x = x} Q h e = subst (λ (b : Ans _). Every b Q) e h
 -- ---- a sort
 
 -- A sort that was read has at most 16 words for each of its tree's.
-pub sort-short : (text : List ℕ) (t : Tree) {s : Sort} → parseSort text t ≡ got s → length (sortWords s) + 1 ≤ 16 * length (treeWords t)
-sort-short text t e = (every_got (SortOf t) (sort-of text t) e).short
+pub sort-short : (text : List ℕ) (t : Tree) {s : Sort} → parse_sort text t ≡ got s → length (sort_words s) + 1 ≤ 16 * length (tree_words t)
+sort-short text t e = (every_got (SortOf t) (sort_of_lem text t) e).short
 
 -- The part of the words that a tree takes.
-pub exact : {ws : List ℕ} {at : ℕ} (p : Spot ws at) (j : ℕ) → j ≡ length (treeWords p.tree) → take (at + j - at) (drop at ws) ≡ treeWords p.tree
-exact {ws} {at} p j h = let d : at + j - at ≡ j = omega arith in rw (d, p.words) (take_at (treeWords p.tree) p.rest j (sym h))
+pub exact : {ws : List ℕ} {at : ℕ} (p : Spot ws at) (j : ℕ) → j ≡ length (tree_words p.tree) → take (at + j - at) (drop at ws) ≡ tree_words p.tree
+exact {ws} {at} p j h = let d : at + j - at ≡ j = omega arith in rw (d, p.words) (take_at (tree_words p.tree) p.rest j (sym h))

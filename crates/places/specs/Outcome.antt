@@ -16,5 +16,5 @@ pub record Put (o : List ℕ) (w : ℕ) (ws : List ℕ) (o' : List ℕ) (r : ℕ
 
 -- A value: its words are laid from w on, and the answer is the place behind them. A refusal: its number; of the output nothing is said.
 pub data OutcomeAt {A : Type 0} (words : A → List ℕ) : Ans A → ℕ → List ℕ → List ℕ → Answer → Type 0 where
-  wroteAt : {a : A} {w : ℕ} {o o' : List ℕ} {r : Answer} → r ≡ Done (w + length (words a)) → o' ≡ laid o w (words a) → OutcomeAt words (got a) w o o' r
-  refusedAt : {e : Refusal} {w : ℕ} {o o' : List ℕ} {r : Answer} → r ≡ Refused (number e) → OutcomeAt words (bad e) w o o' r
+  wrote_at : {a : A} {w : ℕ} {o o' : List ℕ} {r : Answer} → r ≡ Done (w + length (words a)) → o' ≡ laid o w (words a) → OutcomeAt words (got a) w o o' r
+  refused_at : {e : Refusal} {w : ℕ} {o o' : List ℕ} {r : Answer} → r ≡ Refused (number e) → OutcomeAt words (bad e) w o o' r

@@ -2,7 +2,7 @@
 ghost use Rattle.std.specs.Prelude.{[], ◌∷◌, ℕ, ◌+◌, ◌≤◌};
 ghost use Rattle.lexing.specs.Quads.{as_wide};
 ghost use Rattle.grammar.specs.ParseExpr.{numeral as numeralOf};
-ghost use Rattle.grammar.specs.Written.{exprWords};
+ghost use Rattle.grammar.specs.Written.{expr_words};
 ghost use Rattle.places.specs.Outcome.{bound, Put};
 
 use lexing::quad::{Quad, negate};
@@ -63,7 +63,7 @@ pub fn put_wide(out: &mut [u32], w: usize, kind: u32, q: Quad) -> usize
 // An integer as an expression: a numeral, or Neg of one.
 pub fn put_numeral(out: &mut [u32], w: usize, q: Quad) -> usize
     requires { w ≤ bound }
-    ensures { (count : ℕ) → (Put out.old w (exprWords count (numeralOf (as_wide q))) out.new result) × (result ≤ w + 6) }
+    ensures { (count : ℕ) → (Put out.old w (expr_words count (numeralOf (as_wide q))) out.new result) × (result ≤ w + 6) }
 {
     if q.d < 2147483648 {
         return put_wide(out, w, NUMERAL, q);

@@ -1,6 +1,6 @@
 // Places of trees in words.
 ghost use Rattle.std.specs.Prelude.{◌≡◌, false, length, get_or, ◌+◌, eqb};
-ghost use Rattle.reading.specs.Tree.{treeWords};
+ghost use Rattle.reading.specs.Tree.{tree_words};
 ghost use Rattle.reading.specs.Pick.{pick};
 ghost use Rattle.places.specs.Spot.{Spot, Seen};
 ghost use Rattle.places.specs.declared.place.Node.TheVariants.{List, Other};
@@ -11,7 +11,7 @@ use words::tree_kinds::LIST;
 // How many words the tree at a place has.
 pub fn words_at(tree: &[u32], at: usize) -> usize
     requires { Spot tree.now at }
-    ensures { (p : Spot tree.now at) → result ≡ length (treeWords p.tree) }
+    ensures { (p : Spot tree.now at) → result ≡ length (tree_words p.tree) }
 {
     node_words(&tree[at..])
 }

@@ -6,7 +6,7 @@ use Rattle.reading.specs.Answer.{malformed, ok, no}
 use Rattle.grammar.specs.Sort.{two}
 use Rattle.grammar.specs.Written.{W, ahead, after, behind}
 use Rattle.writing.specs.Laid.{laid}
-use Rattle.writing.proofs.Laid.{laid-append, laid-early}
+use Rattle.writing.proofs.Laid.{laid_append, laid-early}
 use Rattle.places.specs.Outcome.{Put}
 use Rattle.plans.specs.Late.{filled}
 use Rattle.plans.specs.Plans.{Wrote, Parsed, wrote, refused, Counts}
@@ -30,7 +30,7 @@ out-ahead h {w = w} {u = u} {o = o} {o₂ = o₂} {b = b} {q = q} p e (wrote {ws
     let n : u + length ws ≡ w + length (h ++ ws) = omega (arith, length-append h ws) in
     let x : Wrote (h ++ ws) m w o o₂ b q = record {
       is = r.is ∙ ap (λ (k : ℕ). Done k m) n;
-      words = r.words ∙ rw (p, e) (sym (laid-append h ws o w));
+      words = r.words ∙ rw (p, e) (sym (laid_append h ws o w));
       room = omega (arith, r.room);
     } in
     wrote x
@@ -62,9 +62,9 @@ out-wider {w = w} {o = o} {o₁ = o₁} {c = c} {r = r} h (wrote {ws} {m} x) =
 out-wider h (refused x) = refused x
 
 -- no words
-pub out-empty : (u m : ℕ) (o : List ℕ) (b : ℕ) → u + m ≤ b → Parsed (ok [] m) u o o b (Done u m)
+pub out_empty : (u m : ℕ) (o : List ℕ) (b : ℕ) → u + m ≤ b → Parsed (ok [] m) u o o b (Done u m)
 unfolding laid
-out-empty u m o b h =
+out_empty u m o b h =
     let y : Wrote [] m u o o b (Done u m) = record { is = ap (λ (k : ℕ). Done k m) (sym (add-zero u)); words = refl; room = omega arith } in
     wrote y
 
@@ -106,6 +106,6 @@ out-behind (ok ws n) front f m {w = w} {u = u} {o = o} {o₁ = o₁} c p e y =
 out-behind (no r) front f m c p e (refused x) = refused x
 
 -- one that is missing is refused, whatever was written
-pub out-missing : (x : W) (f : ℕ → W) {w u : ℕ} {o o₁ o₂ : List ℕ} {b c : ℕ} {q : Progress} → Parsed (after (after x (λ m. no malformed)) f) u o₁ o₂ c q → Parsed (after x (λ m. no malformed)) w o o₂ b q
-out-missing (ok ws n) f (refused x) = refused x
-out-missing (no r) f (refused x) = refused x
+pub out_missing : (x : W) (f : ℕ → W) {w u : ℕ} {o o₁ o₂ : List ℕ} {b c : ℕ} {q : Progress} → Parsed (after (after x (λ m. no malformed)) f) u o₁ o₂ c q → Parsed (after x (λ m. no malformed)) w o o₂ b q
+out_missing (ok ws n) f (refused x) = refused x
+out_missing (no r) f (refused x) = refused x

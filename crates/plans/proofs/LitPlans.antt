@@ -3,17 +3,17 @@ use Rattle.std.proofs.Common.{◌≡◌, ℕ, ◌+◌, ◌<◌, ◌≤◌, List,
 use Rattle.reading.specs.Bytes.{Span, bytes_at}
 use Rattle.reading.specs.Number.{Wide, wide_of}
 use Rattle.lexing.specs.Quads.{as_wide}
-use Rattle.reading.specs.Tree.{symbol, quoted, integer, decimal, boolean, Tree, Trees, atom, list, tnil, tcons, trees, atomWords, treeWords}
-use Rattle.reading.specs.Answer.{Refusal, Ans, got, bad, and_then, orBad, malformed, wrongWidth, Res, ok, no}
+use Rattle.reading.specs.Tree.{symbol, quoted, integer, decimal, boolean, Tree, Trees, atom, list, tnil, tcons, trees, atom_words, tree_words}
+use Rattle.reading.specs.Answer.{Refusal, Ans, got, bad, and_then, or_bad, malformed, wrong_width, Res, ok, no}
 use Rattle.lexing.specs.declared.quad.Quad.{Quad}
 use Rattle.lexing.specs.declared.number.Word32.{Word32}
 use Rattle.grammar.specs.Scope.{Scope}
 use Rattle.grammar.specs.Item.{raise, words_of}
-use Rattle.grammar.specs.Expr.{kBitVec, Expr, leaf, exprs, exprItems, exprsItems, kindItems}
+use Rattle.grammar.specs.Expr.{k_bit_vec, Expr, leaf, exprs, expr_items, exprs_items, kind_items}
 use Rattle.grammar.specs.ParseSort
-use Rattle.grammar.specs.ParseSort.{inList, inAtom, inSymbol, symbolIn, treeAt, sizeNamed}
+use Rattle.grammar.specs.ParseSort.{in_list, in_atom, in_symbol, symbol_in, tree_at, size_named}
 use Rattle.grammar.specs.ParseExpr
-use Rattle.grammar.specs.ParseExpr.{childAt, atomChild, quotedIn, digitsIn, bits_of}
+use Rattle.grammar.specs.ParseExpr.{child_at, atom_child, quoted_in, digits_in, bits_of}
 use Rattle.grammar.specs.Written.{told}
 use Rattle.sorts.specs.SortNames.{width_in}
 use Rattle.places.specs.Spot.{Spot}
@@ -21,12 +21,12 @@ use Rattle.places.specs.Outcome.{Put}
 use Rattle.plans.specs.Plans.{Listed, PlannedList}
 use Rattle.plans.specs.declared.plan.Plan.TheVariants.{Leaf}
 use Rattle.grammar.proofs.TreeHead.{no-list, no_symbol}
-use Rattle.grammar.proofs.LitForm.{bits-long}
+use Rattle.grammar.proofs.LitForm.{bits_long}
 use Rattle.places.proofs.Inside.{child-tree}
-use Rattle.places.proofs.Spots.{word0, as-list}
-use Rattle.places.proofs.Rows.{Leading, lead-spot, leading, lead-count, lead-next, list_inside, as-symbol, as-quoted}
+use Rattle.places.proofs.Spots.{word0, as_list}
+use Rattle.places.proofs.Rows.{Leading, lead-spot, leading, lead-count, lead-next, list_inside, as_symbol, as_quoted}
 use Rattle.places.proofs.FirstTree.{none_left}
-use Rattle.places.proofs.Puts.{put-append}
+use Rattle.places.proofs.Puts.{put_append}
 use Rattle.plans.proofs.ListPlans.{head-count, head-others}
 use Rattle.plans.proofs.TreePlans.{leaf-made, three-there}
 
@@ -39,28 +39,28 @@ module _ (text : List ℕ) {ws : List ℕ} {at : ℕ} (p : Spot ws at) where
 
   module _ (h : get_or ws at 0 ≡ 21) where
     not-two : (ts : Trees) → (trees ts ≡ 2 → ⊥) → bad malformed ≡ ParseExpr.width_of text (list ts)
-    unfolding ParseExpr.width_of inList
+    unfolding ParseExpr.width_of in_list
     not-two ts n = rw (ne_eqb (trees ts) 2 n) refl
 
     pub width-other : (get_or ws (at + 1) 0 ≡ 2 → ⊥) → bad malformed ≡ ParseExpr.width_of text p.tree
-    width-other n = let l = as-list p h in not-two l.items (λ e. n (l.many ∙ e)) ∙ ap (ParseExpr.width_of text) (sym l.is)
+    width-other n = let l = as_list p h in not-two l.items (λ e. n (l.many ∙ e)) ∙ ap (ParseExpr.width_of text) (sym l.is)
 
     module _ (n : get_or ws (at + 1) 0 ≡ 2) where
       -- The items.
-      pub width-first : Leading ws (at + 3) (as-list p h).items
-      width-first = let l = as-list p h in leading l.items p.rest (list_inside ws at l.items p.rest (p.words ∙ ap (λ t. treeWords t ++ p.rest) l.is)) (omega (arith, l.many))
+      pub width-first : Leading ws (at + 3) (as_list p h).items
+      width-first = let l = as_list p h in leading l.items p.rest (list_inside ws at l.items p.rest (p.words ∙ ap (λ t. tree_words t ++ p.rest) l.is)) (omega (arith, l.many))
 
-      module _ {k : ℕ} (e : k ≡ length (treeWords width-first.tree)) where
+      module _ {k : ℕ} (e : k ≡ length (tree_words width-first.tree)) where
         pub width-second : Leading ws (at + 3 + k) width-first.others
-        width-second = lead-next width-first e (omega (arith, (as-list p h).many))
+        width-second = lead-next width-first e (omega (arith, (as_list p h).many))
 
         two_items : p.tree ≡ list (tcons width-first.tree (tcons width-second.tree tnil))
         unfolding trees
         two_items =
-            (as-list p h).is ∙ ap list (width-first.is ∙ ap (tcons width-first.tree) (width-second.is ∙ ap (tcons width-second.tree) (none_left width-second.others (omega (arith, (as-list p h).many, lead-count width-first, lead-count width-second)))))
+            (as_list p h).is ∙ ap list (width-first.is ∙ ap (tcons width-first.tree) (width-second.is ∙ ap (tcons width-second.tree) (none_left width-second.others (omega (arith, (as_list p h).many, lead-count width-first, lead-count width-second)))))
 
         two-width : ParseExpr.width_of text p.tree ≡ ParseSort.size_of text width-second.tree
-        unfolding ParseExpr.width_of inList treeAt trees
+        unfolding ParseExpr.width_of in_list tree_at trees
         two-width = ap (ParseExpr.width_of text) two_items
 
         pub width-unnamed : (get_or ws (at + 3 + k) 0 ≡ 16 → ⊥) → bad malformed ≡ ParseExpr.width_of text p.tree
@@ -70,38 +70,38 @@ module _ (text : List ℕ) {ws : List ℕ} {at : ℕ} (p : Spot ws at) where
             rw (two-width, no_symbol s.rest s.tree refl (λ q. m (word0 s ∙ q))) refl
 
         pub width-named : (r : Word32) {v : List ℕ} → get_or ws (at + 3 + k) 0 ≡ 16 → v ≡ bytes_at text (record { start = get_or ws (at + 3 + k + 1) 0; len = get_or ws (at + 3 + k + 2) 0 })
-            → orBad malformed (width_in r) ≡ sizeNamed v → orBad malformed (width_in r) ≡ ParseExpr.width_of text p.tree
-        unfolding ParseSort.size_of inSymbol inAtom symbolIn
-        width-named r m b q = q ∙ rw (two-width, as-symbol (lead-spot width-second) m, b) refl
+            → or_bad malformed (width_in r) ≡ size_named v → or_bad malformed (width_in r) ≡ ParseExpr.width_of text p.tree
+        unfolding ParseSort.size_of in_symbol in_atom symbol_in
+        width-named r m b q = q ∙ rw (two-width, as_symbol (lead-spot width-second) m, b) refl
 
 -- ---- the literal
 
 -- The bits, by what the code reads.
-bits-bad : (r : Refusal) (a : Ans ℕ) → bad r ≡ and_then a (λ v. got (wide_of v)) → a ≡ bad r
-bits-bad r (got v) e = let z : ◌≡◌ {A = ℕ} 0 1 = cc in absurd (omega arith)
-bits-bad r (bad q) e = let z : r ≡ q = cc in rw z refl
+bits_bad : (r : Refusal) (a : Ans ℕ) → bad r ≡ and_then a (λ v. got (wide_of v)) → a ≡ bad r
+bits_bad r (got v) e = let z : ◌≡◌ {A = ℕ} 0 1 = cc in absurd (omega arith)
+bits_bad r (bad q) e = let z : r ≡ q = cc in rw z refl
 
 record Value (w : Wide) (a : Ans ℕ) : Type 0 where
   number : ℕ
   is : a ≡ got number
   words : wide_of number ≡ w
 
-bits-got : (w : Wide) (a : Ans ℕ) → got w ≡ and_then a (λ v. got (wide_of v)) → Value w a
-bits-got w (got v) e = record { number = v; is = refl; words = cc }
-bits-got w (bad q) e = let z : ◌≡◌ {A = ℕ} 0 1 = cc in absurd (omega arith)
+bits_got : (w : Wide) (a : Ans ℕ) → got w ≡ and_then a (λ v. got (wide_of v)) → Value w a
+bits_got w (got v) e = record { number = v; is = refl; words = cc }
+bits_got w (bad q) e = let z : ◌≡◌ {A = ℕ} 0 1 = cc in absurd (omega arith)
 
 module _ (text : List ℕ) (s : Span) (sc : List Scope) (n : ℕ) where
   -- What a literal with these items behind its name is.
   abbrev pub lit : Trees → Res Expr
-  lit us = ParseExpr.litForm text (ParseExpr.children text (tcons (atom (symbol s)) us)) sc n
+  lit us = ParseExpr.lit_form text (ParseExpr.children text (tcons (atom (symbol s)) us)) sc n
 
   lit-none : (us : Trees) → trees us ≡ 0 → lit us ≡ no malformed
-  unfolding ParseExpr.litForm childAt ParseExpr.child trees
+  unfolding ParseExpr.lit_form child_at ParseExpr.child trees
   lit-none tnil h = refl
   lit-none (tcons t ts) h = absurd (omega arith)
 
-  lit-other : (t : Tree) (ts : Trees) (rest : List ℕ) → (get_or (treeWords t ++ rest) 0 0 ≡ 17 → ⊥) → lit (tcons t ts) ≡ no malformed
-  unfolding ParseExpr.litForm childAt ParseExpr.child atomChild ParseExpr.listChild inAtom quotedIn treeWords atomWords
+  lit-other : (t : Tree) (ts : Trees) (rest : List ℕ) → (get_or (tree_words t ++ rest) 0 0 ≡ 17 → ⊥) → lit (tcons t ts) ≡ no malformed
+  unfolding ParseExpr.lit_form child_at ParseExpr.child atom_child ParseExpr.list_child in_atom quoted_in tree_words atom_words
   lit-other (atom (symbol x)) ts rest h = refl
   lit-other (atom (quoted x)) ts rest h = absurd (h refl)
   lit-other (atom (integer x)) ts rest h = refl
@@ -110,35 +110,35 @@ module _ (text : List ℕ) (s : Span) (sc : List Scope) (n : ℕ) where
   lit-other (list us) ts rest h = refl
 
   module _ (x : Span) where
-    lit-unread : (ts : Trees) (r : Refusal) → bits_of (bytes_at text x) ≡ bad r → lit (tcons (atom (quoted x)) ts) ≡ no r
-    unfolding ParseExpr.litForm childAt ParseExpr.child atomChild inAtom quotedIn
-    lit-unread ts r e = rw e refl
+    lit_unread : (ts : Trees) (r : Refusal) → bits_of (bytes_at text x) ≡ bad r → lit (tcons (atom (quoted x)) ts) ≡ no r
+    unfolding ParseExpr.lit_form child_at ParseExpr.child atom_child in_atom quoted_in
+    lit_unread ts r e = rw e refl
 
     module _ {v : ℕ} (e : bits_of (bytes_at text x) ≡ got v) where
       lit-short : (ts : Trees) → trees ts ≡ 0 → lit (tcons (atom (quoted x)) ts) ≡ no malformed
-      unfolding ParseExpr.litForm childAt ParseExpr.child atomChild inAtom quotedIn trees
+      unfolding ParseExpr.lit_form child_at ParseExpr.child atom_child in_atom quoted_in trees
       lit-short tnil h = rw e refl
       lit-short (tcons t ts) h = absurd (omega arith)
 
-      lit-unsized : (t : Tree) (ts : Trees) → ParseExpr.width_of text t ≡ bad malformed → lit (tcons (atom (quoted x)) (tcons t ts)) ≡ no malformed
-      unfolding ParseExpr.litForm childAt ParseExpr.child atomChild inAtom quotedIn
-      lit-unsized t ts k = rw (e, child-tree text t, k) refl
+      lit_unsized : (t : Tree) (ts : Trees) → ParseExpr.width_of text t ≡ bad malformed → lit (tcons (atom (quoted x)) (tcons t ts)) ≡ no malformed
+      unfolding ParseExpr.lit_form child_at ParseExpr.child atom_child in_atom quoted_in
+      lit_unsized t ts k = rw (e, child-tree text t, k) refl
 
-      lit-uneven : (t : Tree) (ts : Trees) {k : ℕ} → ParseExpr.width_of text t ≡ got k → (length (digitsIn (bytes_at text x)) ≡ k → ⊥) → lit (tcons (atom (quoted x)) (tcons t ts)) ≡ no wrongWidth
-      unfolding ParseExpr.litForm childAt ParseExpr.child atomChild inAtom quotedIn
-      lit-uneven t ts {k} y d = rw (e, child-tree text t, y, ne_eqb (length (digitsIn (bytes_at text x))) k d) refl
+      lit_uneven : (t : Tree) (ts : Trees) {k : ℕ} → ParseExpr.width_of text t ≡ got k → (length (digits_in (bytes_at text x)) ≡ k → ⊥) → lit (tcons (atom (quoted x)) (tcons t ts)) ≡ no wrong_width
+      unfolding ParseExpr.lit_form child_at ParseExpr.child atom_child in_atom quoted_in
+      lit_uneven t ts {k} y d = rw (e, child-tree text t, y, ne_eqb (length (digits_in (bytes_at text x))) k d) refl
 
-      lit-whole : (t : Tree) (ts : Trees) {k : ℕ} → ParseExpr.width_of text t ≡ got k → length (digitsIn (bytes_at text x)) ≡ k → lit (tcons (atom (quoted x)) (tcons t ts)) ≡ ok (leaf (kBitVec (wide_of v) k)) n
-      unfolding ParseExpr.litForm childAt ParseExpr.child atomChild inAtom quotedIn
-      lit-whole t ts {k} y d = rw (e, child-tree text t, y, eq-eqb (length (digitsIn (bytes_at text x))) k d) refl
+      lit-whole : (t : Tree) (ts : Trees) {k : ℕ} → ParseExpr.width_of text t ≡ got k → length (digits_in (bytes_at text x)) ≡ k → lit (tcons (atom (quoted x)) (tcons t ts)) ≡ ok (leaf (k_bit_vec (wide_of v) k)) n
+      unfolding ParseExpr.lit_form child_at ParseExpr.child atom_child in_atom quoted_in
+      lit-whole t ts {k} y d = rw (e, child-tree text t, y, eq-eqb (length (digits_in (bytes_at text x))) k d) refl
 
 module _ {text ws : List ℕ} {at w next : ℕ} (s : Span) (us : Trees) (h : Listed text ws at w next (tcons (atom (symbol s)) us)) where
   -- What the list is.
   abbrev whole : Res Expr
   whole = lit text s h.scopes next us
 
-  pub lit-lone : get_or ws (at + 1) 0 < 2 → whole ≡ no malformed
-  lit-lone l = lit-none text s h.scopes next us (omega (arith, head-count s us h))
+  pub lit_lone : get_or ws (at + 1) 0 < 2 → whole ≡ no malformed
+  lit_lone l = lit-none text s h.scopes next us (omega (arith, head-count s us h))
 
   module _ (two : 2 ≤ get_or ws (at + 1) 0) where
     -- The first item behind the name.
@@ -161,26 +161,26 @@ module _ {text ws : List ℕ} {at w next : ℕ} (s : Span) (us : Trees) (h : Lis
       one-item =
           let a : at + 6 + 1 ≡ at + 7 = omega arith in
           let b : at + 6 + 2 ≡ at + 8 = omega arith in
-          as-quoted (lead-spot lit-first) q ∙ rw (a, b) refl
+          as_quoted (lead-spot lit-first) q ∙ rw (a, b) refl
 
       items : us ≡ tcons (atom (quoted span)) lit-first.others
       items = lit-first.is ∙ ap (λ t. tcons t lit-first.others) one-item
 
       -- The second item behind the name.
       pub lit-second : 3 ≤ get_or ws (at + 1) 0 → Leading ws (at + 9) lit-first.others
-      unfolding treeWords atomWords
+      unfolding tree_words atom_words
       lit-second l =
           let a : at + 6 + 3 ≡ at + 9 = omega arith in
-          let n : 3 ≡ length (treeWords lit-first.tree) = rw one-item refl in
+          let n : 3 ≡ length (tree_words lit-first.tree) = rw one-item refl in
           subst (λ k. Leading ws k lit-first.others) a (lead-next lit-first n (omega (arith, head-count s us h)))
 
       module _ {v : List ℕ} (b : v ≡ bytes_at text span) where
         pub lit_refused : (r : Refusal) → bad r ≡ and_then (bits_of v) (λ k. got (wide_of k)) → whole ≡ no r
-        lit_refused r e = ap (lit text s h.scopes next) items ∙ lit-unread text s h.scopes next span lit-first.others r (ap bits_of (sym b) ∙ bits-bad r (bits_of v) e)
+        lit_refused r e = ap (lit text s h.scopes next) items ∙ lit_unread text s h.scopes next span lit-first.others r (ap bits_of (sym b) ∙ bits_bad r (bits_of v) e)
 
         module _ {g : Quad} (e : got (as_wide g) ≡ and_then (bits_of v) (λ k. got (wide_of k))) where
           value : Value (as_wide g) (bits_of v)
-          value = bits-got (as_wide g) (bits_of v) e
+          value = bits_got (as_wide g) (bits_of v) e
 
           read : bits_of (bytes_at text span) ≡ got value.number
           read = ap bits_of (sym b) ∙ value.is
@@ -193,19 +193,19 @@ module _ {text ws : List ℕ} {at w next : ℕ} (s : Span) (us : Trees) (h : Lis
             all-items = items ∙ ap (tcons (atom (quoted span))) (lit-second l).is
 
             pub lit-wide : bad malformed ≡ ParseExpr.width_of text (lit-second l).tree → whole ≡ no malformed
-            lit-wide y = ap (lit text s h.scopes next) all-items ∙ lit-unsized text s h.scopes next span read (lit-second l).tree (lit-second l).others (sym y)
+            lit-wide y = ap (lit text s h.scopes next) all-items ∙ lit_unsized text s h.scopes next span read (lit-second l).tree (lit-second l).others (sym y)
 
             -- How many digits there are.
-            digits_are : length (digitsIn (bytes_at text span)) + 2 ≡ length v
-            digits_are = rw (← b) (omega (arith, length-drop 2 v, bits-long v value.number value.is))
+            digits_are : length (digits_in (bytes_at text span)) + 2 ≡ length v
+            digits_are = rw (← b) (omega (arith, length-drop 2 v, bits_long v value.number value.is))
 
-            pub lit-many : {k m : ℕ} → got k ≡ ParseExpr.width_of text (lit-second l).tree → m ≡ k → (length v ≡ 2 + m → ⊥) → whole ≡ no wrongWidth
+            pub lit-many : {k m : ℕ} → got k ≡ ParseExpr.width_of text (lit-second l).tree → m ≡ k → (length v ≡ 2 + m → ⊥) → whole ≡ no wrong_width
             lit-many y i d =
-                ap (lit text s h.scopes next) all-items ∙ lit-uneven text s h.scopes next span read (lit-second l).tree (lit-second l).others (sym y) (λ z. d (omega (arith, digits_are)))
+                ap (lit text s h.scopes next) all-items ∙ lit_uneven text s h.scopes next span read (lit-second l).tree (lit-second l).others (sym y) (λ z. d (omega (arith, digits_are)))
 
             pub made_lit : (count : ℕ) {k m u r : ℕ} {o o₁ o₂ : List ℕ} → got k ≡ ParseExpr.width_of text (lit-second l).tree → m ≡ k → length v ≡ 2 + m → Put o w (35 ∷ g.a ∷ g.b ∷ g.c ∷ g.d ∷ []) o₁ u → Put o₁ u (k ∷ []) o₂ r
                 → PlannedList text count ws at w next (tcons (atom (symbol s)) us) h (told count whole) o o₂ (Leaf r)
-            unfolding exprItems exprsItems kindItems exprs raise words_of
+            unfolding expr_items exprs_items kind_items exprs raise words_of
             made_lit count {k} {m} {u} {r} {o} {o₁} {o₂} y i d p t =
                 rw (ap (lit text s h.scopes next) all-items ∙ lit-whole text s h.scopes next span read (lit-second l).tree (lit-second l).others (sym y) (omega (arith, digits_are)), value.words)
-                (leaf-made (list (tcons (atom (symbol s)) us)) (put-append (35 ∷ g.a ∷ g.b ∷ g.c ∷ g.d ∷ []) (k ∷ []) p t) (omega (arith, p.is, t.is)))
+                (leaf-made (list (tcons (atom (symbol s)) us)) (put_append (35 ∷ g.a ∷ g.b ∷ g.c ∷ g.d ∷ []) (k ∷ []) p t) (omega (arith, p.is, t.is)))

@@ -1,15 +1,15 @@
 -- The plan of a tree: a list, or an atom by its kind.
 use Rattle.std.proofs.Common.{◌≡◌, ℕ, ◌+◌, ◌≤◌, List, [], ◌∷◌, ◌++◌, length, get_or, drop, sym, refl, ap, ◌∙◌, arith}
-use Rattle.reading.specs.Limits.{maxLists}
-use Rattle.reading.specs.Tree.{symbol, quoted, integer, decimal, boolean, Tree, Trees, atom, list, atomWords, treeWords, nesting}
+use Rattle.reading.specs.Limits.{max_lists}
+use Rattle.reading.specs.Tree.{symbol, quoted, integer, decimal, boolean, Tree, Trees, atom, list, atom_words, tree_words, nesting}
 use Rattle.reading.specs.Answer.{ok}
 use Rattle.grammar.specs.Scope
 use Rattle.grammar.specs.Scope.{Scope}
 use Rattle.grammar.specs.Item.{raise, words_of}
-use Rattle.grammar.specs.Expr.{exprItems, exprs, kindItems}
+use Rattle.grammar.specs.Expr.{expr_items, exprs, kind_items}
 use Rattle.grammar.specs.ParseExpr
 use Rattle.grammar.specs.ParseExpr.{numeral}
-use Rattle.grammar.specs.Written.{exprWords, told}
+use Rattle.grammar.specs.Written.{expr_words, told}
 use Rattle.places.specs.Spot.{Spot}
 use Rattle.scopes.specs.Scopes.{OpenScopes}
 use Rattle.places.specs.Outcome.{bound, Put}
@@ -27,8 +27,8 @@ leaf-made t {ws} {o} {o'} {w} {u} {next} p l =
     wrote y
 
 module _ {ws : List ℕ} {at : ℕ} (p : Spot ws at) where
-  three-words : (t : Tree) (rest : List ℕ) → (get_or (treeWords t ++ rest) 0 0 ≡ 20 → ⊥) → 3 ≤ length (treeWords t)
-  unfolding treeWords atomWords
+  three-words : (t : Tree) (rest : List ℕ) → (get_or (tree_words t ++ rest) 0 0 ≡ 20 → ⊥) → 3 ≤ length (tree_words t)
+  unfolding tree_words atom_words
   three-words (atom (symbol s)) rest n = omega arith
   three-words (atom (quoted s)) rest n = omega arith
   three-words (atom (integer v)) rest n = omega arith
@@ -36,8 +36,8 @@ module _ {ws : List ℕ} {at : ℕ} (p : Spot ws at) where
   three-words (atom (boolean b)) rest n = absurd (n refl)
   three-words (list ts) rest n = omega arith
 
-  five-words : (t : Tree) (rest : List ℕ) → get_or (treeWords t ++ rest) 0 0 ≡ 18 → 5 ≤ length (treeWords t)
-  unfolding treeWords atomWords
+  five-words : (t : Tree) (rest : List ℕ) → get_or (tree_words t ++ rest) 0 0 ≡ 18 → 5 ≤ length (tree_words t)
+  unfolding tree_words atom_words
   five-words (atom (symbol s)) rest n = absurd (omega arith)
   five-words (atom (quoted s)) rest n = absurd (omega arith)
   five-words (atom (integer v)) rest n = omega arith
@@ -57,8 +57,8 @@ module _ (text : List ℕ) (ws : List ℕ) (at : ℕ) (es : List ℕ) (d w next 
   abbrev pub here-scopes : OpenScopes ws es d
   here-scopes = record { scopes = h.scopes; holds = h.holds; within = omega (arith, h.shallow, h.long) }
 
-  list_of : (t : Tree) (rest : List ℕ) → drop at ws ≡ treeWords t ++ rest → d + nesting t ≤ maxLists → most w next t ≤ bound → get_or (treeWords t ++ rest) 0 0 ≡ 21 → SomeList text ws at w next
-  unfolding treeWords atomWords
+  list_of : (t : Tree) (rest : List ℕ) → drop at ws ≡ tree_words t ++ rest → d + nesting t ≤ max_lists → most w next t ≤ bound → get_or (tree_words t ++ rest) 0 0 ≡ 21 → SomeList text ws at w next
+  unfolding tree_words atom_words
   list_of (atom (symbol x)) rest e l r k = absurd (omega arith)
   list_of (atom (quoted x)) rest e l r k = absurd (omega arith)
   list_of (atom (integer x)) rest e l r k = absurd (omega arith)
@@ -74,10 +74,10 @@ module _ (text : List ℕ) (ws : List ℕ) (at : ℕ) (es : List ℕ) (d w next 
     abbrev PlanOf : Tree → Plan → Type 0
     PlanOf t p = Plans text count ws at d next h.scopes (told count ((ParseExpr.child text t).plainly h.scopes next)) w o o' (most w next t) p
 
-    plan-list : (t : Tree) (rest : List ℕ) → drop at ws ≡ treeWords t ++ rest → d + nesting t ≤ maxLists → most w next t ≤ bound → get_or (treeWords t ++ rest) 0 0 ≡ 21
-        → ((items : Trees) (h' : Listed text ws at w next items) → PlannedList text count ws at w next items h' (told count (ParseExpr.listExpr text (ParseExpr.children text items) h'.scopes next)) o o' r)
+    plan-list : (t : Tree) (rest : List ℕ) → drop at ws ≡ tree_words t ++ rest → d + nesting t ≤ max_lists → most w next t ≤ bound → get_or (tree_words t ++ rest) 0 0 ≡ 21
+        → ((items : Trees) (h' : Listed text ws at w next items) → PlannedList text count ws at w next items h' (told count (ParseExpr.list_expr text (ParseExpr.children text items) h'.scopes next)) o o' r)
         → PlanOf t r
-    unfolding treeWords atomWords ParseExpr.child ParseExpr.listChild
+    unfolding tree_words atom_words ParseExpr.child ParseExpr.list_child
     plan-list (atom (symbol x)) rest e l m k f = absurd (omega arith)
     plan-list (atom (quoted x)) rest e l m k f = absurd (omega arith)
     plan-list (atom (integer x)) rest e l m k f = absurd (omega arith)
@@ -86,7 +86,7 @@ module _ (text : List ℕ) (ws : List ℕ) (at : ℕ) (es : List ℕ) (d w next 
     plan-list (list ts) rest e l m k f = f ts (record { rest = rest; words = e; scopes = h.scopes; depth = d; shallow = l; room = m; bytes = h.bytes })
 
     pub planned-list : get_or ws at 0 ≡ 21
-        → ((items : Trees) (h' : Listed text ws at w next items) → PlannedList text count ws at w next items h' (told count (ParseExpr.listExpr text (ParseExpr.children text items) h'.scopes next)) o o' r)
+        → ((items : Trees) (h' : Listed text ws at w next items) → PlannedList text count ws at w next items h' (told count (ParseExpr.list_expr text (ParseExpr.children text items) h'.scopes next)) o o' r)
         → Planned text count ws at es d w next h o o' r
     planned-list k f = plan-list h.spot.tree h.spot.rest h.spot.words h.shallow h.room (sym (word0 h.spot) ∙ k) f
 
@@ -95,12 +95,12 @@ module _ (text : List ℕ) (ws : List ℕ) (at : ℕ) (es : List ℕ) (d w next 
     abbrev LeafOf : Tree → Type 0
     LeafOf t = Parsed (told count ((ParseExpr.child text t).plainly h.scopes next)) w o o' (most w next t) (Done u next)
 
-    at_one : (t : Tree) (rest : List ℕ) → drop at ws ≡ treeWords t ++ rest → (i : ℕ) → get_or ws (at + i) 0 ≡ get_or (treeWords t ++ rest) i 0
+    at_one : (t : Tree) (rest : List ℕ) → drop at ws ≡ tree_words t ++ rest → (i : ℕ) → get_or ws (at + i) 0 ≡ get_or (tree_words t ++ rest) i 0
     at_one t rest e i = word {ws = ws} {at = at} (record { tree = t; rest = rest; words = e }) i
 
-    plan-symbol : (t : Tree) (rest : List ℕ) → drop at ws ≡ treeWords t ++ rest → get_or (treeWords t ++ rest) 0 0 ≡ 16
-        → Put o w (exprWords count (Scope.symbolExpr text (record { start = get_or ws (at + 1) 0; len = get_or ws (at + 2) 0 }) h.scopes)) o' u → u ≤ w + 3 → LeafOf t
-    unfolding treeWords atomWords ParseExpr.child ParseExpr.atomChild ParseExpr.atomExpr
+    plan-symbol : (t : Tree) (rest : List ℕ) → drop at ws ≡ tree_words t ++ rest → get_or (tree_words t ++ rest) 0 0 ≡ 16
+        → Put o w (expr_words count (Scope.symbol_expr text (record { start = get_or ws (at + 1) 0; len = get_or ws (at + 2) 0 }) h.scopes)) o' u → u ≤ w + 3 → LeafOf t
+    unfolding tree_words atom_words ParseExpr.child ParseExpr.atom_child ParseExpr.atom_expr
     plan-symbol (atom (symbol x)) rest e k p l = leaf-made (atom (symbol x)) (rw (sym (at_one (atom (symbol x)) rest e 1), sym (at_one (atom (symbol x)) rest e 2)) p) (omega arith)
     plan-symbol (atom (quoted x)) rest e k p l = absurd (omega arith)
     plan-symbol (atom (integer x)) rest e k p l = absurd (omega arith)
@@ -108,12 +108,12 @@ module _ (text : List ℕ) (ws : List ℕ) (at : ℕ) (es : List ℕ) (d w next 
     plan-symbol (atom (boolean x)) rest e k p l = absurd (omega arith)
     plan-symbol (list ts) rest e k p l = absurd (omega arith)
 
-    pub planned-symbol : get_or ws at 0 ≡ 16 → Put o w (exprWords count (Scope.symbolExpr text (record { start = get_or ws (at + 1) 0; len = get_or ws (at + 2) 0 }) h.scopes)) o' u → u ≤ w + 3 → Planned text count ws at es d w next h o o' (Leaf u)
+    pub planned-symbol : get_or ws at 0 ≡ 16 → Put o w (expr_words count (Scope.symbol_expr text (record { start = get_or ws (at + 1) 0; len = get_or ws (at + 2) 0 }) h.scopes)) o' u → u ≤ w + 3 → Planned text count ws at es d w next h o o' (Leaf u)
     planned-symbol k p l = plan-symbol h.spot.tree h.spot.rest h.spot.words (sym (word0 h.spot) ∙ k) p l
 
-    plan-integer : (t : Tree) (rest : List ℕ) → drop at ws ≡ treeWords t ++ rest → get_or (treeWords t ++ rest) 0 0 ≡ 18
-        → Put o w (exprWords count (numeral (record { a = get_or ws (at + 1) 0; b = get_or ws (at + 2) 0; c = get_or ws (at + 3) 0; d = get_or ws (at + 4) 0 }))) o' u → u ≤ w + 6 → LeafOf t
-    unfolding treeWords atomWords ParseExpr.child ParseExpr.atomChild ParseExpr.atomExpr
+    plan-integer : (t : Tree) (rest : List ℕ) → drop at ws ≡ tree_words t ++ rest → get_or (tree_words t ++ rest) 0 0 ≡ 18
+        → Put o w (expr_words count (numeral (record { a = get_or ws (at + 1) 0; b = get_or ws (at + 2) 0; c = get_or ws (at + 3) 0; d = get_or ws (at + 4) 0 }))) o' u → u ≤ w + 6 → LeafOf t
+    unfolding tree_words atom_words ParseExpr.child ParseExpr.atom_child ParseExpr.atom_expr
     plan-integer (atom (symbol x)) rest e k p l = absurd (omega arith)
     plan-integer (atom (quoted x)) rest e k p l = absurd (omega arith)
     plan-integer (atom (integer x)) rest e k p l =
@@ -122,12 +122,12 @@ module _ (text : List ℕ) (ws : List ℕ) (at : ℕ) (es : List ℕ) (d w next 
     plan-integer (atom (boolean x)) rest e k p l = absurd (omega arith)
     plan-integer (list ts) rest e k p l = absurd (omega arith)
 
-    pub planned-integer : get_or ws at 0 ≡ 18 → Put o w (exprWords count (numeral (record { a = get_or ws (at + 1) 0; b = get_or ws (at + 2) 0; c = get_or ws (at + 3) 0; d = get_or ws (at + 4) 0 }))) o' u → u ≤ w + 6
+    pub planned-integer : get_or ws at 0 ≡ 18 → Put o w (expr_words count (numeral (record { a = get_or ws (at + 1) 0; b = get_or ws (at + 2) 0; c = get_or ws (at + 3) 0; d = get_or ws (at + 4) 0 }))) o' u → u ≤ w + 6
         → Planned text count ws at es d w next h o o' (Leaf u)
     planned-integer k p l = plan-integer h.spot.tree h.spot.rest h.spot.words (sym (word0 h.spot) ∙ k) p l
 
-    plan-boolean : (t : Tree) (rest : List ℕ) → drop at ws ≡ treeWords t ++ rest → get_or (treeWords t ++ rest) 0 0 ≡ 20 → Put o w (33 ∷ get_or ws (at + 1) 0 ∷ []) o' u → LeafOf t
-    unfolding treeWords atomWords ParseExpr.child ParseExpr.atomChild ParseExpr.atomExpr exprItems exprs kindItems raise words_of
+    plan-boolean : (t : Tree) (rest : List ℕ) → drop at ws ≡ tree_words t ++ rest → get_or (tree_words t ++ rest) 0 0 ≡ 20 → Put o w (33 ∷ get_or ws (at + 1) 0 ∷ []) o' u → LeafOf t
+    unfolding tree_words atom_words ParseExpr.child ParseExpr.atom_child ParseExpr.atom_expr expr_items exprs kind_items raise words_of
     plan-boolean (atom (symbol x)) rest e k p = absurd (omega arith)
     plan-boolean (atom (quoted x)) rest e k p = absurd (omega arith)
     plan-boolean (atom (integer x)) rest e k p = absurd (omega arith)
@@ -138,8 +138,8 @@ module _ (text : List ℕ) (ws : List ℕ) (at : ℕ) (es : List ℕ) (d w next 
     pub planned-boolean : get_or ws at 0 ≡ 20 → Put o w (33 ∷ get_or ws (at + 1) 0 ∷ []) o' u → Planned text count ws at es d w next h o o' (Leaf u)
     planned-boolean k p = plan-boolean h.spot.tree h.spot.rest h.spot.words (sym (word0 h.spot) ∙ k) p
 
-    plan-quoted : (t : Tree) (rest : List ℕ) → drop at ws ≡ treeWords t ++ rest → get_or (treeWords t ++ rest) 0 0 ≡ 17 → Put o w (34 ∷ get_or ws (at + 1) 0 ∷ get_or ws (at + 2) 0 ∷ []) o' u → LeafOf t
-    unfolding treeWords atomWords ParseExpr.child ParseExpr.atomChild ParseExpr.atomExpr exprItems exprs kindItems raise words_of
+    plan-quoted : (t : Tree) (rest : List ℕ) → drop at ws ≡ tree_words t ++ rest → get_or (tree_words t ++ rest) 0 0 ≡ 17 → Put o w (34 ∷ get_or ws (at + 1) 0 ∷ get_or ws (at + 2) 0 ∷ []) o' u → LeafOf t
+    unfolding tree_words atom_words ParseExpr.child ParseExpr.atom_child ParseExpr.atom_expr expr_items exprs kind_items raise words_of
     plan-quoted (atom (symbol x)) rest e k p = absurd (omega arith)
     plan-quoted (atom (quoted x)) rest e k p = leaf-made (atom (quoted x)) (rw (sym (at_one (atom (quoted x)) rest e 1), sym (at_one (atom (quoted x)) rest e 2)) p) (omega (arith, p.is))
     plan-quoted (atom (integer x)) rest e k p = absurd (omega arith)
@@ -152,9 +152,9 @@ module _ (text : List ℕ) (ws : List ℕ) (at : ℕ) (es : List ℕ) (d w next 
 
   module _ (count : ℕ) (o o' : List ℕ) where
     -- What is none of the others is a decimal.
-    plan-decimal : (t : Tree) (rest : List ℕ) {k : ℕ} → k ≡ get_or (treeWords t ++ rest) 0 0 → (k ≡ 21 → ⊥) → (k ≡ 16 → ⊥) → (k ≡ 18 → ⊥) → (k ≡ 20 → ⊥) → (k ≡ 17 → ⊥)
+    plan-decimal : (t : Tree) (rest : List ℕ) {k : ℕ} → k ≡ get_or (tree_words t ++ rest) 0 0 → (k ≡ 21 → ⊥) → (k ≡ 16 → ⊥) → (k ≡ 18 → ⊥) → (k ≡ 20 → ⊥) → (k ≡ 17 → ⊥)
         → Parsed (told count ((ParseExpr.child text t).plainly h.scopes next)) w o o' (most w next t) (Refused 9)
-    unfolding treeWords atomWords ParseExpr.child ParseExpr.atomChild ParseExpr.atomExpr
+    unfolding tree_words atom_words ParseExpr.child ParseExpr.atom_child ParseExpr.atom_expr
     plan-decimal (atom (symbol x)) rest e a b c d f = absurd (b e)
     plan-decimal (atom (quoted x)) rest e a b c d f = absurd (f e)
     plan-decimal (atom (integer x)) rest e a b c d f = absurd (c e)

@@ -1,12 +1,12 @@
 -- What the parser of expressions asks of a call and leaves behind it: a plan, operands, an expression.
 use Rattle.std.specs.Prelude.{◌≡◌, ℕ, ◌+◌, ◌*◌, ◌<◌, ◌≤◌, true, false, List, [], ◌∷◌, ◌++◌, length, drop}
-use Rattle.reading.specs.Limits.{maxBytes, maxLists}
+use Rattle.reading.specs.Limits.{max_bytes, max_lists}
 use Rattle.reading.specs.Bytes.{Span}
-use Rattle.reading.specs.Tree.{symbol, Tree, Trees, atom, list, tcons, trees, treeWords, treesWords, nesting, nestings}
+use Rattle.reading.specs.Tree.{symbol, Tree, Trees, atom, list, tcons, trees, tree_words, trees_words, nesting, nestings}
 use Rattle.reading.specs.Answer.{Refusal, number, ok, no}
 use Rattle.grammar.specs.Scope.{Scope}
 use Rattle.grammar.specs.ParseExpr.{child}
-use Rattle.grammar.specs.Written.{W, told, after, operandsW, endW, Last, noLast, seenLast, plainLast, boundLast}
+use Rattle.grammar.specs.Written.{W, told, after, operands_w, end_w, Last, no_last, seen_last, plain_last, bound_last}
 use Rattle.places.specs.Spot.{Spot}
 use Rattle.scopes.specs.Scopes.{Pairs, Opened, inner, slots}
 use Rattle.writing.specs.Laid.{laid}
@@ -35,7 +35,7 @@ pub data Parsed : W → ℕ → List ℕ → List ℕ → ℕ → Progress → T
 
 -- The most that the words of a tree, and its numbers, come to.
 abbrev pub most : ℕ → ℕ → Tree → ℕ
-most w next t = w + next + factor * length (treeWords t)
+most w next t = w + next + factor * length (tree_words t)
 
 -- Where a tree stands, the scopes round it, and room for its words and numbers.
 pub record Here (text ws : List ℕ) (at : ℕ) (es : List ℕ) (d w next : ℕ) : Type 0 where
@@ -43,32 +43,32 @@ pub record Here (text ws : List ℕ) (at : ℕ) (es : List ℕ) (d w next : ℕ)
   pub scopes : List Scope
   pub holds : Opened ws es d scopes
   pub long : slots ≤ length es
-  pub shallow : d + nesting spot.tree ≤ maxLists
+  pub shallow : d + nesting spot.tree ≤ max_lists
   pub room : most w next spot.tree ≤ bound
-  pub bytes : length text ≤ maxBytes
+  pub bytes : length text ≤ max_bytes
 
 -- The same of some trees, one after the other.
 pub record Row (text ws : List ℕ) (at have : ℕ) (es : List ℕ) (d w next : ℕ) : Type 0 where
   pub items : Trees
   pub rest : List ℕ
-  pub words : drop at ws ≡ treesWords items ++ rest
+  pub words : drop at ws ≡ trees_words items ++ rest
   pub many : have ≡ trees items
   pub scopes : List Scope
   pub holds : Opened ws es d scopes
   pub long : slots ≤ length es
-  pub shallow : d + nestings items ≤ maxLists
-  pub room : w + next + factor * length (treesWords items) ≤ bound
-  pub bytes : length text ≤ maxBytes
+  pub shallow : d + nestings items ≤ max_lists
+  pub room : w + next + factor * length (trees_words items) ≤ bound
+  pub bytes : length text ≤ max_bytes
 
 -- A list of these items at a place, so many scopes being open round it.
 pub record Listed (text ws : List ℕ) (at w next : ℕ) (items : Trees) : Type 0 where
   pub rest : List ℕ
-  pub words : drop at ws ≡ treeWords (list items) ++ rest
+  pub words : drop at ws ≡ tree_words (list items) ++ rest
   pub scopes : List Scope
   pub depth : ℕ
-  pub shallow : depth + nesting (list items) ≤ maxLists
+  pub shallow : depth + nesting (list items) ≤ max_lists
   pub room : most w next (list items) ≤ bound
-  pub bytes : length text ≤ maxBytes
+  pub bytes : length text ≤ max_bytes
 
 -- Some list.
 pub record SomeList (text ws : List ℕ) (at w next : ℕ) : Type 0 where
@@ -90,7 +90,7 @@ pub record Headed (text ws : List ℕ) (at w next : ℕ) : Type 0 where
 -- A tree at a place beyond another.
 pub record EndSpot (ws : List ℕ) (at l : ℕ) (t : Tree) : Type 0 where
   pub rest : List ℕ
-  pub words : drop l ws ≡ treeWords t ++ rest
+  pub words : drop l ws ≡ tree_words t ++ rest
   pub beyond : at < l
 
 -- The pair of a let that is written from w on: its name is bound behind the operands, and the words of its number are still free.
@@ -103,23 +103,23 @@ pub record BoundPair (ws : List ℕ) (w : ℕ) (r : Run) (s : Span) : Type 0 whe
 
 -- The place of one tree more, 0 if there is none; whether it is not seen through; and the pair whose name is bound in it, 0 if there is none.
 abbrev pub EndsAt : List ℕ → ℕ → ℕ → Run → Last → Type 0
-EndsAt ws at w r noLast = (r.last ≡ 0) × (r.pair ≡ 0)
-EndsAt ws at w r (seenLast t) = EndSpot ws at r.last t × (r.plain ≡ false) × (r.pair ≡ 0)
-EndsAt ws at w r (plainLast t) = EndSpot ws at r.last t × (r.plain ≡ true) × (r.pair ≡ 0)
-EndsAt ws at w r (boundLast s t) = EndSpot ws at r.last t × (r.plain ≡ false) × BoundPair ws w r s
+EndsAt ws at w r no_last = (r.last ≡ 0) × (r.pair ≡ 0)
+EndsAt ws at w r (seen_last t) = EndSpot ws at r.last t × (r.plain ≡ false) × (r.pair ≡ 0)
+EndsAt ws at w r (plain_last t) = EndSpot ws at r.last t × (r.plain ≡ true) × (r.pair ≡ 0)
+EndsAt ws at w r (bound_last s t) = EndSpot ws at r.last t × (r.plain ≡ false) × BoundPair ws w r s
 
 -- How deep that tree nests, and how many words it has; one more for a number that is taken before it.
-abbrev pub endNesting : Last → ℕ
-endNesting noLast = 0
-endNesting (seenLast t) = nesting t
-endNesting (plainLast t) = nesting t
-endNesting (boundLast s t) = nesting t
+abbrev pub end_nesting : Last → ℕ
+end_nesting no_last = 0
+end_nesting (seen_last t) = nesting t
+end_nesting (plain_last t) = nesting t
+end_nesting (bound_last s t) = nesting t
 
-abbrev pub endSize : Last → ℕ
-endSize noLast = 0
-endSize (seenLast t) = length (treeWords t)
-endSize (plainLast t) = length (treeWords t)
-endSize (boundLast s t) = length (treeWords t) + 1
+abbrev pub end_size : Last → ℕ
+end_size no_last = 0
+end_size (seen_last t) = length (tree_words t)
+end_size (plain_last t) = length (tree_words t)
+end_size (bound_last s t) = length (tree_words t) + 1
 
 -- The next number behind words, if they are written.
 abbrev pub Counts : W → ℕ → Type 0
@@ -131,19 +131,19 @@ Counts (no e) m = Unit {0}
 pub record Running (text : List ℕ) (count : ℕ) (ws : List ℕ) (at depth next : ℕ) (sc : List Scope) (x : W) (w : ℕ) (o o' : List ℕ) (b : ℕ) (r : Run) : Type 0 where
   pub items : Trees
   pub rest : List ℕ
-  pub words : drop r.first ws ≡ treesWords items ++ rest
+  pub words : drop r.first ws ≡ trees_words items ++ rest
   pub many : r.have ≡ trees items
   pub beyond : at < r.first
   pub final : Last
   pub ends : EndsAt ws at w r final
   pub bind : Pairs ws r.names r.fresh
-  pub shallow : depth + 1 + nestings items ≤ maxLists
-  pub endShallow : depth + 1 + endNesting final ≤ maxLists
-  pub room : r.words + (next + r.fresh) + factor * length (treesWords items) + factor * endSize final ≤ b
+  pub shallow : depth + 1 + nestings items ≤ max_lists
+  pub end_shallow : depth + 1 + end_nesting final ≤ max_lists
+  pub room : r.words + (next + r.fresh) + factor * length (trees_words items) + factor * end_size final ≤ b
   pub goes : (o'' : List ℕ) (q : Progress) (m : ℕ)
-      → Counts (operandsW text count items r.want (inner r.names bind.names next sc) (next + r.fresh)) m
-      → Parsed (after (operandsW text count items r.want (inner r.names bind.names next sc) (next + r.fresh))
-      (λ n. endW text count final (inner r.names bind.names next sc) bind.names n)) r.words (filled r.pair (w + 1) (count + m) o') o'' b q
+      → Counts (operands_w text count items r.want (inner r.names bind.names next sc) (next + r.fresh)) m
+      → Parsed (after (operands_w text count items r.want (inner r.names bind.names next sc) (next + r.fresh))
+      (λ n. end_w text count final (inner r.names bind.names next sc) bind.names n)) r.words (filled r.pair (w + 1) (count + m) o') o'' b q
       → Parsed x w o o'' b q
 
 -- What a plan says of x: it is refused, it is written, or what is left to do.

@@ -1,7 +1,7 @@
 // The plan of an application.
 ghost use Rattle.std.specs.Prelude.{◌≡◌};
 ghost use Rattle.reading.specs.Tree.{Tree, Trees, tcons};
-ghost use Rattle.grammar.specs.ParseExpr.{children, isApply, applyForm};
+ghost use Rattle.grammar.specs.ParseExpr.{children, is_apply, apply_form};
 ghost use Rattle.grammar.specs.Written.{told};
 ghost use Rattle.places.specs.Spot.{Spot};
 ghost use Rattle.plans.specs.Plans.{Listed, Filled, PlannedList};
@@ -20,7 +20,7 @@ use words::tree_kinds::SYMBOL;
 // Whether a tree is the symbol `apply`.
 fn is_apply(text: &[u8], tree: &[u32], at: usize) -> bool
     requires { Spot tree.now at }
-    ensures { (p : Spot tree.now at) → result ≡ isApply text.now p.tree }
+    ensures { (p : Spot tree.now at) → result ≡ is_apply text.now p.tree }
 {
     if tree[at] != SYMBOL {
         return false;
@@ -39,7 +39,7 @@ pub fn app_plan(
     w: usize,
 ) -> Plan
     requires { Filled text.now tree.now at w next }
-    ensures { (t : Tree) (us : Trees) (h : Listed text.now tree.now at w next (tcons t us)) → PlannedList text.now count tree.now at w next (tcons t us) h (told count (applyForm text.now (children text.now (tcons t us)) h.scopes next)) out.old out.new result }
+    ensures { (t : Tree) (us : Trees) (h : Listed text.now tree.now at w next (tcons t us)) → PlannedList text.now count tree.now at w next (tcons t us) h (told count (apply_form text.now (children text.now (tcons t us)) h.scopes next)) out.old out.new result }
 {
     let head = at + 3;
     let Node::List(m, inner) = node_at(tree, head) else {

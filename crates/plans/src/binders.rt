@@ -1,10 +1,10 @@
 // The binders of an exists, and the parameters of a solution.
 ghost use Rattle.std.specs.Prelude.{◌≡◌, ℕ, ◌+◌, ◌%◌, ◌^◌};
 ghost use Rattle.grammar.specs.ParseExpr.{name_of, binders};
-ghost use Rattle.sorts.specs.Rows.{isGot};
+ghost use Rattle.sorts.specs.Rows.{is_got};
 ghost use Rattle.places.specs.Spot.{Spot};
 ghost use Rattle.places.specs.Outcome.{OutcomeAt};
-ghost use Rattle.plans.specs.BinderWords.{BinderRow, bindersWords};
+ghost use Rattle.plans.specs.BinderWords.{BinderRow, binders_words};
 
 use places::expr_words::put2;
 use places::place::words_at;
@@ -16,7 +16,7 @@ use words::tree_kinds::{LIST, SYMBOL};
 // Whether a tree is a pair of a name and a sort, and nothing more; the sort is not read yet.
 pub fn is_pair(tree: &[u32], at: usize) -> bool
     requires { Spot tree.now at }
-    ensures { (p : Spot tree.now at) → result ≡ isGot (name_of p.tree) }
+    ensures { (p : Spot tree.now at) → result ≡ is_got (name_of p.tree) }
 {
     if tree[at] != LIST {
         return false;
@@ -38,7 +38,7 @@ pub fn binder_words(
     w: usize,
 ) -> Answer
     requires { BinderRow tree.now at n w }
-    ensures { (h : BinderRow tree.now at n w) (count next : ℕ) → from ≡ (count + next) % 2 ^ 64 → OutcomeAt (bindersWords count next) (binders text.now h.items) w out.old out.new result }
+    ensures { (h : BinderRow tree.now at n w) (count next : ℕ) → from ≡ (count + next) % 2 ^ 64 → OutcomeAt (binders_words count next) (binders text.now h.items) w out.old out.new result }
 {
     let mut i: usize = 0;
     let mut p = at;

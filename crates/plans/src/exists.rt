@@ -1,7 +1,7 @@
 // The plan of an exists.
 ghost use Rattle.reading.specs.Bytes.{Span};
 ghost use Rattle.reading.specs.Tree.{Trees, symbol, atom, tcons};
-ghost use Rattle.grammar.specs.ParseExpr.{children, existsForm};
+ghost use Rattle.grammar.specs.ParseExpr.{children, exists_form};
 ghost use Rattle.grammar.specs.Written.{told};
 ghost use Rattle.plans.specs.Plans.{Listed, Headed, PlannedList};
 
@@ -24,7 +24,7 @@ pub fn exists_plan(
     w: usize,
 ) -> Plan
     requires { Headed text.now tree.now at w next }
-    ensures { (s : Span) (us : Trees) (h : Listed text.now tree.now at w next (tcons (atom (symbol s)) us)) → PlannedList text.now count tree.now at w next (tcons (atom (symbol s)) us) h (told count (existsForm text.now (children text.now (tcons (atom (symbol s)) us)) h.scopes next)) out.old out.new result }
+    ensures { (s : Span) (us : Trees) (h : Listed text.now tree.now at w next (tcons (atom (symbol s)) us)) → PlannedList text.now count tree.now at w next (tcons (atom (symbol s)) us) h (told count (exists_form text.now (children text.now (tcons (atom (symbol s)) us)) h.scopes next)) out.old out.new result }
 {
     if tree[at + 1] != 3 {
         return Plan::Stop(8);

@@ -2,7 +2,7 @@
 ghost use Rattle.std.specs.Prelude.{ℕ};
 ghost use Rattle.reading.specs.Bytes.{Span};
 ghost use Rattle.reading.specs.Tree.{Trees, symbol, atom, tcons};
-ghost use Rattle.grammar.specs.ParseExpr.{children, letForm};
+ghost use Rattle.grammar.specs.ParseExpr.{children, let_form};
 ghost use Rattle.grammar.specs.Written.{told};
 ghost use Rattle.plans.specs.Plans.{Listed, Headed, PlannedList};
 
@@ -16,7 +16,7 @@ use words::tree_kinds::SYMBOL;
 // free. A missing body is refused when it is reached.
 pub fn let_plan(text: &[u8], tree: &[u32], at: usize, next: u64, out: &mut [u32], w: usize) -> Plan
     requires { Headed text.now tree.now at w next }
-    ensures { (s : Span) (us : Trees) (h : Listed text.now tree.now at w next (tcons (atom (symbol s)) us)) (count : ℕ) → PlannedList text.now count tree.now at w next (tcons (atom (symbol s)) us) h (told count (letForm (children text.now (tcons (atom (symbol s)) us)) h.scopes next)) out.old out.new result }
+    ensures { (s : Span) (us : Trees) (h : Listed text.now tree.now at w next (tcons (atom (symbol s)) us)) (count : ℕ) → PlannedList text.now count tree.now at w next (tcons (atom (symbol s)) us) h (told count (let_form (children text.now (tcons (atom (symbol s)) us)) h.scopes next)) out.old out.new result }
 {
     let n = tree[at + 1];
     if n < 2 {

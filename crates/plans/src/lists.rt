@@ -3,7 +3,7 @@ ghost use Rattle.std.specs.Prelude.{◌≡◌, ℕ, ◌+◌, ◌-◌, ◌^◌, �
 ghost use Rattle.reading.specs.Pick.{pick};
 ghost use Rattle.reading.specs.Bytes.{Span};
 ghost use Rattle.reading.specs.Tree.{Trees, symbol, atom, tcons};
-ghost use Rattle.grammar.specs.ParseExpr.{children, form_of, parseForm, minusForm, listExpr};
+ghost use Rattle.grammar.specs.ParseExpr.{children, form_of, parse_form, minus_form, list_expr};
 ghost use Rattle.grammar.specs.Written.{told};
 ghost use Rattle.plans.specs.Plans.{Listed, SomeList, Headed, PlannedList};
 ghost use Rattle.plans.specs.declared.plan.Plan.TheVariants.{Stop, Go};
@@ -62,7 +62,7 @@ fn only(n: u32, at: usize, words: usize) -> Plan
 // `(- a)` is Neg, with any other number of items it is Sub.
 fn minus_plan(text: &[u8], tree: &[u32], at: usize, next: u64, out: &mut [u32], w: usize) -> Plan
     requires { Headed text.now tree.now at w next }
-    ensures { (s : Span) (us : Trees) (h : Listed text.now tree.now at w next (tcons (atom (symbol s)) us)) (count : ℕ) → PlannedList text.now count tree.now at w next (tcons (atom (symbol s)) us) h (told count (minusForm (children text.now (tcons (atom (symbol s)) us)) h.scopes next)) out.old out.new result }
+    ensures { (s : Span) (us : Trees) (h : Listed text.now tree.now at w next (tcons (atom (symbol s)) us)) (count : ℕ) → PlannedList text.now count tree.now at w next (tcons (atom (symbol s)) us) h (told count (minus_form (children text.now (tcons (atom (symbol s)) us)) h.scopes next)) out.old out.new result }
 {
     let n = tree[at + 1];
     if n == 2 {
@@ -82,7 +82,7 @@ fn named_plan(
     w: usize,
 ) -> Plan
     requires { Headed text.now tree.now at w next }
-    ensures { (s : Span) (us : Trees) (h : Listed text.now tree.now at w next (tcons (atom (symbol s)) us)) → PlannedList text.now count tree.now at w next (tcons (atom (symbol s)) us) h (told count (parseForm text.now (form_of text.now s) s (children text.now (tcons (atom (symbol s)) us)) h.scopes next)) out.old out.new result }
+    ensures { (s : Span) (us : Trees) (h : Listed text.now tree.now at w next (tcons (atom (symbol s)) us)) → PlannedList text.now count tree.now at w next (tcons (atom (symbol s)) us) h (told count (parse_form text.now (form_of text.now s) s (children text.now (tcons (atom (symbol s)) us)) h.scopes next)) out.old out.new result }
 {
     let n = tree[at + 1];
     let start = tree[at + 4];
@@ -116,7 +116,7 @@ pub fn list_plan(
     w: usize,
 ) -> Plan
     requires { SomeList text.now tree.now at w next }
-    ensures { (items : Trees) (h : Listed text.now tree.now at w next items) → PlannedList text.now count tree.now at w next items h (told count (listExpr text.now (children text.now items) h.scopes next)) out.old out.new result }
+    ensures { (items : Trees) (h : Listed text.now tree.now at w next items) → PlannedList text.now count tree.now at w next items h (told count (list_expr text.now (children text.now items) h.scopes next)) out.old out.new result }
 {
     if tree[at + 1] == 0 {
         return Plan::Stop(8);

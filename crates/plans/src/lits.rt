@@ -2,8 +2,8 @@
 ghost use Rattle.std.specs.Prelude.{◌≡◌, ℕ};
 ghost use Rattle.reading.specs.Bytes.{Span};
 ghost use Rattle.reading.specs.Tree.{Trees, symbol, atom, tcons};
-ghost use Rattle.reading.specs.Answer.{orBad, malformed};
-ghost use Rattle.grammar.specs.ParseExpr.{children, width_of, litForm};
+ghost use Rattle.reading.specs.Answer.{or_bad, malformed};
+ghost use Rattle.grammar.specs.ParseExpr.{children, width_of, lit_form};
 ghost use Rattle.sorts.specs.SortNames.{width_in};
 ghost use Rattle.grammar.specs.Written.{told};
 ghost use Rattle.places.specs.Spot.{Spot};
@@ -23,7 +23,7 @@ use words::tree_kinds::{LIST, QUOTED, SYMBOL};
 // The width that the second of two items is, whatever the first is.
 fn width_at(text: &[u8], tree: &[u32], at: usize) -> Word32
     requires { Spot tree.now at }
-    ensures { (p : Spot tree.now at) → orBad malformed (width_in result) ≡ width_of text.now p.tree }
+    ensures { (p : Spot tree.now at) → or_bad malformed (width_in result) ≡ width_of text.now p.tree }
 {
     if tree[at] != LIST {
         return Word32::No;
@@ -41,7 +41,7 @@ fn width_at(text: &[u8], tree: &[u32], at: usize) -> Word32
 // `(lit "#b.." (BitVec SIZE))`: the bits are judged before the size, and then how many digits there are behind `#b`.
 pub fn lit_plan(text: &[u8], tree: &[u32], at: usize, next: u64, out: &mut [u32], w: usize) -> Plan
     requires { Headed text.now tree.now at w next }
-    ensures { (s : Span) (us : Trees) (h : Listed text.now tree.now at w next (tcons (atom (symbol s)) us)) (count : ℕ) → PlannedList text.now count tree.now at w next (tcons (atom (symbol s)) us) h (told count (litForm text.now (children text.now (tcons (atom (symbol s)) us)) h.scopes next)) out.old out.new result }
+    ensures { (s : Span) (us : Trees) (h : Listed text.now tree.now at w next (tcons (atom (symbol s)) us)) (count : ℕ) → PlannedList text.now count tree.now at w next (tcons (atom (symbol s)) us) h (told count (lit_form text.now (children text.now (tcons (atom (symbol s)) us)) h.scopes next)) out.old out.new result }
 {
     let n = tree[at + 1];
     if n < 2 {

@@ -8,7 +8,7 @@
 // one gives the reader back as it came, and zeroes every slice that it was lent. Tree and draft are working slices, and zero after
 // every call.
 ghost use Rattle.std.specs.Prelude.{◌≡◌, []};
-ghost use Rattle.replies.specs.Calls.{oneCall, allCall, sortCall, exprCall, bindCall, solutionCall};
+ghost use Rattle.replies.specs.Calls.{one_call, all_call, sort_call, expr_call, bind_call, solution_call};
 ghost use Rattle.replies.specs.Sessions.{Promised};
 ghost use Rattle.reader.specs.Replied.{replied};
 
@@ -39,7 +39,7 @@ impl Reader {
     // long, 2 if it is not UTF-8, 3 if it ends early, 4 for a `)` too many, 5 for a string or an `@` that does not end, 6 for too many lists
     // inside one another, 7 if the output lacks room.
     pub fn read_one(self, text: &[u8], out: &mut [u32]) -> Answer
-        ensures { Promised (oneCall text.now out.old) self.next (replied result [] [] out.new) }
+        ensures { Promised (one_call text.now out.old) self.next (replied result [] [] out.new) }
     {
         Answer {
             said: read(text::read_one(text, out)),
@@ -49,7 +49,7 @@ impl Reader {
 
     // Reads all expressions of a text, and reports how many there are and how many words they have. The refusals are those of `read_one`.
     pub fn read_all(self, text: &[u8], out: &mut [u32]) -> Answer
-        ensures { Promised (allCall text.now out.old) self.next (replied result [] [] out.new) }
+        ensures { Promised (all_call text.now out.old) self.next (replied result [] [] out.new) }
     {
         Answer {
             said: read(text::read_all(text, out)),
@@ -60,7 +60,7 @@ impl Reader {
     // The sort that a text begins with; reports how many words it has, and 0. Refusals: those of `read_one`, 7 also if the tree slice lacks
     // room for the tree, 8 for a tree that is no sort, 12 for the number of a `func` that is out of range.
     pub fn sort(self, text: &[u8], tree: &mut [u32], out: &mut [u32]) -> Answer
-        ensures { Promised (sortCall text.now tree.old out.old) self.next (replied result tree.new [] out.new) }
+        ensures { Promised (sort_call text.now tree.old out.old) self.next (replied result tree.new [] out.new) }
     {
         Answer {
             said: sized(parse::sort::sort(text, tree, out)),
@@ -72,7 +72,7 @@ impl Reader {
     // as an expression, 10 for a repeated name in an exists, 11 for the digits of a `lit`, 17 if there are not as many as its size says, 13 if
     // the fresh numbers run out.
     pub fn expression(self, text: &[u8], tree: &mut [u32], out: &mut [u32]) -> Answer
-        ensures { Promised (exprCall text.now tree.old out.old) self.next (replied result tree.new [] out.new) }
+        ensures { Promised (expr_call text.now tree.old out.old) self.next (replied result tree.new [] out.new) }
     {
         let answer = parse::expression::expression(text, tree, out, self.next);
         Answer {
@@ -86,7 +86,7 @@ impl Reader {
     // The bind that a text begins with, a name, its sort and predicates; reports how many words it has, and 0. The refusals are those of
     // `expression`.
     pub fn bind(self, text: &[u8], tree: &mut [u32], out: &mut [u32]) -> Answer
-        ensures { Promised (bindCall text.now tree.old out.old) self.next (replied result tree.new [] out.new) }
+        ensures { Promised (bind_call text.now tree.old out.old) self.next (replied result tree.new [] out.new) }
     {
         let answer = parse::bind::bind(text, tree, out, self.next);
         Answer {
@@ -107,7 +107,7 @@ impl Reader {
         draft: &mut [u32],
         out: &mut [u32],
     ) -> Answer
-        ensures { Promised (solutionCall text.now tree.old draft.old out.old) self.next (replied result tree.new draft.new out.new) }
+        ensures { Promised (solution_call text.now tree.old draft.old out.old) self.next (replied result tree.new draft.new out.new) }
     {
         let answer = flatten::solution(text, tree, draft, out, self.next);
         Answer {

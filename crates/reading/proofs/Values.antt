@@ -9,7 +9,7 @@ use lib.Dec.{ltb}
 use lib.ListN.{length}
 use borrow.Author.Tests.{ltb-true, ltb-false}
 use Rattle.reading.specs.Pick.{pick}
-use Rattle.reading.specs.Number.{wide_of, value_of, isDigit, allDigits, valueFrom}
+use Rattle.reading.specs.Number.{wide_of, value_of, is_digit, all_digits, value_from}
 
 three : (x : ℕ) → x < 2 ^ 96 → x % 2 ^ 32 + 2 ^ 32 * (x / 2 ^ 32 % 2 ^ 32 + 2 ^ 32 * (x / 2 ^ 32 / 2 ^ 32 % 2 ^ 32)) ≡ x
 three x h = omega arith
@@ -22,9 +22,9 @@ value-back n h =
     ap (λ (y : ℕ). n % 2 ^ 32 + 2 ^ 32 * y) (three (n / 2 ^ 32) k) ∙ mod-add-div n (2 ^ 32)
 
 -- A digit lies between `0` and the last one of its base.
-pub digit-range : (base b : ℕ) → isDigit base b ≡ true → (48 ≤ b) × (b < 48 + base)
-unfolding isDigit pick
-digit-range base b e = go (ltb b 48) refl e
+pub digit_range : (base b : ℕ) → is_digit base b ≡ true → (48 ≤ b) × (b < 48 + base)
+unfolding is_digit pick
+digit_range base b e = go (ltb b 48) refl e
   where
     go : (t : Bool) → ltb b 48 ≡ t → pick t false (ltb b (48 + base)) ≡ true → (48 ≤ b) × (b < 48 + base)
     go true q h = absurd (false≢true h)
@@ -38,18 +38,18 @@ one_more base v d p h =
     rw (← e) (mul-le-mul_right p k)
 
 -- Digits behind a number v give a number below v + 1 times as many powers of the base as there are digits.
-digits-under : (base v : ℕ) (s : List ℕ) → allDigits base s ≡ true → valueFrom base v s < suc v * base ^ length s
-unfolding allDigits valueFrom pick
+digits-under : (base v : ℕ) (s : List ℕ) → all_digits base s ≡ true → value_from base v s < suc v * base ^ length s
+unfolding all_digits value_from pick
 digits-under base v [] e = let k : v < suc v * 1 = omega arith in rw (pow-zero base) k
-digits-under base v (b ∷ s) e = go (isDigit base b) refl e (digits-under base (base * v + (b - 48)) s)
+digits-under base v (b ∷ s) e = go (is_digit base b) refl e (digits-under base (base * v + (b - 48)) s)
   where
-    go : (t : Bool) → isDigit base b ≡ t → pick t (allDigits base s) false ≡ true
-        → (allDigits base s ≡ true → valueFrom base (base * v + (b - 48)) s < suc (base * v + (b - 48)) * base ^ length s) → valueFrom base (base * v + (b - 48)) s < suc v * base ^ suc (length s)
+    go : (t : Bool) → is_digit base b ≡ t → pick t (all_digits base s) false ≡ true
+        → (all_digits base s ≡ true → value_from base (base * v + (b - 48)) s < suc (base * v + (b - 48)) * base ^ length s) → value_from base (base * v + (b - 48)) s < suc v * base ^ suc (length s)
     go true q h k =
-        let p : (48 ≤ b) × (b < 48 + base) = digit-range base b q in
+        let p : (48 ≤ b) × (b < 48 + base) = digit_range base b q in
         rw (pow-suc base (length s)) (le_trans (k h) (one_more base v (b - 48) (base ^ length s) (omega arith)))
     go false q h k = absurd (false≢true h)
 
 -- The number that digits give is below the power of the base that has so many digits.
-pub digits-below : (base : ℕ) (s : List ℕ) → allDigits base s ≡ true → valueFrom base 0 s < base ^ length s
+pub digits-below : (base : ℕ) (s : List ℕ) → all_digits base s ≡ true → value_from base 0 s < base ^ length s
 digits-below base s e = rw (one-mul (base ^ length s)) at (digits-under base 0 s e)

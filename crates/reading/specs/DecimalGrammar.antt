@@ -2,18 +2,18 @@
 -- but one `e` or `E`; and no word of letters is one, `inf`, `infinity` and `nan` among them.
 use Rattle.std.specs.Prelude.{ℕ, ◌+◌, ◌≤◌, Bool, true, false, ◌≡◌, List, [], ◌∷◌, ◌++◌, ltb, length}
 use Rattle.reading.specs.Pick.{pick}
-use Rattle.reading.specs.Bytes.{ascii, sameBytes, Span, nothing}
-use Rattle.reading.specs.Number.{isDigit, allDigits, integerOf}
+use Rattle.reading.specs.Bytes.{ascii, same_bytes, Span, nothing}
+use Rattle.reading.specs.Number.{is_digit, all_digits, integer_of}
 use Rattle.reading.specs.Tree.{symbol, decimal}
-use Rattle.reading.specs.Token.{atomOf}
+use Rattle.reading.specs.Token.{atom_of}
 
 -- Digits only, perhaps none.
 abbrev pub Digits : List ℕ → Type 0
-Digits s = allDigits 10 s ≡ true
+Digits s = all_digits 10 s ≡ true
 
 -- A sign, or none.
 pub data Sign : List ℕ → Type 0 where
-  noSign : Sign []
+  no_sign : Sign []
   plus : Sign (ascii "+")
   minus : Sign (ascii "-")
 
@@ -29,7 +29,7 @@ pub data Mark : List ℕ → Type 0 where
 
 -- That letter, a sign or none, and digits, at least one; or no exponent.
 pub data Exponent : List ℕ → Type 0 where
-  noExponent : Exponent []
+  no_exponent : Exponent []
   exponent : {e g : List ℕ} (d : List ℕ) → Mark e → Sign g → Digits d → 1 ≤ length d → Exponent (e ++ (g ++ d))
 
 -- A decimal, and an integer too: a sign or none, figures, an exponent or none.
@@ -38,40 +38,40 @@ pub data Figured : List ℕ → Type 0 where
 
 -- The atom of some bytes is a decimal exactly if they are written so and are no integer, which a number from -2^127 to 2^127 - 1 is.
 pub record DecimalExactly (bytes : List ℕ) (s : Span) : Type 0 where
-  pub written : atomOf bytes s ≡ decimal s → Figured bytes
-  pub beyond : atomOf bytes s ≡ decimal s → integerOf bytes ≡ nothing
-  pub taken : Figured bytes → integerOf bytes ≡ nothing → atomOf bytes s ≡ decimal s
+  pub written : atom_of bytes s ≡ decimal s → Figured bytes
+  pub beyond : atom_of bytes s ≡ decimal s → integer_of bytes ≡ nothing
+  pub taken : Figured bytes → integer_of bytes ≡ nothing → atom_of bytes s ≡ decimal s
 
 -- A byte is a letter, `A` to `Z` or `a` to `z`.
-unfoldable pub isLetter : ℕ → Bool
-isLetter b = pick (ltb b 65) false (pick (ltb b 91) true (pick (ltb b 97) false (ltb b 123)))
+unfoldable pub is_letter : ℕ → Bool
+is_letter b = pick (ltb b 65) false (pick (ltb b 91) true (pick (ltb b 97) false (ltb b 123)))
 
 -- The letters among bytes.
-unfoldable pub lettersOf : List ℕ → List ℕ
-lettersOf [] = []
-lettersOf (b ∷ s) = pick (isLetter b) (b ∷ lettersOf s) (lettersOf s)
+unfoldable pub letters_of : List ℕ → List ℕ
+letters_of [] = []
+letters_of (b ∷ s) = pick (is_letter b) (b ∷ letters_of s) (letters_of s)
 
 -- A digit is among them.
-unfoldable pub hasDigit : List ℕ → Bool
-hasDigit [] = false
-hasDigit (b ∷ s) = pick (isDigit 10 b) true (hasDigit s)
+unfoldable pub has_digit : List ℕ → Bool
+has_digit [] = false
+has_digit (b ∷ s) = pick (is_digit 10 b) true (has_digit s)
 
 -- No letter, or one that is an exponent's.
 pub data AtMostOneMark : List ℕ → Type 0 where
-  noMark : AtMostOneMark []
-  oneMark : {e : List ℕ} → Mark e → AtMostOneMark e
+  no_mark : AtMostOneMark []
+  one_mark : {e : List ℕ} → Mark e → AtMostOneMark e
 
 -- A digit, and at most that letter.
 pub record DecimalHas (bytes : List ℕ) : Type 0 where
-  pub digit : hasDigit bytes ≡ true
-  pub letters : AtMostOneMark (lettersOf bytes)
+  pub digit : has_digit bytes ≡ true
+  pub letters : AtMostOneMark (letters_of bytes)
 
 -- Every atom that is a decimal has these.
 abbrev pub DecimalsHave : Type 0
-DecimalsHave = (bytes : List ℕ) (s : Span) → atomOf bytes s ≡ decimal s → DecimalHas bytes
+DecimalsHave = (bytes : List ℕ) (s : Span) → atom_of bytes s ≡ decimal s → DecimalHas bytes
 
 -- A sign or none, and bytes that are all letters, are a symbol, but for `true` and `false`.
 abbrev pub WordsAreSymbols : Type 0
 WordsAreSymbols =
-    (g w : List ℕ) (s : Span) → Sign g → lettersOf w ≡ w → sameBytes (g ++ w) (ascii "true") ≡ false → sameBytes (g ++ w) (ascii "false") ≡ false
-    → atomOf (g ++ w) s ≡ symbol s
+    (g w : List ℕ) (s : Span) → Sign g → letters_of w ≡ w → same_bytes (g ++ w) (ascii "true") ≡ false → same_bytes (g ++ w) (ascii "false") ≡ false
+    → atom_of (g ++ w) s ≡ symbol s

@@ -11,8 +11,8 @@ use lib.Dec.{ltb}
 use lib.ListN.{length, get_or, drop, drop_of_length-le}
 use lib.Seq.{drop-cons}
 use Rattle.reading.specs.Pick.{pick}
-use Rattle.reading.proofs.Picks.{pick-lt, pick-ge}
-use Rattle.recorded.specs.Numbers.{digit, numberFrom}
+use Rattle.reading.proofs.Picks.{pick_lt, pick_ge}
+use Rattle.recorded.specs.Numbers.{digit, number_from}
 
 -- A digit is at most 16.
 pub digit-small : (b : ℕ) → digit b ≤ 16
@@ -32,43 +32,43 @@ unfolding digit pick
 digit-zero = refl
 
 -- The number so far is at most the whole number.
-pub number-grows : (base v : ℕ) (s : List ℕ) → 1 ≤ base → v ≤ numberFrom base v s
-unfolding numberFrom pick
-number-grows base v [] h = omega arith
-number-grows base v (b ∷ s) h =
+pub number_grows : (base v : ℕ) (s : List ℕ) → 1 ≤ base → v ≤ number_from base v s
+unfolding number_from pick
+number_grows base v [] h = omega arith
+number_grows base v (b ∷ s) h =
     let k : v ≤ base * v + digit b = omega (arith, mul-le-mul_right v h) in
-    go (ltb (digit b) base) (le_trans k (number-grows base (base * v + digit b) s h))
+    go (ltb (digit b) base) (le_trans k (number_grows base (base * v + digit b) s h))
   where
-    go : (t : Bool) → v ≤ numberFrom base (base * v + digit b) s → v ≤ pick t (numberFrom base (base * v + digit b) s) v
+    go : (t : Bool) → v ≤ number_from base (base * v + digit b) s → v ≤ pick t (number_from base (base * v + digit b) s) v
     go true k = k
     go false k = omega arith
 
 -- The number from a place on is v and what the digits from the place i on give behind it.
-module _ (limit base : ℕ) (s : List ℕ) (at i v : ℕ) (inv : numberFrom base 0 (drop at s) ≡ numberFrom base v (drop i s)) where
+module _ (limit base : ℕ) (s : List ℕ) (at i v : ℕ) (inv : number_from base 0 (drop at s) ≡ number_from base v (drop i s)) where
   -- The text ends.
-  pub number-end : length s ≤ i → v ≤ limit → v ≡ min limit (numberFrom base 0 (drop at s))
-  unfolding numberFrom
+  pub number-end : length s ≤ i → v ≤ limit → v ≡ min limit (number_from base 0 (drop at s))
+  unfolding number_from
   number-end h k =
-      let e : numberFrom base v (drop i s) ≡ v = rw (drop_of_length-le s {i = i} h) in
+      let e : number_from base v (drop i s) ≡ v = rw (drop_of_length-le s {i = i} h) in
       omega (arith, inv, e)
 
   module _ (d : ℕ) (h : i < length s) (e : d ≡ digit (get_or s i 0)) where
     -- The next byte is no digit.
-    pub number-stop : base ≤ d → v ≤ limit → v ≡ min limit (numberFrom base 0 (drop at s))
-    unfolding numberFrom
-    number-stop k l =
-        let q : numberFrom base v (drop i s) ≡ v = rw (drop-cons s i 0) (sym (pick-ge _ (rw e at k) refl)) in
+    pub number_stop : base ≤ d → v ≤ limit → v ≡ min limit (number_from base 0 (drop at s))
+    unfolding number_from
+    number_stop k l =
+        let q : number_from base v (drop i s) ≡ v = rw (drop-cons s i 0) (sym (pick_ge _ (rw e at k) refl)) in
         omega (arith, inv, q)
 
     -- It is one.
-    pub number-next : d < base → (w : ℕ) → w ≡ base * v + d → numberFrom base 0 (drop at s) ≡ numberFrom base w (drop (i + 1) s)
-    unfolding numberFrom
+    pub number-next : d < base → (w : ℕ) → w ≡ base * v + d → number_from base 0 (drop at s) ≡ number_from base w (drop (i + 1) s)
+    unfolding number_from
     number-next k w q =
         inv
-        ∙ rw (drop-cons s i 0, add-one) (sym (pick-lt _ (rw e at k) refl))
-        ∙ ap (λ (n : ℕ). numberFrom base n (drop (i + 1) s)) (sym (q ∙ ap (λ (n : ℕ). base * v + n) e))
+        ∙ rw (drop-cons s i 0, add-one) (sym (pick_lt _ (rw e at k) refl))
+        ∙ ap (λ (n : ℕ). number_from base n (drop (i + 1) s)) (sym (q ∙ ap (λ (n : ℕ). base * v + n) e))
 
     -- With it the number is too large.
-    pub number-over : d < base → 1 ≤ base → limit < base * v + d → limit ≡ min limit (numberFrom base 0 (drop at s))
+    pub number-over : d < base → 1 ≤ base → limit < base * v + d → limit ≡ min limit (number_from base 0 (drop at s))
     number-over k l o =
-        omega (arith, number-next k (base * v + d) refl, number-grows base (base * v + d) (drop (i + 1) s) l)
+        omega (arith, number-next k (base * v + d) refl, number_grows base (base * v + d) (drop (i + 1) s) l)

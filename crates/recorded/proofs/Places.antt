@@ -8,10 +8,10 @@ use lib.Dec.{eqb, ltb}
 use lib.ListN.{length, get_or, drop, drop_of_length-le, get_or-eq_default}
 use lib.Seq.{drop-cons}
 use Rattle.reading.specs.Pick.{pick}
-use Rattle.reading.proofs.Picks.{pick-le, pick-gt, pick-lt, pick-ge, pick-holds}
+use Rattle.reading.proofs.Picks.{pick_le, pick_gt, pick_lt, pick_ge, pick-holds}
 use Rattle.recorded.specs.Numbers.{digit, decimal}
 use Rattle.recorded.specs.declared.line.Line.{Line}
-use Rattle.recorded.specs.Fields.{ends, up_to, endFrom, nextField, field, number_in}
+use Rattle.recorded.specs.Fields.{ends, up_to, end_from, next_field, field, number_in}
 
 -- Behind a text nothing but digits ends.
 pub ends-zero : ends 0 ≡ 1
@@ -33,13 +33,13 @@ module _ (k : ℕ) (s : List ℕ) (i : ℕ) where
   upto-end h = rw drop_of_length-le
 
   module _ (h : i < length s) where
-    pub upto-stop : k ≤ ends (get_or s i 0) → up_to k (drop i s) ≡ 0
+    pub upto_stop : k ≤ ends (get_or s i 0) → up_to k (drop i s) ≡ 0
     unfolding up_to
-    upto-stop e = rw (drop-cons s i 0) (sym (pick-le _ e refl))
+    upto_stop e = rw (drop-cons s i 0) (sym (pick_le _ e refl))
 
     pub upto-more : ends (get_or s i 0) < k → up_to k (drop i s) ≡ 1 + up_to k (drop (i + 1) s)
     unfolding up_to
-    upto-more e = rw (drop-cons s i 0, add-one) (sym (pick-gt _ e (omega arith)))
+    upto-more e = rw (drop-cons s i 0, add-one) (sym (pick_gt _ e (omega arith)))
 
 -- A byte that ends a part is inside the text.
 pub ends-inside : (s : List ℕ) (i : ℕ) → ends (get_or s i 0) ≡ 2 → i < length s
@@ -49,14 +49,14 @@ ends-inside s i e = go (λ h. omega (arith, e, ap ends (get_or-eq_default s 0 {n
     go h = omega arith
 
 -- Where a field ends, inside the text or with it.
-module _ (s : List ℕ) (at : ℕ) {end : ℕ} (e : end ≡ endFrom 3 s at) where
-  pub next-inside : end < length s → end + 1 ≡ nextField s at
-  unfolding nextField
-  next-inside h = rw e (pick-lt _ (rw e at h) refl)
+module _ (s : List ℕ) (at : ℕ) {end : ℕ} (e : end ≡ end_from 3 s at) where
+  pub next-inside : end < length s → end + 1 ≡ next_field s at
+  unfolding next_field
+  next-inside h = rw e (pick_lt _ (rw e at h) refl)
 
-  pub next-end : length s ≤ end → end ≡ nextField s at
-  unfolding nextField
-  next-end h = rw e (pick-ge _ (rw e at h) refl)
+  pub next-end : length s ≤ end → end ≡ next_field s at
+  unfolding next_field
+  next-end h = rw e (pick_ge _ (rw e at h) refl)
 
 -- A byte that is not 0 stands inside the text.
 pub byte_inside : (s : List ℕ) (i : ℕ) {b : ℕ} → get_or s i 0 ≡ b → (b ≡ 0 → ⊥) → i < length s
@@ -71,14 +71,14 @@ module _ (s : List ℕ) (at : ℕ) where
   unfolding field
   field-first = refl
 
-  pub field_next : (n : ℕ) {p q : ℕ} → p ≡ field n s at → q ≡ nextField s p → q ≡ field (n + 1) s at
+  pub field_next : (n : ℕ) {p q : ℕ} → p ≡ field n s at → q ≡ next_field s p → q ≡ field (n + 1) s at
   unfolding field
-  field_next n e f = f ∙ ap (nextField s) e ∙ rw add-one refl
+  field_next n e f = f ∙ ap (next_field s) e ∙ rw add-one refl
 
-  pub number-in : (n : ℕ) {p d : ℕ} → p ≡ field n s at → d ≡ decimal (drop p s) → d ≡ number_in n s at
+  pub number_in_lem : (n : ℕ) {p d : ℕ} → p ≡ field n s at → d ≡ decimal (drop p s) → d ≡ number_in n s at
   unfolding number_in
-  number-in n e f = f ∙ ap (λ (k : ℕ). decimal (drop k s)) e
+  number_in_lem n e f = f ∙ ap (λ (k : ℕ). decimal (drop k s)) e
 
 -- Lines with equal fields.
-pub line-equal : {op₁ op₂ start₁ start₂ tree₁ tree₂ draft₁ draft₂ out₁ out₂ input₁ input₂ refusal₁ refusal₂ a₁ a₂ b₁ b₂ count₁ count₂ words₁ words₂ next₁ next₂ : ℕ} → op₁ ≡ op₂ → start₁ ≡ start₂ → tree₁ ≡ tree₂ → draft₁ ≡ draft₂ → out₁ ≡ out₂ → input₁ ≡ input₂ → refusal₁ ≡ refusal₂ → a₁ ≡ a₂ → b₁ ≡ b₂ → count₁ ≡ count₂ → words₁ ≡ words₂ → next₁ ≡ next₂ → ◌≡◌ {A = Line} (record { op = op₁; start = start₁; tree = tree₁; draft = draft₁; out = out₁; input = input₁; refusal = refusal₁; a = a₁; b = b₁; count = count₁; words = words₁; next = next₁ }) (record { op = op₂; start = start₂; tree = tree₂; draft = draft₂; out = out₂; input = input₂; refusal = refusal₂; a = a₂; b = b₂; count = count₂; words = words₂; next = next₂ })
-line-equal e0 e1 e2 e3 e4 e5 e6 e7 e8 e9 e10 e11 = cc
+pub line_equal : {op₁ op₂ start₁ start₂ tree₁ tree₂ draft₁ draft₂ out₁ out₂ input₁ input₂ refusal₁ refusal₂ a₁ a₂ b₁ b₂ count₁ count₂ words₁ words₂ next₁ next₂ : ℕ} → op₁ ≡ op₂ → start₁ ≡ start₂ → tree₁ ≡ tree₂ → draft₁ ≡ draft₂ → out₁ ≡ out₂ → input₁ ≡ input₂ → refusal₁ ≡ refusal₂ → a₁ ≡ a₂ → b₁ ≡ b₂ → count₁ ≡ count₂ → words₁ ≡ words₂ → next₁ ≡ next₂ → ◌≡◌ {A = Line} (record { op = op₁; start = start₁; tree = tree₁; draft = draft₁; out = out₁; input = input₁; refusal = refusal₁; a = a₁; b = b₁; count = count₁; words = words₁; next = next₁ }) (record { op = op₂; start = start₂; tree = tree₂; draft = draft₂; out = out₂; input = input₂; refusal = refusal₂; a = a₂; b = b₂; count = count₂; words = words₂; next = next₂ })
+line_equal e0 e1 e2 e3 e4 e5 e6 e7 e8 e9 e10 e11 = cc

@@ -21,15 +21,15 @@ sets-out [] l i h = refl
 sets-out (v ∷ vs) l i h = ap (λ (m : List ℕ). sets m (suc i) vs) (set_out l i v h) ∙ sets-out vs l (suc i) (omega arith)
 
 -- Some stores, and then the others.
-pub sets-append : (xs ys l : List ℕ) (i : ℕ) → sets l i (xs ++ ys) ≡ sets (sets l i xs) (i + length xs) ys
-sets-append [] ys l i = rw add-zero
-sets-append (x ∷ xs) ys l i =
+pub sets_append : (xs ys l : List ℕ) (i : ℕ) → sets l i (xs ++ ys) ≡ sets (sets l i xs) (i + length xs) ys
+sets_append [] ys l i = rw add-zero
+sets_append (x ∷ xs) ys l i =
     let e : suc i + length xs ≡ i + suc (length xs) = omega arith in
-    sets-append xs ys (set l i x) (suc i) ∙ ap (λ (n : ℕ). sets (sets (set l i x) (suc i) xs) n ys) e
+    sets_append xs ys (set l i x) (suc i) ∙ ap (λ (n : ℕ). sets (sets (set l i x) (suc i) xs) n ys) e
 
 -- A place behind the end stands for any other.
-sets-capped : (l vs : List ℕ) (i : ℕ) → length l ≤ most → sets l (min most i) vs ≡ sets l i vs
-sets-capped l vs i h = go (leb i most) refl
+sets_capped : (l vs : List ℕ) (i : ℕ) → length l ≤ most → sets l (min most i) vs ≡ sets l i vs
+sets_capped l vs i h = go (leb i most) refl
   where
     go : (t : Bool) → leb i most ≡ t → sets l (min most i) vs ≡ sets l i vs
     go true e = ap (λ (n : ℕ). sets l n vs) (omega (arith, leb-true i most e))
@@ -55,8 +55,8 @@ module _ {l₀ : List ℕ} {n₀ : ℕ} {all l : List ℕ} {n : ℕ} {rest : Lis
         stores =
             ap (λ (m : List ℕ). sets m n' ys) el
             ∙ ap (λ (m : ℕ). sets (sets l n xs) m ys) en
-            ∙ sets-capped (sets l n xs) ys (n + length xs) (omega arith)
-            ∙ sym (sets-append xs ys l n)
+            ∙ sets_capped (sets l n xs) ys (n + length xs) (omega arith)
+            ∙ sym (sets_append xs ys l n)
             ∙ ap (λ (m : List ℕ). sets l n m) (sym e)
             ∙ v.stores;
         counts = omega (arith, v.counts, ap length e, length-append xs ys, en);

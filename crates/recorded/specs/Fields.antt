@@ -14,17 +14,17 @@ up_to k [] = 0
 up_to k (b ∷ s) = pick (leb k (ends b)) 0 (suc (up_to k s))
 
 -- The place of that byte, from a place on.
-abbrev pub endFrom : ℕ → List ℕ → ℕ → ℕ
-endFrom k text at = at + up_to k (drop at text)
+abbrev pub end_from : ℕ → List ℕ → ℕ → ℕ
+end_from k text at = at + up_to k (drop at text)
 
 -- The place behind the next space or line end, or the end of the text.
-unfoldable pub nextField : List ℕ → ℕ → ℕ
-nextField text at = pick (ltb (endFrom 3 text at) (length text)) (endFrom 3 text at + 1) (endFrom 3 text at)
+unfoldable pub next_field : List ℕ → ℕ → ℕ
+next_field text at = pick (ltb (end_from 3 text at) (length text)) (end_from 3 text at + 1) (end_from 3 text at)
 
 -- The place of the n-th field behind the one at a place.
 unfoldable pub field : ℕ → List ℕ → ℕ → ℕ
 field zero text at = at
-field (suc n) text at = nextField text (field n text at)
+field (suc n) text at = next_field text (field n text at)
 
 -- The decimal number in the n-th field.
 unfoldable pub number_in : ℕ → List ℕ → ℕ → ℕ

@@ -7,9 +7,9 @@ unfoldable pub digit : ℕ → ℕ
 digit b = pick (ltb b 48) 16 (pick (ltb b 58) (b - 48) (pick (ltb b 97) 16 (pick (ltb b 103) (b - 87) 16)))
 
 -- The number that the digits in front of a text give, behind the number v. It ends before a byte that is no digit of the base.
-unfoldable pub numberFrom : ℕ → ℕ → List ℕ → ℕ
-numberFrom base v [] = v
-numberFrom base v (b ∷ s) = pick (ltb (digit b) base) (numberFrom base (base * v + digit b) s) v
+unfoldable pub number_from : ℕ → ℕ → List ℕ → ℕ
+number_from base v [] = v
+number_from base v (b ∷ s) = pick (ltb (digit b) base) (number_from base (base * v + digit b) s) v
 
 -- The largest number of 64 bits.
 abbrev pub most : ℕ
@@ -17,8 +17,8 @@ most = 2 ^ 64 - 1
 
 -- The decimal number in front of a text. One that has more than 64 bits counts as the largest that has 64.
 unfoldable pub decimal : List ℕ → ℕ
-decimal s = min most (numberFrom 10 0 s)
+decimal s = min most (number_from 10 0 s)
 
 -- The hexadecimal number in front of a text. One that has more than 32 bits counts as the largest that has 32.
 unfoldable pub hexadecimal : List ℕ → ℕ
-hexadecimal s = min (2 ^ 32 - 1) (numberFrom 16 0 s)
+hexadecimal s = min (2 ^ 32 - 1) (number_from 16 0 s)

@@ -3,7 +3,7 @@ ghost use Rattle.std.specs.Prelude.{◌≡◌, ◌+◌, ◌<◌, min, [], ◌∷
 ghost use Rattle.std.proofs.lemmas.List.Edits.{sets};
 ghost use Rattle.reading.specs.Answer.{over};
 ghost use Rattle.recorded.specs.Numbers.{most};
-ghost use Rattle.recorded.specs.Spelled.{times as timesOf, bytesOnce, wordOnce, again, bytesIn, words_in};
+ghost use Rattle.recorded.specs.Spelled.{times as timesOf, bytes_once, word_once, again, bytes_in, words_in};
 
 use crate::numbers::{byte_at, decimal, digit, end_from, ends, hexadecimal};
 
@@ -30,7 +30,7 @@ fn times(lines: &[u8], at: usize) -> usize
 
 // Puts the bytes that the field at a place spells into the text, and says how many there are.
 pub fn put_bytes(lines: &[u8], at: usize, text: &mut [u8]) -> usize
-    ensures { (result ≡ min most (length (bytesIn (drop at lines.now)))) × (text.new ≡ over (bytesIn (drop at lines.now)) text.old) }
+    ensures { (result ≡ min most (length (bytes_in (drop at lines.now)))) × (text.new ≡ over (bytes_in (drop at lines.now)) text.old) }
 {
     let mut i = at;
     let mut n: usize = 0;
@@ -46,7 +46,7 @@ pub fn put_bytes(lines: &[u8], at: usize, text: &mut [u8]) -> usize
 
 // The bytes of the part at a place, so many times, behind the first n bytes of the text; answers how many there are then.
 fn repeat_bytes(lines: &[u8], at: usize, times: usize, text: &mut [u8], n: usize) -> usize
-    ensures { (result ≡ min most (n + length (again times (bytesOnce (drop at lines.now))))) × (text.new ≡ sets text.old n (again times (bytesOnce (drop at lines.now)))) }
+    ensures { (result ≡ min most (n + length (again times (bytes_once (drop at lines.now))))) × (text.new ≡ sets text.old n (again times (bytes_once (drop at lines.now)))) }
 {
     let mut len = n;
     let mut k: usize = 0;
@@ -59,7 +59,7 @@ fn repeat_bytes(lines: &[u8], at: usize, times: usize, text: &mut [u8], n: usize
 
 // The same, once.
 fn copy_bytes(lines: &[u8], at: usize, text: &mut [u8], n: usize) -> usize
-    ensures { (result ≡ min most (n + length (bytesOnce (drop at lines.now)))) × (text.new ≡ sets text.old n (bytesOnce (drop at lines.now))) }
+    ensures { (result ≡ min most (n + length (bytes_once (drop at lines.now)))) × (text.new ≡ sets text.old n (bytes_once (drop at lines.now))) }
 {
     let mut i = at;
     let mut len = n;
@@ -107,7 +107,7 @@ pub fn put_words(lines: &[u8], at: usize, words: &mut [u32]) -> usize
 
 // The words of the part at a place behind the first n words; answers how many there are then.
 fn put_part(lines: &[u8], at: usize, words: &mut [u32], n: usize) -> usize
-    ensures { (result ≡ min most (n + length (again (timesOf (drop at lines.now)) (wordOnce (drop at lines.now))))) × (words.new ≡ sets words.old n (again (timesOf (drop at lines.now)) (wordOnce (drop at lines.now)))) }
+    ensures { (result ≡ min most (n + length (again (timesOf (drop at lines.now)) (word_once (drop at lines.now))))) × (words.new ≡ sets words.old n (again (timesOf (drop at lines.now)) (word_once (drop at lines.now)))) }
 {
     if 15 < digit(byte_at(lines, at)) {
         return n;

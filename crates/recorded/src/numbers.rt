@@ -1,7 +1,7 @@
 // Bytes and numbers in the recorded lines, and the places where fields begin.
 ghost use Rattle.std.specs.Prelude.{◌≡◌, get_or, drop};
 ghost use Rattle.recorded.specs.Numbers.{digit as digitOf, decimal as decimalOf, hexadecimal as hexadecimalOf};
-ghost use Rattle.recorded.specs.Fields.{ends as endsOf, endFrom, nextField};
+ghost use Rattle.recorded.specs.Fields.{ends as endsOf, end_from, next_field};
 
 // The byte at a place, 0 behind the end.
 pub fn byte_at(lines: &[u8], at: usize) -> u8
@@ -99,7 +99,7 @@ pub fn ends(b: u8) -> u32
 
 // The first place from `at` on whose byte ends so much, or the end.
 pub fn end_from(k: u32, lines: &[u8], at: usize) -> usize
-    ensures { result ≡ endFrom k lines.now at }
+    ensures { result ≡ end_from k lines.now at }
 {
     let mut i = at;
     while i < lines.len() {
@@ -113,7 +113,7 @@ pub fn end_from(k: u32, lines: &[u8], at: usize) -> usize
 
 // The place behind the next space or line end.
 pub fn next_field(lines: &[u8], at: usize) -> usize
-    ensures { result ≡ nextField lines.now at }
+    ensures { result ≡ next_field lines.now at }
 {
     let end = end_from(3, lines, at);
     if end < lines.len() {

@@ -9,16 +9,16 @@ use lib.Dec.{eqb, leb}
 use lib.ListN.{length, take, drop, length-replicate}
 use lib.Seq.{take_at}
 use Rattle.reading.specs.Answer.{zeros, over}
-use Rattle.reading.proofs.Picks.{pick_true, pick-false, pick-eq, pick-ne, pick-holds}
+use Rattle.reading.proofs.Picks.{pick_true, pick-false, pick_eq, pick_ne, pick-holds}
 use Rattle.reading.proofs.Bytes.{same_refl}
 use Rattle.reading.proofs.Over.{over-length, over-fits}
 use Rattle.words.specs.declared.Answer.{Answer as FlatAnswer}
-use Rattle.flattening.specs.Operations.{flattenFinal, flattenOut}
-use Rattle.flatten.specs.Answers.{flattenAnswer}
+use Rattle.flattening.specs.Operations.{flatten_final, flatten_out}
+use Rattle.flatten.specs.Answers.{flatten_answer}
 use Rattle.session.specs.Session.{Call, outcome}
 use Rattle.replies.specs.declared.Said.{Said}
 use Rattle.reader.specs.declared.Answer.{Answer}
-use Rattle.replies.specs.Calls.{oneCall, allCall, sortCall, exprCall, bindCall, solutionCall, asSaid}
+use Rattle.replies.specs.Calls.{one_call, all_call, sort_call, expr_call, bind_call, solution_call, as_said}
 use Rattle.replies.specs.Sessions.{Promised}
 use Rattle.reader.specs.Replied.{replied}
 use Rattle.recorded.specs.declared.line.Line.{Line}
@@ -26,8 +26,8 @@ use Rattle.compared.specs.declared.Reply.{Reply}
 use Rattle.replay.specs.declared.State.{State}
 use Rattle.recorded.specs.Numbers.{most}
 use Rattle.recorded.specs.Spelled.{words_in}
-use Rattle.compared.specs.Recorded.{patterns, filled, is_zero, isRecorded, isClear}
-use Rattle.replay.specs.Called.{replyTo, flatReply, call_of, Ran, isOutcome, outcomeOn, isLent, isSameOn, countOn, text_of, isSame, countAfter, isFlattened, isFlat, isRight}
+use Rattle.compared.specs.Recorded.{patterns, filled, is_zero, is_recorded, is_clear}
+use Rattle.replay.specs.Called.{reply_to, flat_reply, call_of, Ran, is_outcome, outcome_on, is_lent, is_same_on, count_on, text_of, is_same, count_after, is_flattened, is_flat, is_right}
 use Rattle.replay.specs.Tally.{Told, Stepped}
 use Rattle.compared.proofs.Comparing.{and_no, and_yes}
 
@@ -46,22 +46,22 @@ unfolding outcome
 draft-zero call c e = ap is_zero e ∙ zeros-zero call.draft
 
 module _ (op : ℕ) (tree draft : List ℕ) where
-  clear-one : op ≡ 82 → isClear op tree draft ≡ true
-  unfolding isClear
-  clear-one e = sym (pick-eq _ e refl)
+  clear-one : op ≡ 82 → is_clear op tree draft ≡ true
+  unfolding is_clear
+  clear-one e = sym (pick_eq _ e refl)
 
-  clear-all : op ≡ 65 → isClear op tree draft ≡ true
-  unfolding isClear
-  clear-all e = pick-holds (eqb op 82) true _ (λ b. b ≡ true) refl (sym (pick-eq _ e refl))
+  clear-all : op ≡ 65 → is_clear op tree draft ≡ true
+  unfolding is_clear
+  clear-all e = pick-holds (eqb op 82) true _ (λ b. b ≡ true) refl (sym (pick_eq _ e refl))
 
-  clear-tree : (op ≡ 76 → ⊥) → is_zero tree ≡ true → isClear op tree draft ≡ true
-  unfolding isClear
+  clear-tree : (op ≡ 76 → ⊥) → is_zero tree ≡ true → is_clear op tree draft ≡ true
+  unfolding is_clear
   clear-tree n t =
       pick-holds (eqb op 82) true _ (λ b. b ≡ true) refl
-      (pick-holds (eqb op 65) true _ (λ b. b ≡ true) refl (sym (and_yes t (pick-ne _ n refl))))
+      (pick-holds (eqb op 65) true _ (λ b. b ≡ true) refl (sym (and_yes t (pick_ne _ n refl))))
 
-  clear_both : is_zero tree ≡ true → is_zero draft ≡ true → isClear op tree draft ≡ true
-  unfolding isClear
+  clear_both : is_zero tree ≡ true → is_zero draft ≡ true → is_clear op tree draft ≡ true
+  unfolding is_clear
   clear_both t d =
       pick-holds (eqb op 82) true _ (λ b. b ≡ true) refl
       (pick-holds (eqb op 65) true _ (λ b. b ≡ true) refl
@@ -72,51 +72,51 @@ differs : {op k : ℕ} (m : ℕ) → op ≡ k → eqb k m ≡ false → op ≡ m
 differs {op} {k} m e f z = eqb-false k m f (sym e ∙ z)
 
 -- What a method promises, for the call of an operation.
-ran : {op c : ℕ} {call given : Call} {a : Answer} {t d tree draft out : List ℕ} → given ≡ call → Promised call c (replied a t d out) → isClear op tree draft ≡ true → Ran op given c a tree draft out
+ran : {op c : ℕ} {call given : Call} {a : Answer} {t d tree draft out : List ℕ} → given ≡ call → Promised call c (replied a t d out) → is_clear op tree draft ≡ true → Ran op given c a tree draft out
 ran {c = c} e p k =
     record {
-      said = p.said ∙ ap (λ (x : Call). asSaid (outcome x c).said) (sym e);
+      said = p.said ∙ ap (λ (x : Call). as_said (outcome x c).said) (sym e);
       count = p.count ∙ ap (λ (x : Call). (outcome x c).count) (sym e);
       output = p.output ∙ ap (λ (x : Call). (outcome x c).out) (sym e);
       clear = k;
     }
 
 module _ (op c : ℕ) (text tree draft out : List ℕ) {a : Answer} {tree' draft' out' : List ℕ} where
-  pub ran-one : op ≡ 82 → Promised (oneCall text out) c (replied a [] [] out') → Ran op (call_of op text tree draft out) c a tree' draft' out'
+  pub ran-one : op ≡ 82 → Promised (one_call text out) c (replied a [] [] out') → Ran op (call_of op text tree draft out) c a tree' draft' out'
   unfolding call_of
-  ran-one e p = ran (sym (pick-eq _ e refl)) p (clear-one op tree' draft' e)
+  ran-one e p = ran (sym (pick_eq _ e refl)) p (clear-one op tree' draft' e)
 
-  pub ran-all : op ≡ 65 → Promised (allCall text out) c (replied a [] [] out') → Ran op (call_of op text tree draft out) c a tree' draft' out'
+  pub ran-all : op ≡ 65 → Promised (all_call text out) c (replied a [] [] out') → Ran op (call_of op text tree draft out) c a tree' draft' out'
   unfolding call_of
-  ran-all e p = ran (sym (pick-ne _ (differs 82 e refl) (pick-eq _ e refl))) p (clear-all op tree' draft' e)
+  ran-all e p = ran (sym (pick_ne _ (differs 82 e refl) (pick_eq _ e refl))) p (clear-all op tree' draft' e)
 
-  pub ran-sort : op ≡ 83 → Promised (sortCall text tree out) c (replied a tree' [] out') → Ran op (call_of op text tree draft out) c a tree' draft' out'
+  pub ran-sort : op ≡ 83 → Promised (sort_call text tree out) c (replied a tree' [] out') → Ran op (call_of op text tree draft out) c a tree' draft' out'
   unfolding call_of
   ran-sort e p =
-      ran (sym (pick-ne _ (differs 82 e refl) (pick-ne _ (differs 65 e refl) (pick-eq _ e refl)))) p
-      (clear-tree op tree' draft' (differs 76 e refl) (tree-zero (sortCall text tree out) c p.working))
+      ran (sym (pick_ne _ (differs 82 e refl) (pick_ne _ (differs 65 e refl) (pick_eq _ e refl)))) p
+      (clear-tree op tree' draft' (differs 76 e refl) (tree-zero (sort_call text tree out) c p.working))
 
-  pub ran-expr : op ≡ 69 → Promised (exprCall text tree out) c (replied a tree' [] out') → Ran op (call_of op text tree draft out) c a tree' draft' out'
+  pub ran-expr : op ≡ 69 → Promised (expr_call text tree out) c (replied a tree' [] out') → Ran op (call_of op text tree draft out) c a tree' draft' out'
   unfolding call_of
   ran-expr e p =
-      ran (sym (pick-ne _ (differs 82 e refl) (pick-ne _ (differs 65 e refl) (pick-ne _ (differs 83 e refl) (pick-eq _ e refl))))) p
-      (clear-tree op tree' draft' (differs 76 e refl) (tree-zero (exprCall text tree out) c p.working))
+      ran (sym (pick_ne _ (differs 82 e refl) (pick_ne _ (differs 65 e refl) (pick_ne _ (differs 83 e refl) (pick_eq _ e refl))))) p
+      (clear-tree op tree' draft' (differs 76 e refl) (tree-zero (expr_call text tree out) c p.working))
 
-  pub ran-bind : op ≡ 66 → Promised (bindCall text tree out) c (replied a tree' [] out') → Ran op (call_of op text tree draft out) c a tree' draft' out'
+  pub ran-bind : op ≡ 66 → Promised (bind_call text tree out) c (replied a tree' [] out') → Ran op (call_of op text tree draft out) c a tree' draft' out'
   unfolding call_of
   ran-bind e p =
-      ran (sym (pick-ne _ (differs 82 e refl) (pick-ne _ (differs 65 e refl) (pick-ne _ (differs 83 e refl) (pick-ne _ (differs 69 e refl) (pick-eq _ e refl)))))) p
-      (clear-tree op tree' draft' (differs 76 e refl) (tree-zero (bindCall text tree out) c p.working))
+      ran (sym (pick_ne _ (differs 82 e refl) (pick_ne _ (differs 65 e refl) (pick_ne _ (differs 83 e refl) (pick_ne _ (differs 69 e refl) (pick_eq _ e refl)))))) p
+      (clear-tree op tree' draft' (differs 76 e refl) (tree-zero (bind_call text tree out) c p.working))
 
-  pub ran-solution : (op ≡ 82 → ⊥) → (op ≡ 65 → ⊥) → (op ≡ 83 → ⊥) → (op ≡ 69 → ⊥) → (op ≡ 66 → ⊥) → Promised (solutionCall text tree draft out) c (replied a tree' draft' out') → Ran op (call_of op text tree draft out) c a tree' draft' out'
+  pub ran-solution : (op ≡ 82 → ⊥) → (op ≡ 65 → ⊥) → (op ≡ 83 → ⊥) → (op ≡ 69 → ⊥) → (op ≡ 66 → ⊥) → Promised (solution_call text tree draft out) c (replied a tree' draft' out') → Ran op (call_of op text tree draft out) c a tree' draft' out'
   unfolding call_of
   ran-solution n₁ n₂ n₃ n₄ n₅ p =
-      ran (sym (pick-ne _ n₁ (pick-ne _ n₂ (pick-ne _ n₃ (pick-ne _ n₄ (pick-ne _ n₅ refl)))))) p
-      (clear_both op tree' draft' (tree-zero (solutionCall text tree draft out) c p.working) (draft-zero (solutionCall text tree draft out) c p.body))
+      ran (sym (pick_ne _ n₁ (pick_ne _ n₂ (pick_ne _ n₃ (pick_ne _ n₄ (pick_ne _ n₅ refl)))))) p
+      (clear_both op tree' draft' (tree-zero (solution_call text tree draft out) c p.working) (draft-zero (solution_call text tree draft out) c p.body))
 
 -- Calls on equal slices.
-call-equal : (op : ℕ) (text : List ℕ) {t d o t₂ d₂ o₂ : List ℕ} → t ≡ t₂ → d ≡ d₂ → o ≡ o₂ → call_of op text t d o ≡ call_of op text t₂ d₂ o₂
-call-equal op text et ed eo = cc
+call_equal : (op : ℕ) (text : List ℕ) {t d o t₂ d₂ o₂ : List ℕ} → t ≡ t₂ → d ≡ d₂ → o ≡ o₂ → call_of op text t d o ≡ call_of op text t₂ d₂ o₂
+call_equal op text et ed eo = cc
 
 -- The call of a line on filled slices.
 abbrev pub lent : Line → List ℕ → List ℕ → List ℕ → List ℕ → Call
@@ -125,22 +125,22 @@ lent line text tree draft out = call_of line.op text (filled tree) (filled draft
 -- Its verdict is that of its outcome.
 module _ (line : Line) (words text tree draft out : List ℕ) {c : ℕ} {a : Answer} {t d o t' d' o' : List ℕ} (r : Ran line.op (call_of line.op text t d o) c a t' d' o') (et : t ≡ filled tree) (ed : d ≡ filled draft) (eo : o ≡ filled out) where
   pub asked-count : {n : ℕ} → n ≡ a.reader.next → n ≡ (outcome (lent line text tree draft out) c).count
-  asked-count e = e ∙ r.count ∙ ap (λ (x : Call). (outcome x c).count) (call-equal line.op text et ed eo)
+  asked-count e = e ∙ r.count ∙ ap (λ (x : Call). (outcome x c).count) (call_equal line.op text et ed eo)
 
-  verdict : {reply : Reply} {b : Bool} → b ≡ isRecorded line words reply o' → reply ≡ replyTo a.said a.reader.next → b ≡ isOutcome line words (outcome (lent line text tree draft out) c)
-  unfolding isOutcome
+  verdict : {reply : Reply} {b : Bool} → b ≡ is_recorded line words reply o' → reply ≡ reply_to a.said a.reader.next → b ≡ is_outcome line words (outcome (lent line text tree draft out) c)
+  unfolding is_outcome
   verdict {reply} {b} e f =
       e
-      ∙ ap (λ (x : Reply). isRecorded line words x o') f
-      ∙ ap (λ (x : Said). isRecorded line words (replyTo x a.reader.next) o') r.said
-      ∙ ap (λ (x : ℕ). isRecorded line words (replyTo (asSaid (outcome (call_of line.op text t d o) c).said) x) o') r.count
-      ∙ ap (λ (x : List ℕ). isRecorded line words (replyTo (asSaid (outcome (call_of line.op text t d o) c).said) (outcome (call_of line.op text t d o) c).count) x) r.output
-      ∙ ap (λ (x : Call). isOutcome line words (outcome x c)) (call-equal line.op text et ed eo)
+      ∙ ap (λ (x : Reply). is_recorded line words x o') f
+      ∙ ap (λ (x : Said). is_recorded line words (reply_to x a.reader.next) o') r.said
+      ∙ ap (λ (x : ℕ). is_recorded line words (reply_to (as_said (outcome (call_of line.op text t d o) c).said) x) o') r.count
+      ∙ ap (λ (x : List ℕ). is_recorded line words (reply_to (as_said (outcome (call_of line.op text t d o) c).said) (outcome (call_of line.op text t d o) c).count) x) r.output
+      ∙ ap (λ (x : Call). is_outcome line words (outcome x c)) (call_equal line.op text et ed eo)
 
-  pub asked-no : {reply : Reply} {b : Bool} → b ≡ isRecorded line words reply o' → reply ≡ replyTo a.said a.reader.next → b ≡ false → false ≡ isOutcome line words (outcome (lent line text tree draft out) c)
+  pub asked-no : {reply : Reply} {b : Bool} → b ≡ is_recorded line words reply o' → reply ≡ reply_to a.said a.reader.next → b ≡ false → false ≡ is_outcome line words (outcome (lent line text tree draft out) c)
   asked-no e f n = sym n ∙ verdict e f
 
-  pub asked-yes : {reply : Reply} {b same : Bool} → b ≡ isRecorded line words reply o' → reply ≡ replyTo a.said a.reader.next → b ≡ true → same ≡ isClear line.op t' d' → same ≡ isOutcome line words (outcome (lent line text tree draft out) c)
+  pub asked-yes : {reply : Reply} {b same : Bool} → b ≡ is_recorded line words reply o' → reply ≡ reply_to a.said a.reader.next → b ≡ true → same ≡ is_clear line.op t' d' → same ≡ is_outcome line words (outcome (lent line text tree draft out) c)
   asked-yes e f n k = k ∙ r.clear ∙ sym n ∙ verdict e f
 
 -- Words that were spelled into a slice with room for them.
@@ -163,92 +163,92 @@ short-spelled : {n limit : ℕ} (k : ℕ) → n ≡ min most k → n ≤ limit �
 short-spelled {n} {limit} k e h l = le-leb k limit (omega (arith, e))
 
 module _ (lines : List ℕ) (line : Line) where
-  lent-words : {n : ℕ} → n ≡ min most (length (words_in (drop line.words lines))) → 120000 < n → isLent lines line ≡ false
-  unfolding isLent
+  lent-words : {n : ℕ} → n ≡ min most (length (words_in (drop line.words lines))) → 120000 < n → is_lent lines line ≡ false
+  unfolding is_lent
   lent-words e h = sym (and_no _ (long-spelled _ e h))
 
-  lent-tree : 120000 < line.tree → isLent lines line ≡ false
-  unfolding isLent
+  lent-tree : 120000 < line.tree → is_lent lines line ≡ false
+  unfolding is_lent
   lent-tree h = and-later (leb (length (words_in (drop line.words lines))) 120000) (sym (and_no _ (lt-leb _ _ h)))
 
-  lent-draft : 120000 < line.draft → isLent lines line ≡ false
-  unfolding isLent
+  lent-draft : 120000 < line.draft → is_lent lines line ≡ false
+  unfolding is_lent
   lent-draft h = and-later (leb (length (words_in (drop line.words lines))) 120000) (and-later (leb line.tree 120000) (sym (and_no _ (lt-leb _ _ h))))
 
-  lent_out : 120000 < line.out → isLent lines line ≡ false
-  unfolding isLent
+  lent_out : 120000 < line.out → is_lent lines line ≡ false
+  unfolding is_lent
   lent_out h =
       and-later (leb (length (words_in (drop line.words lines))) 120000) (and-later (leb line.tree 120000) (and-later (leb line.draft 120000) (lt-leb _ _ h)))
 
-  lent-yes : {n : ℕ} → n ≡ min most (length (words_in (drop line.words lines))) → n ≤ 120000 → line.tree ≤ 120000 → line.draft ≤ 120000 → line.out ≤ 120000 → isLent lines line ≡ true
-  unfolding isLent
+  lent-yes : {n : ℕ} → n ≡ min most (length (words_in (drop line.words lines))) → n ≤ 120000 → line.tree ≤ 120000 → line.draft ≤ 120000 → line.out ≤ 120000 → is_lent lines line ≡ true
+  unfolding is_lent
   lent-yes e h t d o =
       sym (and_yes (short-spelled _ e h (omega arith)) (and_yes (le-leb _ _ t) (and_yes (le-leb _ _ d) (sym (le-leb _ _ o)))))
 
   -- A line that is not replayed on a text.
   module _ (text : List ℕ) (c : ℕ) where
-    not-lent : isLent lines line ≡ false → (false ≡ isSameOn lines line text c) × (c ≡ countOn lines line text c)
-    unfolding isSameOn countOn
+    not-lent : is_lent lines line ≡ false → (false ≡ is_same_on lines line text c) × (c ≡ count_on lines line text c)
+    unfolding is_same_on count_on
     not-lent e = (and_no _ e, pick-false _ e refl)
 
-    pub long-words : {n : ℕ} → n ≡ min most (length (words_in (drop line.words lines))) → 120000 < n → (false ≡ isSameOn lines line text c) × (c ≡ countOn lines line text c)
+    pub long-words : {n : ℕ} → n ≡ min most (length (words_in (drop line.words lines))) → 120000 < n → (false ≡ is_same_on lines line text c) × (c ≡ count_on lines line text c)
     long-words e h = not-lent (lent-words e h)
 
-    pub long-tree : 120000 < line.tree → (false ≡ isSameOn lines line text c) × (c ≡ countOn lines line text c)
+    pub long-tree : 120000 < line.tree → (false ≡ is_same_on lines line text c) × (c ≡ count_on lines line text c)
     long-tree h = not-lent (lent-tree h)
 
-    pub long-draft : 120000 < line.draft → (false ≡ isSameOn lines line text c) × (c ≡ countOn lines line text c)
+    pub long-draft : 120000 < line.draft → (false ≡ is_same_on lines line text c) × (c ≡ count_on lines line text c)
     long-draft h = not-lent (lent-draft h)
 
-    pub long-out : 120000 < line.out → (false ≡ isSameOn lines line text c) × (c ≡ countOn lines line text c)
+    pub long-out : 120000 < line.out → (false ≡ is_same_on lines line text c) × (c ≡ count_on lines line text c)
     long-out h = not-lent (lent_out h)
 
     -- One that is.
-    pub lend-done : {n : ℕ} → n ≡ min most (length (words_in (drop line.words lines))) → n ≤ 120000 → line.tree ≤ 120000 → line.draft ≤ 120000 → line.out ≤ 120000
+    pub lend_done : {n : ℕ} → n ≡ min most (length (words_in (drop line.words lines))) → n ≤ 120000 → line.tree ≤ 120000 → line.draft ≤ 120000 → line.out ≤ 120000
         → {ws : List ℕ} {t d o count : ℕ} {same : Bool} → ws ≡ words_in (drop line.words lines) → line.tree ≡ t → line.draft ≡ d → line.out ≡ o
-        → same ≡ isOutcome line ws (outcome (call_of line.op text (patterns 0 t) (patterns 0 d) (patterns 0 o)) c)
+        → same ≡ is_outcome line ws (outcome (call_of line.op text (patterns 0 t) (patterns 0 d) (patterns 0 o)) c)
         → count ≡ (outcome (call_of line.op text (patterns 0 t) (patterns 0 d) (patterns 0 o)) c).count
-        → (same ≡ isSameOn lines line text c) × (count ≡ countOn lines line text c)
-    unfolding isSameOn countOn outcomeOn
-    lend-done en h ht hd ho {ws} {t} {d} {o} ew et ed eo s k =
-        let y : isLent lines line ≡ true = lent-yes en h ht hd ho in
-        let e = call-equal line.op text (ap (patterns 0) (sym et)) (ap (patterns 0) (sym ed)) (ap (patterns 0) (sym eo)) in
-        (and_yes y (s ∙ ap (λ (x : List ℕ). isOutcome line x (outcome (call_of line.op text (patterns 0 t) (patterns 0 d) (patterns 0 o)) c)) ew ∙ ap (λ (x : Call). isOutcome line (words_in (drop line.words lines)) (outcome x c)) e), pick_true _ y (k ∙ ap (λ (x : Call). (outcome x c).count) e))
+        → (same ≡ is_same_on lines line text c) × (count ≡ count_on lines line text c)
+    unfolding is_same_on count_on outcome_on
+    lend_done en h ht hd ho {ws} {t} {d} {o} ew et ed eo s k =
+        let y : is_lent lines line ≡ true = lent-yes en h ht hd ho in
+        let e = call_equal line.op text (ap (patterns 0) (sym et)) (ap (patterns 0) (sym ed)) (ap (patterns 0) (sym eo)) in
+        (and_yes y (s ∙ ap (λ (x : List ℕ). is_outcome line x (outcome (call_of line.op text (patterns 0 t) (patterns 0 d) (patterns 0 o)) c)) ew ∙ ap (λ (x : Call). is_outcome line (words_in (drop line.words lines)) (outcome x c)) e), pick_true _ y (k ∙ ap (λ (x : Call). (outcome x c).count) e))
 
   -- A text that is too long, or not.
   module _ (c : ℕ) {n : ℕ} (e : n ≡ min most (length (text_of lines line))) where
-    pub long-text : 65536 < n → (false ≡ isSame lines line c) × (c ≡ countAfter lines line c)
-    unfolding isSame countAfter
+    pub long-text : 65536 < n → (false ≡ is_same lines line c) × (c ≡ count_after lines line c)
+    unfolding is_same count_after
     long-text h = let f : leb (length (text_of lines line)) 65536 ≡ false = long-spelled _ e h in (and_no _ f, pick-false _ f refl)
 
-    pub text-done : n ≤ 65536 → {text : List ℕ} {count : ℕ} {same : Bool} → text ≡ text_of lines line → (same ≡ isSameOn lines line text c) × (count ≡ countOn lines line text c) → (same ≡ isSame lines line c) × (count ≡ countAfter lines line c)
-    unfolding isSame countAfter
+    pub text-done : n ≤ 65536 → {text : List ℕ} {count : ℕ} {same : Bool} → text ≡ text_of lines line → (same ≡ is_same_on lines line text c) × (count ≡ count_on lines line text c) → (same ≡ is_same lines line c) × (count ≡ count_after lines line c)
+    unfolding is_same count_after
     text-done h {text} w p =
         let y : leb (length (text_of lines line)) 65536 ≡ true = short-spelled _ e h (omega arith) in
-        (and_yes y (p.0 ∙ ap (λ (x : List ℕ). isSameOn lines line x c) w), pick_true _ y (p.1 ∙ ap (λ (x : List ℕ). countOn lines line x c) w))
+        (and_yes y (p.0 ∙ ap (λ (x : List ℕ). is_same_on lines line x c) w), pick_true _ y (p.1 ∙ ap (λ (x : List ℕ). count_on lines line x c) w))
 
   -- A line that is flattened: its words, those recorded and its output, too long or not.
   module _ {n : ℕ} (e : n ≡ min most (length (words_in (drop line.input lines)))) where
-    pub flat-given : 8192 < n → false ≡ isFlat lines line
-    unfolding isFlat
-    flat-given h = and_no _ (long-spelled _ e h)
+    pub flat_given : 8192 < n → false ≡ is_flat lines line
+    unfolding is_flat
+    flat_given h = and_no _ (long-spelled _ e h)
 
     module _ (h : n ≤ 8192) {m : ℕ} (f : m ≡ min most (length (words_in (drop line.words lines)))) where
-      pub flat-words : 8192 < m → false ≡ isFlat lines line
-      unfolding isFlat
+      pub flat-words : 8192 < m → false ≡ is_flat lines line
+      unfolding is_flat
       flat-words k = and_yes (short-spelled _ e h (omega arith)) (and_no _ (long-spelled _ f k))
 
-      pub flat_out : m ≤ 8192 → 8192 < line.out → false ≡ isFlat lines line
-      unfolding isFlat
+      pub flat_out : m ≤ 8192 → 8192 < line.out → false ≡ is_flat lines line
+      unfolding is_flat
       flat_out k l = and_yes (short-spelled _ e h (omega arith)) (and_yes (short-spelled _ f k (omega arith)) (and_no _ (lt-leb _ _ l)))
 
-      pub flat-done : m ≤ 8192 → line.out ≤ 8192 → {ws gs : List ℕ} {o : ℕ} {r : Bool} → ws ≡ words_in (drop line.words lines) → gs ≡ words_in (drop line.input lines) → line.out ≡ o → r ≡ isFlattened line ws gs (patterns 0 o) → r ≡ isFlat lines line
-      unfolding isFlat
+      pub flat-done : m ≤ 8192 → line.out ≤ 8192 → {ws gs : List ℕ} {o : ℕ} {r : Bool} → ws ≡ words_in (drop line.words lines) → gs ≡ words_in (drop line.input lines) → line.out ≡ o → r ≡ is_flattened line ws gs (patterns 0 o) → r ≡ is_flat lines line
+      unfolding is_flat
       flat-done k l {ws} {gs} {o} ew eg eo q =
-          and_yes (short-spelled _ e h (omega arith)) (and_yes (short-spelled _ f k (omega arith)) (and_yes (le-leb _ _ l) (q ∙ ap (λ (x : List ℕ). isFlattened line x gs (patterns 0 o)) ew ∙ ap (λ (x : List ℕ). isFlattened line (words_in (drop line.words lines)) x (patterns 0 o)) eg ∙ ap (λ (n : ℕ). isFlattened line (words_in (drop line.words lines)) (words_in (drop line.input lines)) (patterns 0 n)) (sym eo))))
+          and_yes (short-spelled _ e h (omega arith)) (and_yes (short-spelled _ f k (omega arith)) (and_yes (le-leb _ _ l) (q ∙ ap (λ (x : List ℕ). is_flattened line x gs (patterns 0 o)) ew ∙ ap (λ (x : List ℕ). is_flattened line (words_in (drop line.words lines)) x (patterns 0 o)) eg ∙ ap (λ (n : ℕ). is_flattened line (words_in (drop line.words lines)) (words_in (drop line.input lines)) (patterns 0 n)) (sym eo))))
 
   -- What is counted for a line.
-  stepped : {before now after : State} {same : Bool} → Told now same after → now.answers ≡ before.answers → now.differing ≡ before.differing → now.first ≡ before.first → same ≡ isRight lines line → Stepped lines line before after
+  stepped : {before now after : State} {same : Bool} → Told now same after → now.answers ≡ before.answers → now.differing ≡ before.differing → now.first ≡ before.first → same ≡ is_right lines line → Stepped lines line before after
   stepped v ea ed ef e =
       record {
         answers = rw ea at v.answers;
@@ -256,15 +256,15 @@ module _ (lines : List ℕ) (line : Line) where
         first = rw (ed, ea, ef, e) at v.first;
       }
 
-  pub step-flat : {before after : State} {same : Bool} → line.op ≡ 70 → Told before same after → same ≡ isFlat lines line → Stepped lines line before after
-  unfolding isRight
-  step-flat o v e = stepped v refl refl refl (pick-eq _ o e)
+  pub step-flat : {before after : State} {same : Bool} → line.op ≡ 70 → Told before same after → same ≡ is_flat lines line → Stepped lines line before after
+  unfolding is_right
+  step-flat o v e = stepped v refl refl refl (pick_eq _ o e)
 
-  pub step_call : {before now after : State} {same : Bool} {c : ℕ} → (line.op ≡ 70 → ⊥) → Told now same after → now.answers ≡ before.answers → now.differing ≡ before.differing → now.first ≡ before.first → same ≡ isSame lines line c → c ≡ line.start → Stepped lines line before after
-  unfolding isRight
-  step_call o v ea ed ef e k = stepped v ea ed ef (pick-ne _ o (e ∙ ap (isSame lines line) k))
+  pub step_call : {before now after : State} {same : Bool} {c : ℕ} → (line.op ≡ 70 → ⊥) → Told now same after → now.answers ≡ before.answers → now.differing ≡ before.differing → now.first ≡ before.first → same ≡ is_same lines line c → c ≡ line.start → Stepped lines line before after
+  unfolding is_right
+  step_call o v ea ed ef e k = stepped v ea ed ef (pick_ne _ o (e ∙ ap (is_same lines line) k))
 
 -- Flattening into an output that was filled.
-pub flat-verdict : (line : Line) (words given out : List ℕ) {o o' : List ℕ} {reply : Reply} {answer : FlatAnswer} {b : Bool} → o ≡ filled out → answer ≡ flattenAnswer (flattenFinal given o) → o' ≡ flattenOut given o → reply ≡ flatReply answer → b ≡ isRecorded line words reply o' → b ≡ isFlattened line words given (filled out)
-unfolding isFlattened
+pub flat-verdict : (line : Line) (words given out : List ℕ) {o o' : List ℕ} {reply : Reply} {answer : FlatAnswer} {b : Bool} → o ≡ filled out → answer ≡ flatten_answer (flatten_final given o) → o' ≡ flatten_out given o → reply ≡ flat_reply answer → b ≡ is_recorded line words reply o' → b ≡ is_flattened line words given (filled out)
+unfolding is_flattened
 flat-verdict line words given out e a f r k = k ∙ rw (r, a, f, e) refl

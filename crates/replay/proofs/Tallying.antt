@@ -9,47 +9,47 @@ use borrow.Author.Tests.{ltb-true, ltb-false}
 use lib.Dec.{ltb}
 use lib.ListN.{length}
 use Rattle.reading.specs.Pick.{pick}
-use Rattle.reading.proofs.Picks.{pick-lt, pick-ge, pick-holds}
+use Rattle.reading.proofs.Picks.{pick_lt, pick_ge, pick-holds}
 use Rattle.recorded.specs.declared.line.Line.{Line}
 use Rattle.replay.specs.declared.State.{State}
 use Rattle.recorded.specs.Numbers.{most}
-use Rattle.recorded.specs.Fields.{endFrom, nextField, field, line_at}
-use Rattle.replay.specs.Called.{isRight}
+use Rattle.recorded.specs.Fields.{end_from, next_field, field, line_at}
+use Rattle.replay.specs.Called.{is_right}
 use Rattle.replay.specs.Tally.{more, Stepped, lines_from, lines_of, wrong}
 
 module _ (s : List ℕ) where
   -- The next field is not before this one, and behind it where there are bytes.
-  next-ge : (at : ℕ) → at ≤ nextField s at
-  unfolding nextField
-  next-ge at = pick-holds (ltb (endFrom 3 s at) (length s)) (endFrom 3 s at + 1) (endFrom 3 s at) (λ n. at ≤ n) (omega arith) (omega arith)
+  next_ge : (at : ℕ) → at ≤ next_field s at
+  unfolding next_field
+  next_ge at = pick-holds (ltb (end_from 3 s at) (length s)) (end_from 3 s at + 1) (end_from 3 s at) (λ n. at ≤ n) (omega arith) (omega arith)
 
-  next-gt : (at : ℕ) → at < length s → at < nextField s at
-  unfolding nextField pick
-  next-gt at h = go (ltb (endFrom 3 s at) (length s)) refl
+  next_gt : (at : ℕ) → at < length s → at < next_field s at
+  unfolding next_field pick
+  next_gt at h = go (ltb (end_from 3 s at) (length s)) refl
     where
-      go : (t : Bool) → ltb (endFrom 3 s at) (length s) ≡ t → at < pick t (endFrom 3 s at + 1) (endFrom 3 s at)
+      go : (t : Bool) → ltb (end_from 3 s at) (length s) ≡ t → at < pick t (end_from 3 s at + 1) (end_from 3 s at)
       go true e = omega arith
-      go false e = omega (arith, ltb-false (endFrom 3 s at) (length s) e)
+      go false e = omega (arith, ltb-false (end_from 3 s at) (length s) e)
 
-  fields-grow : (n at : ℕ) → field 1 s at ≤ field (suc n) s at
+  fields_grow : (n at : ℕ) → field 1 s at ≤ field (suc n) s at
   unfolding field
-  fields-grow zero at = le_refl _
-  fields-grow (suc n) at = le_trans (fields-grow n at) (next-ge (field (suc n) s at))
+  fields_grow zero at = le_refl _
+  fields_grow (suc n) at = le_trans (fields_grow n at) (next_ge (field (suc n) s at))
 
   -- The next line is behind this one.
   pub line-next : (at : ℕ) → at < length s → at < (line_at s at).next
   unfolding line_at field
   line-next at h =
-      let f : nextField s at ≤ field 12 s at = fields-grow 11 at in
-      let g : at < nextField s at = next-gt at h in
+      let f : next_field s at ≤ field 12 s at = fields_grow 11 at in
+      let g : at < next_field s at = next_gt at h in
       omega arith
 
   -- More places than there are bytes are as good as any number of them.
   lines-enough : (n m at : ℕ) → length s ≤ at + n → length s ≤ at + m → lines_from n s at ≡ lines_from m s at
   unfolding lines_from pick
   lines-enough zero zero at h k = refl
-  lines-enough zero (suc m) at h k = let o : length s ≤ at = omega arith in pick-ge _ o refl
-  lines-enough (suc n) zero at h k = let o : length s ≤ at = omega arith in sym (pick-ge _ o refl)
+  lines-enough zero (suc m) at h k = let o : length s ≤ at = omega arith in pick_ge _ o refl
+  lines-enough (suc n) zero at h k = let o : length s ≤ at = omega arith in sym (pick_ge _ o refl)
   lines-enough (suc n) (suc m) at h k = go (ltb at (length s)) refl (λ a b. lines-enough n m (line_at s at).next a b)
     where
       go : (t : Bool) → ltb at (length s) ≡ t → (length s ≤ (line_at s at).next + n → length s ≤ (line_at s at).next + m → lines_from n s (line_at s at).next ≡ lines_from m s (line_at s at).next) → pick t (at ∷ lines_from n s (line_at s at).next) [] ≡ pick t (at ∷ lines_from m s (line_at s at).next) []
@@ -63,7 +63,7 @@ module _ (s : List ℕ) where
   lines_more at h =
       let k : length s - at ≡ suc (length s - (at + 1)) = omega arith in
       let g : at < (line_at s at).next = line-next at h in
-      rw k (sym (pick-lt _ h refl))
+      rw k (sym (pick_lt _ h refl))
       ∙ ap (λ (l : List ℕ). at ∷ l) (lines-enough (length s - (at + 1)) (length s - (line_at s at).next) (line_at s at).next (omega arith) (omega arith))
 
   lines_none : (at : ℕ) → length s ≤ at → lines_from (length s - at) s at ≡ []
@@ -77,15 +77,15 @@ module _ (s : List ℕ) where
     pub answers : min most (state.answers + length (lines_from (length s - at) s at)) ≡ min most (length (lines_of s))
     pub differing : min most (state.differing + wrong s (lines_from (length s - at) s at)) ≡ min most (wrong s (lines_of s))
 
-  pub tally-all : (state : State) → state.answers ≡ 0 → state.differing ≡ 0 → Tallying 0 state
-  tally-all state e f =
+  pub tally_all : (state : State) → state.answers ≡ 0 → state.differing ≡ 0 → Tallying 0 state
+  tally_all state e f =
       let k : lines_from (length s - 0) s 0 ≡ lines_of s = ap (λ (n : ℕ). lines_from n s 0) (omega arith) in
       record { few = omega arith; less = omega arith; answers = omega (arith, ap length k); differing = omega (arith, ap (wrong s) k) }
 
   module _ {at : ℕ} {state : State} (v : Tallying at state) where
-    pub tally-more : at < length s → {line : Line} {after : State} → line ≡ line_at s at → Stepped s line state after → Tallying line.next after
+    pub tally_more : at < length s → {line : Line} {after : State} → line ≡ line_at s at → Stepped s line state after → Tallying line.next after
     unfolding wrong pick
-    tally-more h {line} {after} e p = rw e (go (isRight s (line_at s at)) refl)
+    tally_more h {line} {after} e p = rw e (go (is_right s (line_at s at)) refl)
       where
         next : ℕ
         next = (line_at s at).next
@@ -99,7 +99,7 @@ module _ (s : List ℕ) where
         q : Stepped s (line_at s at) state after
         q = rw e at p
 
-        go : (t : Bool) → isRight s (line_at s at) ≡ t → Tallying next after
+        go : (t : Bool) → is_right s (line_at s at) ≡ t → Tallying next after
         go true r =
             let d : after.differing ≡ state.differing = q.differing ∙ rw r refl in
             let w : wrong s (at ∷ rest) ≡ 0 + wrong s rest = rw r refl in
@@ -119,8 +119,8 @@ module _ (s : List ℕ) where
               differing = omega (arith, d, v.differing, ap (wrong s) l, w);
             }
 
-    pub tally-none : length s ≤ at → (state.answers ≡ min most (length (lines_of s))) × (state.differing ≡ min most (wrong s (lines_of s)))
+    pub tally_none : length s ≤ at → (state.answers ≡ min most (length (lines_of s))) × (state.differing ≡ min most (wrong s (lines_of s)))
     unfolding wrong
-    tally-none h =
+    tally_none h =
         let l : lines_from (length s - at) s at ≡ [] = lines_none at h in
         (omega (arith, v.few, v.answers, ap length l), omega (arith, v.less, v.differing, ap (wrong s) l))

@@ -3,7 +3,7 @@ use Rattle.std.specs.Prelude.{ℕ, zero, suc, ◌+◌, min, Bool, ◌≡◌, Lis
 use Rattle.reading.specs.Pick.{pick}
 use Rattle.recorded.specs.Numbers.{most}
 use Rattle.recorded.specs.Fields.{line_at}
-use Rattle.replay.specs.Called.{isRight}
+use Rattle.replay.specs.Called.{is_right}
 use Rattle.recorded.specs.declared.line.Line.{Line}
 use Rattle.replay.specs.declared.State.{State}
 
@@ -23,8 +23,8 @@ pub record Told (before : State) (same : Bool) (after : State) : Type 0 where
 -- The same for a line: its answer is the recorded one, or differs.
 pub record Stepped (lines : List ℕ) (line : Line) (before after : State) : Type 0 where
   pub answers : after.answers ≡ more before.answers
-  pub differing : after.differing ≡ pick (isRight lines line) before.differing (more before.differing)
-  pub first : after.first ≡ pick (isRight lines line) before.first (pick (eqb before.differing 0) (more before.answers) before.first)
+  pub differing : after.differing ≡ pick (is_right lines line) before.differing (more before.differing)
+  pub first : after.first ≡ pick (is_right lines line) before.first (pick (eqb before.differing 0) (more before.answers) before.first)
 
 -- The places where lines begin, from a place on, at most n of them.
 unfoldable pub lines_from : ℕ → List ℕ → ℕ → List ℕ
@@ -38,4 +38,4 @@ lines_of text = lines_from (length text) text 0
 -- How many of the lines at these places have another answer than the recorded one.
 unfoldable pub wrong : List ℕ → List ℕ → ℕ
 wrong text [] = 0
-wrong text (at ∷ ats) = pick (isRight text (line_at text at)) 0 1 + wrong text ats
+wrong text (at ∷ ats) = pick (is_right text (line_at text at)) 0 1 + wrong text ats

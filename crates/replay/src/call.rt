@@ -1,8 +1,8 @@
 // One call of a reader.
 ghost use Rattle.std.specs.Prelude.{◌≡◌};
-ghost use Rattle.compared.specs.Recorded.{isClear, filled};
+ghost use Rattle.compared.specs.Recorded.{is_clear, filled};
 ghost use Rattle.session.specs.Session.{outcome};
-ghost use Rattle.replay.specs.Called.{replyTo, call_of, Ran, isOutcome, isSameOn, countOn, isSame, countAfter};
+ghost use Rattle.replay.specs.Called.{reply_to, call_of, Ran, is_outcome, is_same_on, count_on, is_same, count_after};
 
 use compared::{Reply, fill, is_recorded, is_zero};
 use recorded::input::{put_bytes, put_words};
@@ -22,7 +22,7 @@ const WORDS: usize = 120000;
 
 // The text is spelled out, then the call is made.
 pub fn text_line(lines: &[u8], line: Line, reader: reader::Reader) -> Done
-    ensures { (result.same ≡ isSame lines.now line reader.next) × (result.reader.next ≡ countAfter lines.now line reader.next) }
+    ensures { (result.same ≡ is_same lines.now line reader.next) × (result.reader.next ≡ count_after lines.now line reader.next) }
 {
     let mut text = [0u8; TEXT];
     let n = put_bytes(lines, line.input, &mut text);
@@ -37,7 +37,7 @@ pub fn text_line(lines: &[u8], line: Line, reader: reader::Reader) -> Done
 
 // Makes the slices, and spells out the words that are recorded. Reading takes no tree, and only a solution takes a draft.
 fn lend(lines: &[u8], line: Line, reader: reader::Reader, text: &[u8]) -> Done
-    ensures { (result.same ≡ isSameOn lines.now line text.now reader.next) × (result.reader.next ≡ countOn lines.now line text.now reader.next) }
+    ensures { (result.same ≡ is_same_on lines.now line text.now reader.next) × (result.reader.next ≡ count_on lines.now line text.now reader.next) }
 {
     let mut tree = [0u32; WORDS];
     let mut draft = [0u32; WORDS];
@@ -89,7 +89,7 @@ fn asked(
     draft: &mut [u32],
     out: &mut [u32],
 ) -> Done
-    ensures same { result.same ≡ isOutcome line words.now (outcome (call_of line.op text.now (filled tree.old) (filled draft.old) (filled out.old)) reader.next) }
+    ensures same { result.same ≡ is_outcome line words.now (outcome (call_of line.op text.now (filled tree.old) (filled draft.old) (filled out.old)) reader.next) }
     ensures count { result.reader.next ≡ (outcome (call_of line.op text.now (filled tree.old) (filled draft.old) (filled out.old)) reader.next).count }
 {
     fill(tree);
@@ -111,7 +111,7 @@ fn asked(
 
 // Whether the working slices that the operation was lent are zero.
 fn is_clear(op: u8, tree: &[u32], draft: &[u32]) -> bool
-    ensures { result ≡ isClear op tree.now draft.now }
+    ensures { result ≡ is_clear op tree.now draft.now }
 {
     if op == b'R' {
         return true;
@@ -151,7 +151,7 @@ fn run(
 
 // The numbers of the answer.
 fn reply(answer: reader::Answer) -> Reply
-    ensures { result ≡ replyTo answer.said answer.reader.next }
+    ensures { result ≡ reply_to answer.said answer.reader.next }
 {
     let reader = answer.reader;
     let count = reader.next;

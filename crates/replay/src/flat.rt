@@ -1,7 +1,7 @@
 // One call of flattening.
 ghost use Rattle.std.specs.Prelude.{◌≡◌};
 ghost use Rattle.compared.specs.Recorded.{filled};
-ghost use Rattle.replay.specs.Called.{flatReply, isFlattened, isFlat};
+ghost use Rattle.replay.specs.Called.{flat_reply, is_flattened, is_flat};
 
 use compared::{Reply, fill, is_recorded};
 use recorded::input::put_words;
@@ -12,7 +12,7 @@ const WORDS: usize = 8192;
 
 // Whether the answer was the recorded one.
 pub fn flatten_line(lines: &[u8], line: Line) -> bool
-    ensures { result ≡ isFlat lines.now line }
+    ensures { result ≡ is_flat lines.now line }
 {
     let mut given = [0u32; WORDS];
     let mut words = [0u32; WORDS];
@@ -33,7 +33,7 @@ pub fn flatten_line(lines: &[u8], line: Line) -> bool
 
 // Fills the output, flattens into it, and compares.
 fn is_flattened(line: Line, words: &[u32], given: &[u32], out: &mut [u32]) -> bool
-    ensures { result ≡ isFlattened line words.now given.now (filled out.old) }
+    ensures { result ≡ is_flattened line words.now given.now (filled out.old) }
 {
     fill(out);
     let reply = reply(flatten::flatten(given, out));
@@ -42,7 +42,7 @@ fn is_flattened(line: Line, words: &[u32], given: &[u32], out: &mut [u32]) -> bo
 
 // The numbers of the answer.
 fn reply(answer: words::Answer) -> Reply
-    ensures { result ≡ flatReply answer }
+    ensures { result ≡ flat_reply answer }
 {
     match answer {
         words::Answer::Done(n) => Reply {

@@ -3,16 +3,16 @@ use Prim.Native.Nat.{ℕ}
 use mathlib.Core.Path.{◌≡◌, refl, ap}
 use mathlib.Core.List.{List, [], ◌∷◌, map}
 use Rattle.session.specs.Session.{Call, outcome}
-use Rattle.replies.specs.Calls.{asSaid}
+use Rattle.replies.specs.Calls.{as_said}
 use Rattle.replies.specs.Sessions.{Reply, Turn, Session}
 use Rattle.replies.specs.Sessions.{Promised}
 
 -- The reply of a call at the count c.
-abbrev pub replyTo : Call → ℕ → Reply
-replyTo call c =
-    record { said = asSaid (outcome call c).said; next = (outcome call c).count; tree = (outcome call c).tree; draft = (outcome call c).draft; out = (outcome call c).out }
+abbrev pub reply_to : Call → ℕ → Reply
+reply_to call c =
+    record { said = as_said (outcome call c).said; next = (outcome call c).count; tree = (outcome call c).tree; draft = (outcome call c).draft; out = (outcome call c).out }
 
-pub promised : (call : Call) (c : ℕ) → Promised call c (replyTo call c)
+pub promised : (call : Call) (c : ℕ) → Promised call c (reply_to call c)
 promised call c = record { said = refl; count = refl; working = refl; body = refl; output = refl }
 
 -- A session with these calls, on a reader that is opened at a count.
@@ -21,8 +21,8 @@ pub record Had (opened : ℕ) (calls : List Call) : Type 0 where
   pub session : Session opened turns
   pub all : map (λ (t : Turn). t.call) turns ≡ calls
 
-pub session-of : (calls : List Call) (opened : ℕ) → Had opened calls
-session-of [] opened = record { turns = []; session = tt; all = refl }
-session-of (x ∷ xs) opened =
-    let rest = session-of xs (outcome x opened).count in
-    record { turns = record { call = x; reply = replyTo x opened } ∷ rest.turns; session = (promised x opened, rest.session); all = ap (λ (l : List Call). x ∷ l) rest.all }
+pub session_of : (calls : List Call) (opened : ℕ) → Had opened calls
+session_of [] opened = record { turns = []; session = tt; all = refl }
+session_of (x ∷ xs) opened =
+    let rest = session_of xs (outcome x opened).count in
+    record { turns = record { call = x; reply = reply_to x opened } ∷ rest.turns; session = (promised x opened, rest.session); all = ap (λ (l : List Call). x ∷ l) rest.all }

@@ -7,22 +7,22 @@ use native.Mathlib.Omega.{arith}
 use lib.Dec.{ltb}
 use lib.ListN.{length}
 use borrow.Author.Tests.{le-ltb}
-use Rattle.reading.specs.Limits.{maxNumber}
+use Rattle.reading.specs.Limits.{max_number}
 use Rattle.reading.specs.Pick.{pick}
-use Rattle.reading.specs.Answer.{number, noRoom, numbersSpent, Ans, got, bad, Res, ok, no, chain, lifted, Final, accepts, refuses, finish, fitsIn, Said, accepted, zeros, said_of, count_of, outputOf}
-use Rattle.reading.specs.Reading.{readText, readWords, readReport, readFinal}
-use Rattle.grammar.specs.Sort.{sortWords}
+use Rattle.reading.specs.Answer.{number, no_room, numbers_spent, Ans, got, bad, Res, ok, no, chain, lifted, Final, accepts, refuses, finish, fits_in, Said, accepted, zeros, said_of, count_of, output_of}
+use Rattle.reading.specs.Reading.{read_text, read_words, read_report, read_final}
+use Rattle.grammar.specs.Sort.{sort_words}
 use Rattle.grammar.specs.Item.{Item, plains, words_of}
-use Rattle.grammar.specs.Expr.{exprItems, bindItems}
-use Rattle.grammar.specs.ParseSort.{parseSort}
-use Rattle.grammar.specs.Operations.{theTree, makeSort, makeExpr, makeBind, makeSolution, sortFinal, exprFinal, bindFinal}
+use Rattle.grammar.specs.Expr.{expr_items, bind_items}
+use Rattle.grammar.specs.ParseSort.{parse_sort}
+use Rattle.grammar.specs.Operations.{the_tree, make_sort, make_expr, make_bind, make_solution, sort_final, expr_final, bind_final}
 use Rattle.grammar.proofs.Items.{words-plains}
 use Rattle.grammar.proofs.Raise.{raise-plains}
-use Rattle.grammar.proofs.AnswerHolds.{Post, any-post}
-use Rattle.grammar.specs.Item.{raisedWords}
-use Rattle.flattening.specs.Operations.{flatItems, solutionFits, solutionFinal}
-use Rattle.session.specs.Session.{Call, Term, aRead, aSort, anExpr, aBind, aSolution, termItems, draftItems, termWords, report, make, made, room_for, final, outcome}
-use Rattle.replies.specs.Calls.{oneCall, allCall, sortCall, exprCall, bindCall, solutionCall}
+use Rattle.grammar.proofs.AnswerHolds.{Post, any_post}
+use Rattle.grammar.specs.Item.{raised_words}
+use Rattle.flattening.specs.Operations.{flat_items, solution_fits, solution_final}
+use Rattle.session.specs.Session.{Call, Term, a_read, a_sort, an_expr, a_bind, a_solution, term_items, draft_items, term_words, report, make, made, room_for, final, outcome}
+use Rattle.replies.specs.Calls.{one_call, all_call, sort_call, expr_call, bind_call, solution_call}
 
 -- What is known of a call at the count c, whose operation decides f.
 pub record Known {A : Type 0} (call : Call) (c : ℕ) (words : A → List ℕ) (numbers : A → Said) (f : Final A) : Type 0 where
@@ -30,7 +30,7 @@ pub record Known {A : Type 0} (call : Call) (c : ℕ) (words : A → List ℕ) (
   pub count : (outcome call c).count ≡ count_of c f
   pub tree : zeros call.tree ≡ (outcome call c).tree
   pub draft : zeros call.draft ≡ (outcome call c).draft
-  pub out : outputOf words f call.out ≡ (outcome call c).out
+  pub out : output_of words f call.out ≡ (outcome call c).out
 
 -- A term in place of the value.
 termed : {A : Type 0} → (A → Term) → Final A → Final Term
@@ -41,9 +41,9 @@ module _ {A : Type 0} (term : A → Term) (call : Call) (c : ℕ) (fits : A → 
   finish-term : ((a : A) → room_for call (term a) ≡ fits a) → (x : Res A) → finish (room_for call) c (chain x (λ a n. ok (term a) n)) ≡ termed term (finish fits c x)
   unfolding finish termed pick
   finish-term room (no r) = refl
-  finish-term room (ok a n) = rw (room a) (go (ltb maxNumber (c + n)) (fits a))
+  finish-term room (ok a n) = rw (room a) (go (ltb max_number (c + n)) (fits a))
     where
-      go : (s b : Bool) → pick s (refuses numbersSpent) (pick b (accepts (term a) n) (refuses (number noRoom))) ≡ termed term (pick s (refuses numbersSpent) (pick b (accepts a n) (refuses (number noRoom))))
+      go : (s b : Bool) → pick s (refuses numbers_spent) (pick b (accepts (term a) n) (refuses (number no_room))) ≡ termed term (pick s (refuses numbers_spent) (pick b (accepts a n) (refuses (number no_room))))
       go true b = refl
       go false true = refl
       go false false = refl
@@ -58,13 +58,13 @@ module _ {A : Type 0} (term : A → Term) (call : Call) (c : ℕ) (fits : A → 
   count-term (accepts a n) = refl
   count-term (refuses r) = refl
 
-  out-term : ((a : A) → words a ≡ termWords c (term a)) → (f : Final A) (out : List ℕ) → outputOf words f out ≡ outputOf (termWords c) (termed term f) out
-  unfolding outputOf termed
+  out-term : ((a : A) → words a ≡ term_words c (term a)) → (f : Final A) (out : List ℕ) → output_of words f out ≡ output_of (term_words c) (termed term f) out
+  unfolding output_of termed
   out-term same (accepts a n) out = rw (same a) refl
   out-term same (refuses r) out = refl
 
   -- A call whose term is made of a value, with the same room, words and numbers.
-  pub known : ((a : A) → room_for call (term a) ≡ fits a) → ((a : A) → words a ≡ termWords c (term a)) → ((a : A) → report (term a) ≡ numbers a) → (x : Res A) → made call ≡ chain x (λ a n. ok (term a) n)
+  pub known : ((a : A) → room_for call (term a) ≡ fits a) → ((a : A) → words a ≡ term_words c (term a)) → ((a : A) → report (term a) ≡ numbers a) → (x : Res A) → made call ≡ chain x (λ a n. ok (term a) n)
       → Known call c words numbers (finish fits c x)
   unfolding outcome final
   known room same say x e =
@@ -85,73 +85,73 @@ lifted-none : {A : Type 0} (x : Ans A) → None (lifted x 0)
 lifted-none (got a) = refl
 lifted-none (bad r) = tt
 
-module _ {A : Type 0} (fits : A → Bool) (c : ℕ) (small : c ≤ maxNumber) where
+module _ {A : Type 0} (fits : A → Bool) (c : ℕ) (small : c ≤ max_number) where
   finish-none : (x : Res A) → None x → finish fits c x ≡ finish fits 0 x
   unfolding finish
   finish-none (no r) e = refl
-  finish-none (ok a n) e = rw (le-ltb maxNumber (c + n) (omega arith), le-ltb maxNumber (0 + n) (omega arith)) refl
+  finish-none (ok a n) e = rw (le-ltb max_number (c + n) (omega arith), le-ltb max_number (0 + n) (omega arith)) refl
 
   pub count_none : (x : Res A) → None x → count_of c (finish fits 0 x) ≡ c
   unfolding finish count_of pick
   count_none (no r) e = refl
-  count_none (ok a n) e = go (ltb maxNumber (0 + n)) (fits a)
+  count_none (ok a n) e = go (ltb max_number (0 + n)) (fits a)
     where
-      go : (s b : Bool) → count_of c (pick s (refuses numbersSpent) (pick b (accepts a n) (refuses (number noRoom)))) ≡ c
+      go : (s b : Bool) → count_of c (pick s (refuses numbers_spent) (pick b (accepts a n) (refuses (number no_room)))) ≡ c
       go true b = refl
       go false true = omega arith
       go false false = refl
 
 -- A call whose term is made of words that hold no number.
-plain_known : {A : Type 0} (term : A → Term) (call : Call) (c : ℕ) → c ≤ maxNumber → (words : A → List ℕ) (numbers : A → Said)
-    → ((a : A) → room_for call (term a) ≡ fitsIn call.out (words_of (termItems (term a)))) → ((a : A) → termItems (term a) ≡ plains (words a)) → ((a : A) → report (term a) ≡ numbers a)
-    → (x : Res A) → None x → made call ≡ chain x (λ a n. ok (term a) n) → Known call c words numbers (finish (λ a. fitsIn call.out (words a)) 0 x)
+plain_known : {A : Type 0} (term : A → Term) (call : Call) (c : ℕ) → c ≤ max_number → (words : A → List ℕ) (numbers : A → Said)
+    → ((a : A) → room_for call (term a) ≡ fits_in call.out (words_of (term_items (term a)))) → ((a : A) → term_items (term a) ≡ plains (words a)) → ((a : A) → report (term a) ≡ numbers a)
+    → (x : Res A) → None x → made call ≡ chain x (λ a n. ok (term a) n) → Known call c words numbers (finish (λ a. fits_in call.out (words a)) 0 x)
 plain_known {A = A} term call c small words numbers room items say x none e =
-    subst (Known call c words numbers) (finish-none (λ (a : A). fitsIn call.out (words a)) c small x none)
-    (known term call c (λ a. fitsIn call.out (words a)) words numbers (λ a. room a ∙ ap (fitsIn call.out) (ap words_of (items a) ∙ words-plains (words a))) (λ a. rw (items a, raise-plains c (words a), words-plains (words a)) refl) say x e)
+    subst (Known call c words numbers) (finish-none (λ (a : A). fits_in call.out (words a)) c small x none)
+    (known term call c (λ a. fits_in call.out (words a)) words numbers (λ a. room a ∙ ap (fits_in call.out) (ap words_of (items a) ∙ words-plains (words a))) (λ a. rw (items a, raise-plains c (words a), words-plains (words a)) refl) say x e)
 
 -- Read one, read all and sort.
-module _ (text out : List ℕ) (c : ℕ) (small : c ≤ maxNumber) where
-  pub one_known : Known (oneCall text out) c readWords (readReport false) (readFinal false text out)
-  unfolding readFinal room_for termItems draftItems report make pick words_of
+module _ (text out : List ℕ) (c : ℕ) (small : c ≤ max_number) where
+  pub one_known : Known (one_call text out) c read_words (read_report false) (read_final false text out)
+  unfolding read_final room_for term_items draft_items report make pick words_of
   one_known =
-      plain_known (aRead false) (oneCall text out) c small readWords (readReport false) (λ r. refl) (λ r. refl) (λ r. refl) (lifted (readText false text) 0) (lifted-none (readText false text)) refl
+      plain_known (a_read false) (one_call text out) c small read_words (read_report false) (λ r. refl) (λ r. refl) (λ r. refl) (lifted (read_text false text) 0) (lifted-none (read_text false text)) refl
 
-  pub all_known : Known (allCall text out) c readWords (readReport true) (readFinal true text out)
-  unfolding readFinal room_for termItems draftItems report make pick words_of
+  pub all_known : Known (all_call text out) c read_words (read_report true) (read_final true text out)
+  unfolding read_final room_for term_items draft_items report make pick words_of
   all_known =
-      plain_known (aRead true) (allCall text out) c small readWords (readReport true) (λ r. refl) (λ r. refl) (λ r. refl) (lifted (readText true text) 0) (lifted-none (readText true text)) refl
+      plain_known (a_read true) (all_call text out) c small read_words (read_report true) (λ r. refl) (λ r. refl) (λ r. refl) (lifted (read_text true text) 0) (lifted-none (read_text true text)) refl
 
-  pub count-read : (all : Bool) → count_of c (readFinal all text out) ≡ c
-  unfolding readFinal
-  count-read all = count_none (λ r. fitsIn out (readWords r)) c small (lifted (readText all text) 0) (lifted-none (readText all text))
+  pub count-read : (all : Bool) → count_of c (read_final all text out) ≡ c
+  unfolding read_final
+  count-read all = count_none (λ r. fits_in out (read_words r)) c small (lifted (read_text all text) 0) (lifted-none (read_text all text))
 
-  sort-none : (tree : List ℕ) → None (makeSort text tree 0)
-  unfolding makeSort
-  sort-none tree = any-post (theTree text tree) 0 _ _ λ t. lifted-none (parseSort text t)
+  sort-none : (tree : List ℕ) → None (make_sort text tree 0)
+  unfolding make_sort
+  sort-none tree = any_post (the_tree text tree) 0 _ _ λ t. lifted-none (parse_sort text t)
 
-  pub sort-known : (tree : List ℕ) → Known (sortCall text tree out) c sortWords (λ s. accepted (length (sortWords s)) 0) (sortFinal text tree out)
-  unfolding sortFinal room_for termItems draftItems report make pick words_of
-  sort-known tree = plain_known aSort (sortCall text tree out) c small sortWords _ (λ s. refl) (λ s. refl) (λ s. refl) (makeSort text tree 0) (sort-none tree) refl
+  pub sort-known : (tree : List ℕ) → Known (sort_call text tree out) c sort_words (λ s. accepted (length (sort_words s)) 0) (sort_final text tree out)
+  unfolding sort_final room_for term_items draft_items report make pick words_of
+  sort-known tree = plain_known a_sort (sort_call text tree out) c small sort_words _ (λ s. refl) (λ s. refl) (λ s. refl) (make_sort text tree 0) (sort-none tree) refl
 
-  pub count-sort : (tree : List ℕ) → count_of c (sortFinal text tree out) ≡ c
-  unfolding sortFinal
-  count-sort tree = count_none (λ s. fitsIn out (sortWords s)) c small (makeSort text tree 0) (sort-none tree)
+  pub count-sort : (tree : List ℕ) → count_of c (sort_final text tree out) ≡ c
+  unfolding sort_final
+  count-sort tree = count_none (λ s. fits_in out (sort_words s)) c small (make_sort text tree 0) (sort-none tree)
 
 -- What is known of a call that takes numbers.
 abbrev pub KnownItems : {A : Type 0} → Call → ℕ → (A → List Item) → Final A → Type 0
-KnownItems call c items f = Known call c (raisedWords items c) (λ a. accepted (length (words_of (items a))) 0) f
+KnownItems call c items f = Known call c (raised_words items c) (λ a. accepted (length (words_of (items a))) 0) f
 
 -- Expression, bind and solution.
 module _ (text tree out : List ℕ) (c : ℕ) where
-  pub expr-known : KnownItems (exprCall text tree out) c exprItems (exprFinal text tree out c)
-  unfolding exprFinal room_for termItems draftItems report make pick words_of
-  expr-known = known anExpr (exprCall text tree out) c (λ e. fitsIn out (words_of (exprItems e))) (raisedWords exprItems c) _ (λ e. refl) (λ e. refl) (λ e. refl) (makeExpr text tree 0) refl
+  pub expr-known : KnownItems (expr_call text tree out) c expr_items (expr_final text tree out c)
+  unfolding expr_final room_for term_items draft_items report make pick words_of
+  expr-known = known an_expr (expr_call text tree out) c (λ e. fits_in out (words_of (expr_items e))) (raised_words expr_items c) _ (λ e. refl) (λ e. refl) (λ e. refl) (make_expr text tree 0) refl
 
-  pub bind-known : KnownItems (bindCall text tree out) c bindItems (bindFinal text tree out c)
-  unfolding bindFinal room_for termItems draftItems report make pick words_of
-  bind-known = known aBind (bindCall text tree out) c (λ b. fitsIn out (words_of (bindItems b))) (raisedWords bindItems c) _ (λ b. refl) (λ b. refl) (λ b. refl) (makeBind text tree 0) refl
+  pub bind-known : KnownItems (bind_call text tree out) c bind_items (bind_final text tree out c)
+  unfolding bind_final room_for term_items draft_items report make pick words_of
+  bind-known = known a_bind (bind_call text tree out) c (λ b. fits_in out (words_of (bind_items b))) (raised_words bind_items c) _ (λ b. refl) (λ b. refl) (λ b. refl) (make_bind text tree 0) refl
 
-  pub solution-known : (draft : List ℕ) → KnownItems (solutionCall text tree draft out) c flatItems (solutionFinal text tree draft out c)
-  unfolding solutionFinal solutionFits room_for termItems draftItems report make
+  pub solution-known : (draft : List ℕ) → KnownItems (solution_call text tree draft out) c flat_items (solution_final text tree draft out c)
+  unfolding solution_final solution_fits room_for term_items draft_items report make
   solution-known draft =
-      known aSolution (solutionCall text tree draft out) c (solutionFits draft out) (raisedWords flatItems c) _ (λ s. refl) (λ s. refl) (λ s. refl) (makeSolution text tree 0) refl
+      known a_solution (solution_call text tree draft out) c (solution_fits draft out) (raised_words flat_items c) _ (λ s. refl) (λ s. refl) (λ s. refl) (make_solution text tree 0) refl

@@ -10,20 +10,20 @@ use Rattle.replies.specs.declared.Said.{Said}
 use Rattle.replies.specs.declared.Said.TheVariants.{Accepted, Refused}
 
 -- Read one and read all.
-abbrev pub readSaid : text.Answer → Said
-readSaid (read.Accepted a b) = Accepted a b
-readSaid (read.Refused r) = Refused r
+abbrev pub read_said : text.Answer → Said
+read_said (read.Accepted a b) = Accepted a b
+read_said (read.Refused r) = Refused r
 
 -- A sort, whose words are counted.
-abbrev pub sizeSaid : sorts.Answer → Said
-sizeSaid (parsed.Done w) = Accepted w 0
-sizeSaid (parsed.Refused r) = Refused r
+abbrev pub size_said : sorts.Answer → Said
+size_said (parsed.Done w) = Accepted w 0
+size_said (parsed.Refused r) = Refused r
 
 -- What takes fresh numbers.
-abbrev pub countedSaid : Counted → Said
-countedSaid (counted.Done w n) = Accepted w 0
-countedSaid (counted.Refused r) = Refused r
+abbrev pub counted_said : Counted → Said
+counted_said (counted.Done w n) = Accepted w 0
+counted_said (counted.Refused r) = Refused r
 
-abbrev pub countAfter : Counted → ℕ → ℕ
-countAfter (counted.Done w n) c = n
-countAfter (counted.Refused r) c = c
+abbrev pub count_after : Counted → ℕ → ℕ
+count_after (counted.Done w n) c = n
+count_after (counted.Refused r) c = c

@@ -2,7 +2,7 @@
 // specs/Calls.antt says which call each method of the reader is, specs/Sessions.antt what a method promises of its reply, and what a session
 // is. Demand 3, for every list of calls, is specs/Demand3.antt; it is proved of those promises.
 ghost use Rattle.std.specs.Prelude.{◌≡◌};
-ghost use Rattle.replies.specs.Heard.{readSaid, sizeSaid, countedSaid, countAfter};
+ghost use Rattle.replies.specs.Heard.{read_said, size_said, counted_said, count_after};
 
 use parse::Counted;
 
@@ -15,7 +15,7 @@ pub enum Said {
 
 // Read one says how many words there are and the byte behind them, read all how many expressions and words: the two numbers as they are.
 pub fn read(answer: text::Answer) -> Said
-    ensures { result ≡ readSaid answer }
+    ensures { result ≡ read_said answer }
 {
     match answer {
         text::Answer::Accepted(a, b) => Said::Accepted(a, b),
@@ -25,7 +25,7 @@ pub fn read(answer: text::Answer) -> Said
 
 // A sort, and an expression that is flattened, says how many words it has, and 0.
 pub fn sized(answer: words::Answer) -> Said
-    ensures { result ≡ sizeSaid answer }
+    ensures { result ≡ size_said answer }
 {
     match answer {
         words::Answer::Done(size) => Said::Accepted(size, 0),
@@ -35,7 +35,7 @@ pub fn sized(answer: words::Answer) -> Said
 
 // What takes fresh numbers says how many words it has, and 0.
 pub fn counted(answer: Counted) -> Said
-    ensures { result ≡ countedSaid answer }
+    ensures { result ≡ counted_said answer }
 {
     match answer {
         Counted::Done(words, _) => Said::Accepted(words, 0),
@@ -45,7 +45,7 @@ pub fn counted(answer: Counted) -> Said
 
 // The reader's count afterwards, where it was at the start: raised by the numbers that the answer binds, or as it came after a refusal.
 pub fn count_after(answer: Counted, start: u64) -> u64
-    ensures { result ≡ countAfter answer start }
+    ensures { result ≡ count_after answer start }
 {
     match answer {
         Counted::Done(_, after) => after,

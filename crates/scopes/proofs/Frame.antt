@@ -40,22 +40,22 @@ module _ (es : List ℕ) (d at n k : ℕ) where
       ∙ get_or-set_other es (3 * d) i at 0 (λ e. omega arith)
 
   module _ (h : 3 * d + 3 ≤ length es) where
-    three-0 : get_or three (3 * d) 0 ≡ at
+    three_0 : get_or three (3 * d) 0 ≡ at
     unfolding three
-    three-0 =
+    three_0 =
         get_or-set_other (set (set es (3 * d) at) (3 * d + 1) n) (3 * d + 2) (3 * d) k 0 (λ e. omega arith)
         ∙ get_or-set_other (set es (3 * d) at) (3 * d + 1) (3 * d) n 0 (λ e. omega arith)
         ∙ get_or-set_same es (3 * d) at 0 (omega arith)
 
-    three-1 : get_or three (3 * d + 1) 0 ≡ n
+    three_1 : get_or three (3 * d + 1) 0 ≡ n
     unfolding three
-    three-1 =
+    three_1 =
         get_or-set_other (set (set es (3 * d) at) (3 * d + 1) n) (3 * d + 2) (3 * d + 1) k 0 (λ e. omega arith)
         ∙ get_or-set_same (set es (3 * d) at) (3 * d + 1) n 0 (omega (arith, length-set es (3 * d) at))
 
-    three-2 : get_or three (3 * d + 2) 0 ≡ k
+    three_2 : get_or three (3 * d + 2) 0 ≡ k
     unfolding three
-    three-2 = get_or-set_same (set (set es (3 * d) at) (3 * d + 1) n) (3 * d + 2) k 0 (omega (arith, length-set es (3 * d) at, length-set (set es (3 * d) at) (3 * d + 1) n))
+    three_2 = get_or-set_same (set (set es (3 * d) at) (3 * d + 1) n) (3 * d + 2) k 0 (omega (arith, length-set es (3 * d) at, length-set (set es (3 * d) at) (3 * d + 1) n))
 
   -- One entry more is above all that are there.
   pub pushed-kept : Kept es (pushed es d at n k) d
@@ -100,5 +100,5 @@ module _ (es : List ℕ) (d at n k : ℕ) where
       go false e =
           let s : IsScope ws at n k (record { names = b.names; first = k }) = record { place = b; names = refl; first = refl } in
           let z : suc d ≡ d + 1 = omega arith in
-          let x : IsScope ws (get_or three (3 * d) 0) (get_or three (3 * d + 1) 0) (get_or three (3 * d + 2) 0) (record { names = b.names; first = k }) = rw (three-0 h, three-1 h, three-2 h) s in
+          let x : IsScope ws (get_or three (3 * d) 0) (get_or three (3 * d + 1) 0) (get_or three (3 * d + 2) 0) (record { names = b.names; first = k }) = rw (three_0 h, three_1 h, three_2 h) s in
           subst (λ (j : ℕ). Opened ws three j (record { names = b.names; first = k } ∷ sc)) z (x, opened-kept ws es three d sc (record { same = three-other }) o)

@@ -2,38 +2,38 @@
 use Rattle.std.proofs.Common.{◌≡◌, ℕ, zero, suc, ◌+◌, ◌-◌, ◌*◌, ◌%◌, ◌^◌, ◌<◌, ◌≤◌, Bool, true, false, ltb, List, [], ◌∷◌, ◌++◌, length, get_or, drop, sym, refl, ap, ◌∙◌, append_assoc, add-zero, arith, drop-drop, drop_at, ltb-false, ltb-true, le-ltb, lt-ltb}
 use Rattle.reading.specs.Pick.{pick}
 use Rattle.reading.specs.Bytes.{Span, nothing, just}
-use Rattle.reading.specs.Tree.{Tree, Trees, atomWords, symbol, atom, list, tnil, tcons, trees, treeWords, treesWords}
-use Rattle.grammar.specs.Scope.{Scope, same_name, numberAmong, number_in, isAmong, repeated}
+use Rattle.reading.specs.Tree.{Tree, Trees, atom_words, symbol, atom, list, tnil, tcons, trees, tree_words, trees_words}
+use Rattle.grammar.specs.Scope.{Scope, same_name, number_among, number_in, is_among, repeated}
 use Rattle.places.specs.Spot.{Spot}
-use Rattle.scopes.specs.Scopes.{Named, none, more, Pairs, IsScope, Opened, OpenScopes, placeAmong, Meant}
+use Rattle.scopes.specs.Scopes.{Named, none, more, Pairs, IsScope, Opened, OpenScopes, place_among, Meant}
 use Rattle.scopes.specs.declared.entries.Found.TheVariants.{At, Nothing}
 use Rattle.places.proofs.Spots.{word, word0, spot-within, list-size}
 
 -- The span of the name of a pair.
-abbrev pub spanAt : List ℕ → ℕ → Span
-spanAt ws p = record { start = get_or ws (p + 4) 0; len = get_or ws (p + 5) 0 }
+abbrev pub span_at : List ℕ → ℕ → Span
+span_at ws p = record { start = get_or ws (p + 4) 0; len = get_or ws (p + 5) 0 }
 
 pub record PairAt (ws : List ℕ) (p n : ℕ) (names : List Span) : Type 0 where
   pub left : Pairs ws (p + (get_or ws (p + 2) 0 + 3)) (n - 1)
-  pub is : names ≡ spanAt ws p ∷ left.names
+  pub is : names ≡ span_at ws p ∷ left.names
   pub six : p + 6 ≤ length ws
   pub fits : p + (get_or ws (p + 2) 0 + 3) ≤ length ws
 
-pair-at : (ws : List ℕ) (p n : ℕ) (pairs : Trees) (names : List Span) (rest : List ℕ) → Named pairs names → drop p ws ≡ treesWords pairs ++ rest → n ≡ length names → 0 < n → PairAt ws p n names
-unfolding treeWords atomWords
+pair-at : (ws : List ℕ) (p n : ℕ) (pairs : Trees) (names : List Span) (rest : List ℕ) → Named pairs names → drop p ws ≡ trees_words pairs ++ rest → n ≡ length names → 0 < n → PairAt ws p n names
+unfolding tree_words atom_words
 pair-at ws p n tnil [] rest none e m h = absurd (omega arith)
 pair-at ws p n (tcons t ts) (s ∷ ss) rest (more {us = us} x) e m h =
     let t : Tree = list (tcons (atom (symbol s)) us) in
-    let w : drop p ws ≡ treeWords t ++ (treesWords ts ++ rest) = e ∙ append_assoc (treeWords t) (treesWords ts) rest in
-    let sp : Spot ws p = record { tree = t; rest = treesWords ts ++ rest; words = w } in
-    let k : get_or ws (p + 2) 0 + 3 ≡ length (treeWords t) = list-size sp (word0 sp) in
-    let z : get_or ws (p + 2) 0 ≡ suc (suc (suc (length (treesWords us)))) = word sp 2 in
+    let w : drop p ws ≡ tree_words t ++ (trees_words ts ++ rest) = e ∙ append_assoc (tree_words t) (trees_words ts) rest in
+    let sp : Spot ws p = record { tree = t; rest = trees_words ts ++ rest; words = w } in
+    let k : get_or ws (p + 2) 0 + 3 ≡ length (tree_words t) = list-size sp (word0 sp) in
+    let z : get_or ws (p + 2) 0 ≡ suc (suc (suc (length (trees_words us)))) = word sp 2 in
     record {
       left = record {
         names = ss;
         pairs = ts;
         rest = rest;
-        words = sym (drop-drop (get_or ws (p + 2) 0 + 3) p ws) ∙ ap (drop (get_or ws (p + 2) 0 + 3)) w ∙ drop_at (treeWords t) (treesWords ts ++ rest) (get_or ws (p + 2) 0 + 3) (sym k);
+        words = sym (drop-drop (get_or ws (p + 2) 0 + 3) p ws) ∙ ap (drop (get_or ws (p + 2) 0 + 3)) w ∙ drop_at (tree_words t) (trees_words ts ++ rest) (get_or ws (p + 2) 0 + 3) (sym k);
         named = x;
         many = omega arith;
       };
@@ -54,7 +54,7 @@ named-trees (tcons t ts) (s ∷ ss) (more x) = ap suc (named-trees ts ss x)
 
 pub record Walk (text ws : List ℕ) (at n : ℕ) (h : Pairs ws at n) (s : Span) (i p : ℕ) : Type 0 where
   pub left : Pairs ws p (n - i)
-  pub place : placeAmong text s h.names ≡ i + placeAmong text s left.names
+  pub place : place_among text s h.names ≡ i + place_among text s left.names
   pub within : i ≤ n
 
 module _ (text ws : List ℕ) (at n : ℕ) (h : Pairs ws at n) (s : Span) where
@@ -66,28 +66,28 @@ module _ (text ws : List ℕ) (at n : ℕ) (h : Pairs ws at n) (s : Span) where
   }
 
   module _ (i p : ℕ) (x : Walk text ws at n h s i p) where
-    pub walk_end : n ≤ i → i ≡ placeAmong text s h.names
-    unfolding placeAmong pick
-    walk_end e = omega (arith, x.place, ap (placeAmong text s) (nil-names x.left.names (omega (arith, x.left.many))))
+    pub walk_end : n ≤ i → i ≡ place_among text s h.names
+    unfolding place_among pick
+    walk_end e = omega (arith, x.place, ap (place_among text s) (nil_names x.left.names (omega (arith, x.left.many))))
       where
-        nil-names : (l : List Span) → length l ≡ 0 → l ≡ []
-        nil-names [] k = refl
-        nil-names (y ∷ ys) k = absurd (omega arith)
+        nil_names : (l : List Span) → length l ≡ 0 → l ≡ []
+        nil_names [] k = refl
+        nil_names (y ∷ ys) k = absurd (omega arith)
 
     module _ (l : i < n) where
       pub walk_pair : PairAt ws p (n - i) x.left.names
       walk_pair = first-pair x.left (omega arith)
 
-      pub walk-hit : same_name text s (spanAt ws p) ≡ true → i ≡ placeAmong text s h.names
-      unfolding placeAmong pick
+      pub walk-hit : same_name text s (span_at ws p) ≡ true → i ≡ place_among text s h.names
+      unfolding place_among pick
       walk-hit e =
-          let z : placeAmong text s x.left.names ≡ 0 = ap (placeAmong text s) walk_pair.is ∙ rw e refl in
+          let z : place_among text s x.left.names ≡ 0 = ap (place_among text s) walk_pair.is ∙ rw e refl in
           omega (arith, x.place)
 
-      pub walk_more : same_name text s (spanAt ws p) ≡ false → (q : ℕ) → q ≡ p + (get_or ws (p + 2) 0 + 3) → Walk text ws at n h s (i + 1) q
-      unfolding placeAmong pick
+      pub walk_more : same_name text s (span_at ws p) ≡ false → (q : ℕ) → q ≡ p + (get_or ws (p + 2) 0 + 3) → Walk text ws at n h s (i + 1) q
+      unfolding place_among pick
       walk_more e q is =
-          let z : placeAmong text s x.left.names ≡ suc (placeAmong text s walk_pair.left.names) = ap (placeAmong text s) walk_pair.is ∙ rw e refl in
+          let z : place_among text s x.left.names ≡ suc (place_among text s walk_pair.left.names) = ap (place_among text s) walk_pair.is ∙ rw e refl in
           rw is
           (record {
             left = record { names = walk_pair.left.names; pairs = walk_pair.left.pairs; rest = walk_pair.left.rest; words = walk_pair.left.words; named = walk_pair.left.named; many = omega (arith, walk_pair.left.many) };
@@ -97,12 +97,12 @@ module _ (text ws : List ℕ) (at n : ℕ) (h : Pairs ws at n) (s : Span) where
 
 -- ---- repeated names
 
-place-within : (text : List ℕ) (s : Span) (xs : List Span) → placeAmong text s xs ≤ length xs
-unfolding placeAmong pick
+place-within : (text : List ℕ) (s : Span) (xs : List Span) → place_among text s xs ≤ length xs
+unfolding place_among pick
 place-within text s [] = omega arith
 place-within text s (x ∷ xs) = go (same_name text s x) (place-within text s xs)
   where
-    go : (t : Bool) → placeAmong text s xs ≤ length xs → pick t 0 (suc (placeAmong text s xs)) ≤ suc (length xs)
+    go : (t : Bool) → place_among text s xs ≤ length xs → pick t 0 (suc (place_among text s xs)) ≤ suc (length xs)
     go true h = omega arith
     go false h = omega arith
 
@@ -113,14 +113,14 @@ ltb-suc a b = go (ltb a b) refl
     go true e = let h = ltb-true a b e in lt-ltb (suc a) (suc b) (omega arith) ∙ sym e
     go false e = let h = ltb-false a b e in le-ltb (suc a) (suc b) (omega arith) ∙ sym e
 
-pub is-in : (text : List ℕ) (s : Span) (xs : List Span) → isAmong text s xs ≡ ltb (placeAmong text s xs) (length xs)
-unfolding placeAmong isAmong pick
-is-in text s [] = refl
-is-in text s (x ∷ xs) = go (same_name text s x) (is-in text s xs)
+pub is_in : (text : List ℕ) (s : Span) (xs : List Span) → is_among text s xs ≡ ltb (place_among text s xs) (length xs)
+unfolding place_among is_among pick
+is_in text s [] = refl
+is_in text s (x ∷ xs) = go (same_name text s x) (is_in text s xs)
   where
-    go : (t : Bool) → isAmong text s xs ≡ ltb (placeAmong text s xs) (length xs) → pick t true (isAmong text s xs) ≡ ltb (pick t 0 (suc (placeAmong text s xs))) (suc (length xs))
+    go : (t : Bool) → is_among text s xs ≡ ltb (place_among text s xs) (length xs) → pick t true (is_among text s xs) ≡ ltb (pick t 0 (suc (place_among text s xs))) (suc (length xs))
     go true h = sym (lt-ltb 0 (suc (length xs)) (omega arith))
-    go false h = h ∙ sym (ltb-suc (placeAmong text s xs) (length xs))
+    go false h = h ∙ sym (ltb-suc (place_among text s xs) (length xs))
 
 pub record Left (text ws : List ℕ) (names : List Span) (n i p : ℕ) : Type 0 where
   pub left : Pairs ws p (n - i)
@@ -138,11 +138,11 @@ module _ (text ws : List ℕ) (names : List Span) (n : ℕ) where
   module _ (i p : ℕ) (x : Left text ws names n i p) where
     pub left_end : n ≤ i → false ≡ repeated text names
     unfolding repeated pick
-    left_end e = sym (x.same ∙ ap (repeated text) (nil-names x.left.names (omega (arith, x.left.many))))
+    left_end e = sym (x.same ∙ ap (repeated text) (nil_names x.left.names (omega (arith, x.left.many))))
       where
-        nil-names : (l : List Span) → length l ≡ 0 → l ≡ []
-        nil-names [] k = refl
-        nil-names (y ∷ ys) k = absurd (omega arith)
+        nil_names : (l : List Span) → length l ≡ 0 → l ≡ []
+        nil_names [] k = refl
+        nil_names (y ∷ ys) k = absurd (omega arith)
 
     module _ (l : i < n) where
       pub left-pair : PairAt ws p (n - i) x.left.names
@@ -155,41 +155,41 @@ module _ (text ws : List ℕ) (names : List Span) (n : ℕ) where
         abbrev pub left-rest : Pairs ws q (n - (i + 1))
         left-rest = record { names = left-pair.left.names; pairs = left-pair.left.pairs; rest = left-pair.left.rest; words = rw is left-pair.left.words; named = left-pair.left.named; many = left-many }
 
-        pub left-hit : {r : ℕ} → r ≡ placeAmong text (spanAt ws p) left-pair.left.names → r < n - (i + 1) → true ≡ repeated text names
+        pub left-hit : {r : ℕ} → r ≡ place_among text (span_at ws p) left-pair.left.names → r < n - (i + 1) → true ≡ repeated text names
         unfolding repeated pick
         left-hit {r} e h =
-            let z : isAmong text (spanAt ws p) left-pair.left.names ≡ true = is-in text (spanAt ws p) left-pair.left.names ∙ lt-ltb (placeAmong text (spanAt ws p) left-pair.left.names) (length left-pair.left.names) (omega (arith, left-many)) in
+            let z : is_among text (span_at ws p) left-pair.left.names ≡ true = is_in text (span_at ws p) left-pair.left.names ∙ lt-ltb (place_among text (span_at ws p) left-pair.left.names) (length left-pair.left.names) (omega (arith, left-many)) in
             sym (x.same ∙ ap (repeated text) left-pair.is ∙ rw z refl)
 
-        pub left-more : {r : ℕ} → r ≡ placeAmong text (spanAt ws p) left-pair.left.names → n - (i + 1) ≤ r → Left text ws names n (i + 1) q
+        pub left-more : {r : ℕ} → r ≡ place_among text (span_at ws p) left-pair.left.names → n - (i + 1) ≤ r → Left text ws names n (i + 1) q
         unfolding repeated pick
         left-more {r} e h =
-            let z : isAmong text (spanAt ws p) left-pair.left.names ≡ false = is-in text (spanAt ws p) left-pair.left.names ∙ le-ltb (placeAmong text (spanAt ws p) left-pair.left.names) (length left-pair.left.names) (omega (arith, left-many)) in
+            let z : is_among text (span_at ws p) left-pair.left.names ≡ false = is_in text (span_at ws p) left-pair.left.names ∙ le-ltb (place_among text (span_at ws p) left-pair.left.names) (length left-pair.left.names) (omega (arith, left-many)) in
             record { left = left-rest; same = x.same ∙ ap (repeated text) left-pair.is ∙ rw z refl; within = omega arith }
 
 -- The number of a name by its place.
-number-place : (text : List ℕ) (s : Span) (xs : List Span) (k : ℕ) → numberAmong text s xs k ≡ pick (ltb (placeAmong text s xs) (length xs)) (just (k + placeAmong text s xs)) nothing
-unfolding numberAmong placeAmong pick
+number-place : (text : List ℕ) (s : Span) (xs : List Span) (k : ℕ) → number_among text s xs k ≡ pick (ltb (place_among text s xs) (length xs)) (just (k + place_among text s xs)) nothing
+unfolding number_among place_among pick
 number-place text s [] k = refl
 number-place text s (x ∷ xs) k = go (same_name text s x) (number-place text s xs (suc k))
   where
     here : ltb 0 (suc (length xs)) ≡ true
     here = lt-ltb 0 (suc (length xs)) (omega arith)
 
-    go : (t : Bool) → numberAmong text s xs (suc k) ≡ pick (ltb (placeAmong text s xs) (length xs)) (just (suc k + placeAmong text s xs)) nothing
-        → pick t (just k) (numberAmong text s xs (suc k)) ≡ pick (ltb (pick t 0 (suc (placeAmong text s xs))) (suc (length xs))) (just (k + pick t 0 (suc (placeAmong text s xs)))) nothing
+    go : (t : Bool) → number_among text s xs (suc k) ≡ pick (ltb (place_among text s xs) (length xs)) (just (suc k + place_among text s xs)) nothing
+        → pick t (just k) (number_among text s xs (suc k)) ≡ pick (ltb (pick t 0 (suc (place_among text s xs))) (suc (length xs))) (just (k + pick t 0 (suc (place_among text s xs)))) nothing
     go true h = rw here (ap just (sym (add-zero k)))
     go false h =
-        let e : suc k + placeAmong text s xs ≡ k + suc (placeAmong text s xs) = omega arith in
-        h ∙ ap (λ (j : ℕ). pick (ltb (placeAmong text s xs) (length xs)) (just j) nothing) e ∙ ap (λ (t : Bool). pick t (just (k + suc (placeAmong text s xs))) nothing) (sym (ltb-suc (placeAmong text s xs) (length xs)))
+        let e : suc k + place_among text s xs ≡ k + suc (place_among text s xs) = omega arith in
+        h ∙ ap (λ (j : ℕ). pick (ltb (place_among text s xs) (length xs)) (just j) nothing) e ∙ ap (λ (t : Bool). pick t (just (k + suc (place_among text s xs))) nothing) (sym (ltb-suc (place_among text s xs) (length xs)))
 
-number-hit : (text : List ℕ) (s : Span) (xs : List Span) (k : ℕ) → placeAmong text s xs < length xs → numberAmong text s xs k ≡ just (k + placeAmong text s xs)
+number-hit : (text : List ℕ) (s : Span) (xs : List Span) (k : ℕ) → place_among text s xs < length xs → number_among text s xs k ≡ just (k + place_among text s xs)
 unfolding pick
-number-hit text s xs k h = number-place text s xs k ∙ rw (lt-ltb (placeAmong text s xs) (length xs) h) refl
+number-hit text s xs k h = number-place text s xs k ∙ rw (lt-ltb (place_among text s xs) (length xs) h) refl
 
-number-miss : (text : List ℕ) (s : Span) (xs : List Span) (k : ℕ) → length xs ≤ placeAmong text s xs → numberAmong text s xs k ≡ nothing
+number-miss : (text : List ℕ) (s : Span) (xs : List Span) (k : ℕ) → length xs ≤ place_among text s xs → number_among text s xs k ≡ nothing
 unfolding pick
-number-miss text s xs k h = number-place text s xs k ∙ rw (le-ltb (placeAmong text s xs) (length xs) h) refl
+number-miss text s xs k h = number-place text s xs k ∙ rw (le-ltb (place_among text s xs) (length xs) h) refl
 
 -- ---- a search in scopes
 
@@ -214,13 +214,13 @@ pub record Search (text ws es : List ℕ) (depth : ℕ) (h : OpenScopes ws es de
   pub within : 3 * d ≤ length es
 
 module _ (text ws es : List ℕ) (depth : ℕ) (h : OpenScopes ws es depth) (name : Span) where
-  pub search-start : Search text ws es depth h name depth
-  search-start = record { scopes = h.scopes; holds = h.holds; same = refl; within = h.within }
+  pub search_start : Search text ws es depth h name depth
+  search_start = record { scopes = h.scopes; holds = h.holds; same = refl; within = h.within }
 
   module _ (d : ℕ) (x : Search text ws es depth h name d) where
-    pub search-end : (count : ℕ) → d ≤ 0 → Meant count (number_in text name h.scopes) Nothing
+    pub search_end : (count : ℕ) → d ≤ 0 → Meant count (number_in text name h.scopes) Nothing
     unfolding number_in
-    search-end count e = rw x.same (go d x.scopes (omega arith) x.holds)
+    search_end count e = rw x.same (go d x.scopes (omega arith) x.holds)
       where
         go : (k : ℕ) (fs : List Scope) → k ≡ 0 → Opened ws es k fs → Meant count (number_in text name fs) Nothing
         go zero [] e o = refl
@@ -229,33 +229,33 @@ module _ (text ws es : List ℕ) (depth : ℕ) (h : OpenScopes ws es depth) (nam
         go (suc k) (f ∷ fs) e o = absurd (omega arith)
 
     module _ (l : 0 < d) where
-      pub search-top : Top ws es d x.scopes
-      search-top = top ws es d x.scopes l x.holds
+      pub search_top : Top ws es d x.scopes
+      search_top = top ws es d x.scopes l x.holds
 
-      pub search-pairs : {a n : ℕ} → a ≡ get_or es (3 * (d - 1)) 0 → n ≡ get_or es (3 * (d - 1) + 1) 0 → Pairs ws a n
-      search-pairs e f = rw (e, f) search-top.entry.place
+      pub search_pairs : {a n : ℕ} → a ≡ get_or es (3 * (d - 1)) 0 → n ≡ get_or es (3 * (d - 1) + 1) 0 → Pairs ws a n
+      search_pairs e f = rw (e, f) search_top.entry.place
 
-      module _ {r a n : ℕ} (e : a ≡ get_or es (3 * (d - 1)) 0) (f : n ≡ get_or es (3 * (d - 1) + 1) 0) (k : ((p : Pairs ws a n) → r ≡ placeAmong text name p.names)) where
-        search-place : r ≡ placeAmong text name search-top.scope.names
-        search-place = go a n e f k ∙ ap (placeAmong text name) (sym search-top.entry.names)
+      module _ {r a n : ℕ} (e : a ≡ get_or es (3 * (d - 1)) 0) (f : n ≡ get_or es (3 * (d - 1) + 1) 0) (k : ((p : Pairs ws a n) → r ≡ place_among text name p.names)) where
+        search_place : r ≡ place_among text name search_top.scope.names
+        search_place = go a n e f k ∙ ap (place_among text name) (sym search_top.entry.names)
           where
-            go : (a n : ℕ) → a ≡ get_or es (3 * (d - 1)) 0 → n ≡ get_or es (3 * (d - 1) + 1) 0 → ((p : Pairs ws a n) → r ≡ placeAmong text name p.names) → r ≡ placeAmong text name search-top.entry.place.names
-            go a n e f k = (rw (e, f) at k) search-top.entry.place
+            go : (a n : ℕ) → a ≡ get_or es (3 * (d - 1)) 0 → n ≡ get_or es (3 * (d - 1) + 1) 0 → ((p : Pairs ws a n) → r ≡ place_among text name p.names) → r ≡ place_among text name search_top.entry.place.names
+            go a n e f k = (rw (e, f) at k) search_top.entry.place
 
-        search-many : n ≡ length search-top.scope.names
-        search-many = f ∙ search-top.entry.place.many ∙ ap length (sym search-top.entry.names)
+        search_many : n ≡ length search_top.scope.names
+        search_many = f ∙ search_top.entry.place.many ∙ ap length (sym search_top.entry.names)
 
-        pub search-hit : (count : ℕ) {j : ℕ} → r < n → j ≡ (count + (get_or es (3 * (d - 1) + 2) 0 + r)) % 2 ^ 64 → Meant count (number_in text name h.scopes) (At j)
+        pub search_hit : (count : ℕ) {j : ℕ} → r < n → j ≡ (count + (get_or es (3 * (d - 1) + 2) 0 + r)) % 2 ^ 64 → Meant count (number_in text name h.scopes) (At j)
         unfolding number_in
-        search-hit count u p =
-            rw (x.same, search-top.is, number-hit text name search-top.scope.names search-top.scope.first (omega (arith, search-place, search-many))) (ap At (p ∙ rw (search-top.entry.first, search-place) refl))
+        search_hit count u p =
+            rw (x.same, search_top.is, number-hit text name search_top.scope.names search_top.scope.first (omega (arith, search_place, search_many))) (ap At (p ∙ rw (search_top.entry.first, search_place) refl))
 
-        pub search-more : n ≤ r → Search text ws es depth h name (d - 1)
+        pub search_more : n ≤ r → Search text ws es depth h name (d - 1)
         unfolding number_in
-        search-more u = record {
-          scopes = search-top.below;
-          holds = search-top.holds;
-          same = x.same ∙ ap (number_in text name) search-top.is ∙ rw (number-miss text name search-top.scope.names search-top.scope.first (omega (arith, search-place, search-many))) refl;
+        search_more u = record {
+          scopes = search_top.below;
+          holds = search_top.holds;
+          same = x.same ∙ ap (number_in text name) search_top.is ∙ rw (number-miss text name search_top.scope.names search_top.scope.first (omega (arith, search_place, search_many))) refl;
           within = omega (arith, x.within);
         }
 

@@ -2,11 +2,11 @@
 use Rattle.std.proofs.Common.{◌≡◌, ℕ, ◌+◌, ◌-◌, ◌/◌, ◌%◌, ◌^◌, List, [], ◌∷◌, sym, refl, ap, ◌∙◌, arith}
 use Rattle.reading.specs.Bytes.{Span, bytes_at, Maybe, nothing, just, lookup}
 use Rattle.grammar.specs.Item.{raise, words_of}
-use Rattle.grammar.specs.Expr.{exprs, exprItems, exprsItems, kindItems}
+use Rattle.grammar.specs.Expr.{exprs, expr_items, exprs_items, kind_items}
 use Rattle.grammar.specs.Names.{theory}
-use Rattle.grammar.specs.Scope.{Scope, number_in, orNamed, symbolExpr}
-use Rattle.grammar.specs.Written.{exprWords}
-use Rattle.forms.specs.FormNames.{theoryIn}
+use Rattle.grammar.specs.Scope.{Scope, number_in, or_named, symbol_expr}
+use Rattle.grammar.specs.Written.{expr_words}
+use Rattle.forms.specs.FormNames.{theory_in}
 use Rattle.scopes.specs.Scopes.{Meant}
 use Rattle.forms.specs.declared.theory.Theory.{Theory}
 use Rattle.forms.specs.declared.theory.Theory.TheVariants as theories
@@ -14,37 +14,37 @@ use Rattle.scopes.specs.declared.entries.Found.{Found}
 use Rattle.scopes.specs.declared.entries.Found.TheVariants as found
 
 -- A number of 64 bits has the words of the number that it was wrapped from.
-pub low-wrapped : (v k : ℕ) → k ≡ v % 2 ^ 64 → v % 2 ^ 32 ≡ k % 2 ^ 32
-low-wrapped v k e = omega arith
+pub low_wrapped : (v k : ℕ) → k ≡ v % 2 ^ 64 → v % 2 ^ 32 ≡ k % 2 ^ 32
+low_wrapped v k e = omega arith
 
-pub high-wrapped : (v k : ℕ) → k ≡ v % 2 ^ 64 → v / 2 ^ 32 % 2 ^ 32 ≡ k / 2 ^ 32 % 2 ^ 32
-high-wrapped v k e = omega arith
+pub high_wrapped : (v k : ℕ) → k ≡ v % 2 ^ 64 → v / 2 ^ 32 % 2 ^ 32 ≡ k / 2 ^ 32 % 2 ^ 32
+high_wrapped v k e = omega arith
 
 -- A symbol as an expression, by what is found out about its bytes w.
-module _ (count : ℕ) (text : List ℕ) (s : Span) (sc : List Scope) {w : List ℕ} {t : Theory} (same : w ≡ bytes_at text s) (told : theoryIn t ≡ lookup theory w) where
-  theory-is : (u : Theory) → t ≡ u → theoryIn u ≡ lookup theory (bytes_at text s)
-  theory-is u e = ap theoryIn (sym e) ∙ told ∙ ap (lookup theory) same
+module _ (count : ℕ) (text : List ℕ) (s : Span) (sc : List Scope) {w : List ℕ} {t : Theory} (same : w ≡ bytes_at text s) (told : theory_in t ≡ lookup theory w) where
+  theory-is : (u : Theory) → t ≡ u → theory_in u ≡ lookup theory (bytes_at text s)
+  theory-is u e = ap theory_in (sym e) ∙ told ∙ ap (lookup theory) same
 
   -- A theory function.
-  pub variable-theory : {k : ℕ} → t ≡ theories.Is k → exprWords count (symbolExpr text s sc) ≡ 49 ∷ k ∷ []
-  unfolding symbolExpr exprItems exprsItems kindItems exprs raise words_of
+  pub variable-theory : {k : ℕ} → t ≡ theories.Is k → expr_words count (symbol_expr text s sc) ≡ 49 ∷ k ∷ []
+  unfolding symbol_expr expr_items exprs_items kind_items exprs raise words_of
   variable-theory {k} e = rw (← theory-is (theories.Is k) e) refl
 
   module _ (none : t ≡ theories.No) {f : Found} (meant : Meant count (number_in text s sc) f) where
     -- A variable of an open scope.
-    pub variable-fresh : {k a b : ℕ} → f ≡ found.At k → a ≡ k % 2 ^ 32 → b ≡ k / 2 ^ 32 % 2 ^ 32 → exprWords count (symbolExpr text s sc) ≡ 36 ∷ a ∷ b ∷ []
-    unfolding symbolExpr exprItems exprsItems kindItems exprs raise words_of
+    pub variable-fresh : {k a b : ℕ} → f ≡ found.At k → a ≡ k % 2 ^ 32 → b ≡ k / 2 ^ 32 % 2 ^ 32 → expr_words count (symbol_expr text s sc) ≡ 36 ∷ a ∷ b ∷ []
+    unfolding symbol_expr expr_items exprs_items kind_items exprs raise words_of
     variable-fresh {k} {a} {b} e p q = rw (← theory-is theories.No none) (go (number_in text s sc) meant)
       where
-        go : (m : Maybe ℕ) → Meant count m f → exprWords count (orNamed text s m) ≡ 36 ∷ a ∷ b ∷ []
+        go : (m : Maybe ℕ) → Meant count m f → expr_words count (or_named text s m) ≡ 36 ∷ a ∷ b ∷ []
         go nothing x = let z : ◌≡◌ {A = ℕ} 0 1 = cc in absurd (omega arith)
-        go (just j) x = let z : k ≡ (count + j) % 2 ^ 64 = cc in rw (p, q, low-wrapped (count + j) k z, high-wrapped (count + j) k z) refl
+        go (just j) x = let z : k ≡ (count + j) % 2 ^ 64 = cc in rw (p, q, low_wrapped (count + j) k z, high_wrapped (count + j) k z) refl
 
     -- A named variable.
-    pub variable-named : f ≡ found.Nothing → exprWords count (symbolExpr text s sc) ≡ 37 ∷ s.start ∷ s.len ∷ []
-    unfolding symbolExpr exprItems exprsItems kindItems exprs raise words_of
+    pub variable-named : f ≡ found.Nothing → expr_words count (symbol_expr text s sc) ≡ 37 ∷ s.start ∷ s.len ∷ []
+    unfolding symbol_expr expr_items exprs_items kind_items exprs raise words_of
     variable-named e = rw (← theory-is theories.No none) (go (number_in text s sc) meant)
       where
-        go : (m : Maybe ℕ) → Meant count m f → exprWords count (orNamed text s m) ≡ 37 ∷ s.start ∷ s.len ∷ []
+        go : (m : Maybe ℕ) → Meant count m f → expr_words count (or_named text s m) ≡ 37 ∷ s.start ∷ s.len ∷ []
         go nothing x = refl
         go (just j) x = let z : ◌≡◌ {A = ℕ} 0 1 = cc in absurd (omega arith)

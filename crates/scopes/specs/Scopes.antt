@@ -1,10 +1,10 @@
 -- The code's open scopes, of parameters, exists and let alike: entries of a slice, each the place of its first pair in the tree, how many
 -- pairs there are, and its first fresh number.
 use Rattle.std.specs.Prelude.{◌≡◌, ℕ, zero, suc, ◌+◌, ◌*◌, ◌%◌, ◌^◌, ◌<◌, ◌≤◌, List, [], ◌∷◌, ◌++◌, length, drop, ◌==◌, slice_index, slice_set}
-use Rattle.reading.specs.Limits.{maxLists}
+use Rattle.reading.specs.Limits.{max_lists}
 use Rattle.reading.specs.Pick.{pick}
 use Rattle.reading.specs.Bytes.{Span, Maybe, nothing, just}
-use Rattle.reading.specs.Tree.{Trees, symbol, atom, list, tnil, tcons, treesWords}
+use Rattle.reading.specs.Tree.{Trees, symbol, atom, list, tnil, tcons, trees_words}
 use Rattle.grammar.specs.Scope.{Scope, same_name}
 use Rattle.scopes.specs.declared.entries.Found.{Found}
 use Rattle.scopes.specs.declared.entries.Found.TheVariants.{At, Nothing}
@@ -19,7 +19,7 @@ pub record Pairs (ws : List ℕ) (at n : ℕ) : Type 0 where
   pub names : List Span
   pub pairs : Trees
   pub rest : List ℕ
-  pub words : drop at ws ≡ treesWords pairs ++ rest
+  pub words : drop at ws ≡ trees_words pairs ++ rest
   pub named : Named pairs names
   pub many : n ≡ length names
 
@@ -38,7 +38,7 @@ Opened ws es (suc d) (s ∷ sc) = IsScope ws (slice_index es (3 * d)) (slice_ind
 
 -- The numbers of as many entries as lists can stand inside one another.
 abbrev pub slots : ℕ
-slots = 3 * maxLists
+slots = 3 * max_lists
 
 -- The entries below a depth are the same in both.
 pub record Kept (es es' : List ℕ) (d : ℕ) : Type 0 where
@@ -63,9 +63,9 @@ pub record OpenScopes (ws es : List ℕ) (d : ℕ) : Type 0 where
   pub within : 3 * d ≤ length es
 
 -- The first place of a name among names, or how many there are.
-unfoldable pub placeAmong : List ℕ → Span → List Span → ℕ
-placeAmong text s [] = 0
-placeAmong text s (x ∷ xs) = pick (same_name text s x) 0 (suc (placeAmong text s xs))
+unfoldable pub place_among : List ℕ → Span → List Span → ℕ
+place_among text s [] = 0
+place_among text s (x ∷ xs) = pick (same_name text s x) 0 (suc (place_among text s xs))
 
 -- The fresh number that a name means, raised by the count.
 abbrev pub Meant : ℕ → Maybe ℕ → Found → Type 0

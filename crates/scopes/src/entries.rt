@@ -2,7 +2,7 @@
 ghost use Rattle.std.specs.Prelude.{◌≡◌, ◌+◌, ◌*◌, ◌≤◌, length};
 ghost use Rattle.reading.specs.Bytes.{Span};
 ghost use Rattle.grammar.specs.Scope.{same_name, number_in, repeated};
-ghost use Rattle.scopes.specs.Scopes.{pushed, deeper, Pairs, placeAmong, OpenScopes, Meant};
+ghost use Rattle.scopes.specs.Scopes.{pushed, deeper, Pairs, place_among, OpenScopes, Meant};
 
 use lexing::byte::same;
 use words::limits::MAX_LISTS;
@@ -44,7 +44,7 @@ fn same_name(text: &[u8], start: u32, len: u32, other: u32, many: u32) -> bool
 // The first place of a name among the names of a scope, or how many there are.
 fn place_among(text: &[u8], tree: &[u32], at: usize, n: usize, start: u32, len: u32) -> usize
     requires { Pairs tree.now at n }
-    ensures { (h : Pairs tree.now at n) → result ≡ placeAmong text.now (record { start = start; len = len }) h.names }
+    ensures { (h : Pairs tree.now at n) → result ≡ place_among text.now (record { start = start; len = len }) h.names }
 {
     let mut i: usize = 0;
     let mut p = at;

@@ -1,8 +1,8 @@
 // A symbol as an expression.
 ghost use Rattle.std.specs.Prelude.{◌+◌, ◌≤◌};
 ghost use Rattle.reading.specs.Bytes.{Span};
-ghost use Rattle.grammar.specs.Scope.{symbolExpr};
-ghost use Rattle.grammar.specs.Written.{exprWords};
+ghost use Rattle.grammar.specs.Scope.{symbol_expr};
+ghost use Rattle.grammar.specs.Written.{expr_words};
 ghost use Rattle.scopes.specs.Scopes.{OpenScopes};
 ghost use Rattle.places.specs.Outcome.{bound, Put};
 
@@ -25,7 +25,7 @@ pub fn variable(
     w: usize,
 ) -> usize
     requires { (OpenScopes tree.now scopes.now depth) × (w ≤ bound) }
-    ensures { (h : OpenScopes tree.now scopes.now depth) → (Put out.old w (exprWords count (symbolExpr text.now (record { start = name.0; len = name.1 }) h.scopes)) out.new result) × (result ≤ w + 3) }
+    ensures { (h : OpenScopes tree.now scopes.now depth) → (Put out.old w (expr_words count (symbol_expr text.now (record { start = name.0; len = name.1 }) h.scopes)) out.new result) × (result ≤ w + 3) }
 {
     match theory_number(bytes_at(text, name.0, name.1)) {
         Theory::Is(k) => put2(out, w, THEORY, k),

@@ -3,34 +3,34 @@ use Rattle.std.specs.Prelude.{ℕ, ◌≡◌, Bool, true, false, [], length}
 use Rattle.reading.specs.Answer.{Final, accepts, refuses}
 use Rattle.grammar.specs.Scoped.{Scoped, ScopedPreds, ScopedSolution}
 use Rattle.flattening.specs.Uncurry.{flattened}
-use Rattle.session.specs.Session.{Op, readOne, read_all, sort, expression, bind, solution, Call, Term, aRead, aSort, anExpr, aBind, aSolution, room_for}
+use Rattle.session.specs.Session.{Op, read_one, read_all, sort, expression, bind, solution, Call, Term, a_read, a_sort, an_expr, a_bind, a_solution, room_for}
 
 -- The operation that answers with such a term.
 abbrev pub op_of : Term → Op
-op_of (aRead false r) = readOne
-op_of (aRead true r) = read_all
-op_of (aSort s) = sort
-op_of (anExpr e) = expression
-op_of (aBind b) = bind
-op_of (aSolution s) = solution
+op_of (a_read false r) = read_one
+op_of (a_read true r) = read_all
+op_of (a_sort s) = sort
+op_of (an_expr e) = expression
+op_of (a_bind b) = bind
+op_of (a_solution s) = solution
 
 -- The operations that bind no number.
-abbrev pub readsOrSorts : Op → Bool
-readsOrSorts readOne = true
-readsOrSorts read_all = true
-readsOrSorts sort = true
-readsOrSorts expression = false
-readsOrSorts bind = false
-readsOrSorts solution = false
+abbrev pub reads_or_sorts : Op → Bool
+reads_or_sorts read_one = true
+reads_or_sorts read_all = true
+reads_or_sorts sort = true
+reads_or_sorts expression = false
+reads_or_sorts bind = false
+reads_or_sorts solution = false
 
 -- "a parameter encloses the solution's expression, an exists its body", "a let enclosing its body": each fresh number that an answer at the
 -- count c uses is bound by one that encloses it.
 abbrev pub ScopedTerm : ℕ → Term → Type 0
-ScopedTerm c (aRead all r) = Unit {0}
-ScopedTerm c (aSort s) = Unit {0}
-ScopedTerm c (anExpr e) = Scoped e c []
-ScopedTerm c (aBind b) = ScopedPreds c b.preds
-ScopedTerm c (aSolution s) = ScopedSolution c (flattened s)
+ScopedTerm c (a_read all r) = Unit {0}
+ScopedTerm c (a_sort s) = Unit {0}
+ScopedTerm c (an_expr e) = Scoped e c []
+ScopedTerm c (a_bind b) = ScopedPreds c b.preds
+ScopedTerm c (a_solution s) = ScopedSolution c (flattened s)
 
 -- The same of what a call decides; a refusal uses no number.
 abbrev pub ScopedFinal : ℕ → Final Term → Type 0

@@ -1,16 +1,16 @@
 -- Calls on a reader, and what each answers and leaves.
 use Rattle.std.specs.Prelude.{ℕ, Bool, true, false, List, [], length}
 use Rattle.reading.specs.Pick.{pick}
-use Rattle.reading.specs.Answer.{Res, M, ◌>>=◌, chain, done, lifted, Final, accepts, refuses, finish, fitsIn, Said, accepted, zeros, outputOf, said_of, count_of}
-use Rattle.reading.specs.Reading.{Read, readText, readWords, readReport}
-use Rattle.grammar.specs.Sort.{Sort, sortWords}
+use Rattle.reading.specs.Answer.{Res, M, ◌>>=◌, chain, done, lifted, Final, accepts, refuses, finish, fits_in, Said, accepted, zeros, output_of, said_of, count_of}
+use Rattle.reading.specs.Reading.{Read, read_text, read_words, read_report}
+use Rattle.grammar.specs.Sort.{Sort, sort_words}
 use Rattle.grammar.specs.Item.{Item, plains, raise, words_of, bound}
-use Rattle.grammar.specs.Expr.{Expr, exprItems, Bind, bindItems, Solution, solutionItems}
-use Rattle.grammar.specs.Operations.{makeSort, makeExpr, makeBind, makeSolution}
+use Rattle.grammar.specs.Expr.{Expr, expr_items, Bind, bind_items, Solution, solution_items}
+use Rattle.grammar.specs.Operations.{make_sort, make_expr, make_bind, make_solution}
 use Rattle.flattening.specs.Uncurry.{flattened}
 
 pub data Op : Type 0 where
-  readOne read_all sort expression bind solution : Op
+  read_one read_all sort expression bind solution : Op
 
 -- A call: the operation, the text, and the words that the lent slices hold.
 pub record Call : Type 0 where
@@ -22,59 +22,59 @@ pub record Call : Type 0 where
 
 -- What an operation makes of its text: one expression or all, a sort, an expression, a bind, a solution before flattening.
 pub data Term : Type 0 where
-  aRead : Bool → Read → Term
-  aSort : Sort → Term
-  anExpr : Expr → Term
-  aBind : Bind → Term
-  aSolution : Solution → Term
+  a_read : Bool → Read → Term
+  a_sort : Sort → Term
+  an_expr : Expr → Term
+  a_bind : Bind → Term
+  a_solution : Solution → Term
 
 -- What the output is written from.
-unfoldable pub termItems : Term → List Item
-termItems (aRead all r) = plains (readWords r)
-termItems (aSort s) = plains (sortWords s)
-termItems (anExpr e) = exprItems e
-termItems (aBind b) = bindItems b
-termItems (aSolution s) = solutionItems (flattened s)
+unfoldable pub term_items : Term → List Item
+term_items (a_read all r) = plains (read_words r)
+term_items (a_sort s) = plains (sort_words s)
+term_items (an_expr e) = expr_items e
+term_items (a_bind b) = bind_items b
+term_items (a_solution s) = solution_items (flattened s)
 
 -- What the draft takes while a solution is made.
-unfoldable pub draftItems : Term → List Item
-draftItems (aRead all r) = []
-draftItems (aSort s) = []
-draftItems (anExpr e) = []
-draftItems (aBind b) = []
-draftItems (aSolution s) = exprItems s.body
+unfoldable pub draft_items : Term → List Item
+draft_items (a_read all r) = []
+draft_items (a_sort s) = []
+draft_items (an_expr e) = []
+draft_items (a_bind b) = []
+draft_items (a_solution s) = expr_items s.body
 
 -- The words of the output at the reader's count c: each fresh number is raised by it.
-abbrev pub termWords : ℕ → Term → List ℕ
-termWords c m = words_of (raise c (termItems m))
+abbrev pub term_words : ℕ → Term → List ℕ
+term_words c m = words_of (raise c (term_items m))
 
 -- The two numbers that an accepted call reports: those of reading, else the number of words and 0.
 unfoldable pub report : Term → Said
-report (aRead all r) = readReport all r
-report (aSort s) = accepted (length (sortWords s)) 0
-report (anExpr e) = accepted (length (words_of (exprItems e))) 0
-report (aBind b) = accepted (length (words_of (bindItems b))) 0
-report (aSolution s) = accepted (length (words_of (solutionItems (flattened s)))) 0
+report (a_read all r) = read_report all r
+report (a_sort s) = accepted (length (sort_words s)) 0
+report (an_expr e) = accepted (length (words_of (expr_items e))) 0
+report (a_bind b) = accepted (length (words_of (bind_items b))) 0
+report (a_solution s) = accepted (length (words_of (solution_items (flattened s)))) 0
 
 unfoldable pub make : Op → List ℕ → List ℕ → M Term
-make readOne text tree = do
-  r ← lifted (readText false text)
-  done (aRead false r)
+make read_one text tree = do
+  r ← lifted (read_text false text)
+  done (a_read false r)
 make read_all text tree = do
-  r ← lifted (readText true text)
-  done (aRead true r)
+  r ← lifted (read_text true text)
+  done (a_read true r)
 make sort text tree = do
-  s ← makeSort text tree
-  done (aSort s)
+  s ← make_sort text tree
+  done (a_sort s)
 make expression text tree = do
-  e ← makeExpr text tree
-  done (anExpr e)
+  e ← make_expr text tree
+  done (an_expr e)
 make bind text tree = do
-  b ← makeBind text tree
-  done (aBind b)
+  b ← make_bind text tree
+  done (a_bind b)
 make solution text tree = do
-  s ← makeSolution text tree
-  done (aSolution s)
+  s ← make_solution text tree
+  done (a_solution s)
 
 -- What a call makes with numbers from 0 and how many it binds, or the refusal that comes before 13.
 abbrev pub made : Call → Res Term
@@ -82,7 +82,7 @@ made call = make call.op call.text call.tree 0
 
 -- The draft and the output are long enough.
 unfoldable pub room_for : Call → Term → Bool
-room_for call m = pick (fitsIn call.draft (words_of (draftItems m))) (fitsIn call.out (words_of (termItems m))) false
+room_for call m = pick (fits_in call.draft (words_of (draft_items m))) (fits_in call.out (words_of (term_items m))) false
 
 -- What a call on a reader at the count c decides.
 unfoldable pub final : Call → ℕ → Final Term
@@ -104,10 +104,10 @@ outcome call c =
       count = count_of c (final call c);
       tree = zeros call.tree;
       draft = zeros call.draft;
-      out = outputOf (termWords c) (final call c) call.out;
+      out = output_of (term_words c) (final call c) call.out;
     }
 
 -- The numbers that what is decided at the count c binds.
-unfoldable pub boundBy : ℕ → Final Term → List ℕ
-boundBy c (accepts m n) = bound (raise c (termItems m))
-boundBy c (refuses r) = []
+unfoldable pub bound_by : ℕ → Final Term → List ℕ
+bound_by c (accepts m n) = bound (raise c (term_items m))
+bound_by c (refuses r) = []

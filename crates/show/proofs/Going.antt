@@ -6,30 +6,30 @@ use mathlib.Core.List.{List, ◌++◌, append_assoc}
 use native.Mathlib.Omega.{arith}
 use lib.ListN.{length, get_or}
 use lib.Seq.{sets, length-sets}
-use Rattle.reading.specs.Limits.{maxNodes}
+use Rattle.reading.specs.Limits.{max_nodes}
 use Rattle.reading.specs.Bytes.{just}
 use Rattle.reading.specs.Answer.{over}
 use Rattle.reading.proofs.Over.{over-more, over-length}
 use Rattle.grammar.specs.Item.{words_of}
-use Rattle.grammar.specs.Expr.{Binder, exprItems, Solution}
-use Rattle.judging.specs.Judge.{reads, sortAt, bindersAt, exprDeep}
+use Rattle.grammar.specs.Expr.{Binder, expr_items, Solution}
+use Rattle.judging.specs.Judge.{reads, sort_at, binders_at, expr_deep}
 use Rattle.judging.specs.Spelled.{Spelled}
 use Rattle.judging.specs.Ends.{end_of}
 use Rattle.judging.specs.declared.End.TheVariants as end
 use Rattle.judging.proofs.Spell.{Low, spelled-inside}
 use Rattle.judging.proofs.SpellExpr.{expr-spelled}
-use Rattle.flattening.specs.Operations.{noText}
-use Rattle.show.specs.Lines.{line, refusalText, paramLines, solutionText}
-use Rattle.show.specs.Shown.{wordsText, hasRoom, shown}
-use Rattle.show.proofs.Stores.{sets-append}
+use Rattle.flattening.specs.Operations.{no_text}
+use Rattle.show.specs.Lines.{line, refusal_text, param_lines, solution_text}
+use Rattle.show.specs.Shown.{words_text, has_room, shown}
+use Rattle.show.proofs.Stores.{sets_append}
 use Rattle.show.proofs.Printing.{between, line-length}
-use Rattle.show.proofs.Params.{paramWords, between-spelled, Next, next-read, none_read}
+use Rattle.show.proofs.Params.{param_words, between-spelled, Next, next-read, none_read}
 use Rattle.show.proofs.Judged.{parts-length, Placed, placed}
 use Rattle.show.proofs.Showing.{answering, shows, refusal-shows}
 
 -- The lines of a solution, behind the one that says that there is no refusal.
 abbrev lines_of : Solution → List ℕ
-lines_of s = paramLines s.params ++ line (words_of (exprItems s.body))
+lines_of s = param_lines s.params ++ line (words_of (expr_items s.body))
 
 -- Between two parameters: the places, the parameters that are still to be read, and that the text left to write turns this output into
 -- the whole one.
@@ -41,23 +41,23 @@ pub record Going (words out₀ out : List ℕ) (from left at : ℕ) : Type 0 whe
   pub kept : length out ≡ length out₀
   pub binders : List Binder
   pub behind : ℕ
-  pub read : bindersAt noText left words from ≡ reads binders behind
-  pub body : exprDeep noText maxNodes words behind ≡ reads place.solution.body (length words)
-  pub text : sets out at (paramLines binders ++ line (words_of (exprItems place.solution.body))) ≡ sets out₀ 3 (lines_of place.solution)
+  pub read : binders_at no_text left words from ≡ reads binders behind
+  pub body : expr_deep no_text max_nodes words behind ≡ reads place.solution.body (length words)
+  pub text : sets out at (param_lines binders ++ line (words_of (expr_items place.solution.body))) ≡ sets out₀ 3 (lines_of place.solution)
 
 -- There is a word for the number of parameters, and room for the first line.
-pub first_word : (words : List ℕ) (room : ℕ) → hasRoom (wordsText words) room ≡ true → 1 ≤ length words
+pub first_word : (words : List ℕ) (room : ℕ) → has_room (words_text words) room ≡ true → 1 ≤ length words
 first_word words room e = (placed words room e).parts.some
 
-first-line : {words : List ℕ} (o : List ℕ) {out : List ℕ} {at : ℕ} → Low words → Placed words (length o) → answering at out ≡ shown (just (refusalText 0)) o → (at ≡ 3) × (out ≡ over (refusalText 0) o)
+first-line : {words : List ℕ} (o : List ℕ) {out : List ℕ} {at : ℕ} → Low words → Placed words (length o) → answering at out ≡ shown (just (refusal_text 0)) o → (at ≡ 3) × (out ≡ over (refusal_text 0) o)
 first-line o low p a = refusal-shows o 0 (omega (arith, p.fits, parts-length low p.parts)) a
 
 -- Before the first parameter.
-pub going-starts : (words o : List ℕ) {out : List ℕ} {at : ℕ} → Low words → hasRoom (wordsText words) (length o) ≡ true → answering at out ≡ shown (just (refusalText 0)) o → Going words out out 1 (get_or words 0 0) at
-going-starts words o {out} {at} low e a =
+pub going_starts : (words o : List ℕ) {out : List ℕ} {at : ℕ} → Low words → has_room (words_text words) (length o) ≡ true → answering at out ≡ shown (just (refusal_text 0)) o → Going words out out 1 (get_or words 0 0) at
+going_starts words o {out} {at} low e a =
     let p = placed words (length o) e in
     let f = first-line o low p a in
-    let n : length o ≡ length out = sym (ap length f.1 ∙ over-length (refusalText 0) o) in
+    let n : length o ≡ length out = sym (ap length f.1 ∙ over-length (refusal_text 0) o) in
     record {
       low = low;
       place = record { solution = p.solution; text = p.text; parts = p.parts; fits = omega (arith, p.fits, n) };
@@ -77,14 +77,14 @@ module _ {words out₀ out : List ℕ} {from left at : ℕ} (g : Going words out
   next some = next-read words g.low from left g.inside some g.read
 
   -- Its sort is not refused.
-  pub not-refused : {P : Type 0} → 0 < left → {r : ℕ} → end.No r ≡ end_of (sortAt noText words (from + 2)) → P
+  pub not-refused : {P : Type 0} → 0 < left → {r : ℕ} → end.No r ≡ end_of (sort_at no_text words (from + 2)) → P
   not-refused some {r} e = let z : end.No r ≡ end.At (next some).to = e ∙ ap end_of (next some).sort in let y : ◌≡◌ {A = ℕ} 0 1 = cc in absurd (omega arith)
 
-  module _ (some : 0 < left) {to : ℕ} (e : end.At to ≡ end_of (sortAt noText words (from + 2))) where
+  module _ (some : 0 < left) {to : ℕ} (e : end.At to ≡ end_of (sort_at no_text words (from + 2))) where
     same_place : (next some).to ≡ to
     same_place = let z : end.At to ≡ end.At (next some).to = e ∙ ap end_of (next some).sort in cc
 
-    spelled : Spelled words from to (paramWords (next some).binder)
+    spelled : Spelled words from to (param_words (next some).binder)
     spelled = rw same_place at (next some).spelled
 
     -- There is room for its line.
@@ -94,15 +94,15 @@ module _ {words out₀ out : List ℕ} {from left at : ℕ} (g : Going words out
 
     -- Behind its line.
     pub going_more : {out' : List ℕ} {at' : ℕ} → at' ≡ at + 9 * (to - from) → out' ≡ sets out at (line (between words from to)) → Going words out₀ out' to (left - 1) at'
-    unfolding paramLines
+    unfolding param_lines
     going_more {out'} {at'} p o =
         let x = next some in
-        let b : List ℕ = paramWords x.binder in
-        let body : List ℕ = line (words_of (exprItems g.place.solution.body)) in
-        let rest : List ℕ = paramLines x.others ++ body in
+        let b : List ℕ = param_words x.binder in
+        let body : List ℕ = line (words_of (expr_items g.place.solution.body)) in
+        let rest : List ℕ = param_lines x.others ++ body in
         let q : out' ≡ sets out at (line b) = o ∙ ap (λ (l : List ℕ). sets out at (line l)) (between-spelled spelled) in
         let m : at' ≡ at + length (line b) = omega (arith, p, line-length b, spelled.ends) in
-        let w : paramLines g.binders ++ body ≡ line b ++ rest = ap (λ (l : List Binder). paramLines l ++ body) x.is ∙ append_assoc (line b) (paramLines x.others) body in
+        let w : param_lines g.binders ++ body ≡ line b ++ rest = ap (λ (l : List Binder). param_lines l ++ body) x.is ∙ append_assoc (line b) (param_lines x.others) body in
         record {
           low = g.low;
           place = g.place;
@@ -113,7 +113,7 @@ module _ {words out₀ out : List ℕ} {from left at : ℕ} (g : Going words out
           behind = g.behind;
           read = rw same_place at x.then;
           body = g.body;
-          text = rw (m, q) (sets-append (line b) rest out at) ∙ ap (sets out at) (sym w) ∙ g.text;
+          text = rw (m, q) (sets_append (line b) rest out at) ∙ ap (sets out at) (sym w) ∙ g.text;
         }
 
   -- There is room for the last line.
@@ -121,20 +121,20 @@ module _ {words out₀ out : List ℕ} {from left at : ℕ} (g : Going words out
   last-room = (g.inside, omega arith, omega (arith, g.inside, g.reached, g.kept, g.place.fits, parts-length g.low g.place.parts, g.place.parts.some))
 
   -- Behind the last line: the text of the solution is shown.
-  pub going-ends : (o : List ℕ) {at₀ : ℕ} {out' : List ℕ} {at' : ℕ} → length out₀ ≡ length o → answering at₀ out₀ ≡ shown (just (refusalText 0)) o → left ≤ 0 → at' ≡ at + 9 * (length words - from) → out' ≡ sets out at (line (between words from (length words)))
-      → answering at' out' ≡ shown (wordsText words) o
-  unfolding paramLines solutionText refusalText
-  going-ends o {at₀} {out'} {at'} long a none p e =
+  pub going_ends : (o : List ℕ) {at₀ : ℕ} {out' : List ℕ} {at' : ℕ} → length out₀ ≡ length o → answering at₀ out₀ ≡ shown (just (refusal_text 0)) o → left ≤ 0 → at' ≡ at + 9 * (length words - from) → out' ≡ sets out at (line (between words from (length words)))
+      → answering at' out' ≡ shown (words_text words) o
+  unfolding param_lines solution_text refusal_text
+  going_ends o {at₀} {out'} {at'} long a none p e =
       let s : Solution = g.place.solution in
       let n = none_read words from left none g.read in
-      let fits : length (solutionText s) ≤ length o = omega (arith, g.place.fits, long) in
-      let h : out₀ ≡ over (refusalText 0) o = (first-line o g.low (record { solution = s; text = g.place.text; parts = g.place.parts; fits = fits }) a).1 in
-      let x : Spelled words from (length words) (words_of (exprItems s.body)) = rw n.1 (expr-spelled noText maxNodes words g.low g.behind g.body) in
+      let fits : length (solution_text s) ≤ length o = omega (arith, g.place.fits, long) in
+      let h : out₀ ≡ over (refusal_text 0) o = (first-line o g.low (record { solution = s; text = g.place.text; parts = g.place.parts; fits = fits }) a).1 in
+      let x : Spelled words from (length words) (words_of (expr_items s.body)) = rw n.1 (expr-spelled no_text max_nodes words g.low g.behind g.body) in
       let l : out' ≡ sets out₀ 3 (lines_of s) =
       e
       ∙ ap (λ (l : List ℕ). sets out at (line l)) (between-spelled x)
-      ∙ ap (λ (bs : List Binder). sets out at (paramLines bs ++ line (words_of (exprItems s.body)))) (sym n.0)
+      ∙ ap (λ (bs : List Binder). sets out at (param_lines bs ++ line (words_of (expr_items s.body)))) (sym n.0)
       ∙ g.text in
-      shows o (solutionText s) g.place.text fits
+      shows o (solution_text s) g.place.text fits
       (omega (arith, p, g.inside, g.reached, parts-length g.low g.place.parts, g.place.parts.some))
-      (l ∙ ap (λ (k : List ℕ). sets k 3 (lines_of s)) h ∙ over-more (lines_of s) (refusalText 0) o 3 refl)
+      (l ∙ ap (λ (k : List ℕ). sets k 3 (lines_of s)) h ∙ over-more (lines_of s) (refusal_text 0) o 3 refl)

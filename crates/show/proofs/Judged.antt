@@ -7,63 +7,63 @@ use native.Mathlib.Omega.{arith}
 use lib.Dec.{eqb, leb}
 use lib.ListN.{length, get_or}
 use borrow.Author.Tests.{eqb-true, leb-true, eq-eqb, ne_eqb}
-use Rattle.reading.specs.Limits.{maxNodes}
+use Rattle.reading.specs.Limits.{max_nodes}
 use Rattle.reading.specs.Pick.{pick}
 use Rattle.reading.specs.Bytes.{just}
-use Rattle.reading.specs.Answer.{notWords}
+use Rattle.reading.specs.Answer.{not_words}
 use Rattle.grammar.specs.Item.{words_of}
-use Rattle.grammar.specs.Expr.{Binder, Expr, Solution, binderItems}
+use Rattle.grammar.specs.Expr.{Binder, Expr, Solution, binder_items}
 use Rattle.grammar.proofs.Lengths.{size-solution}
-use Rattle.judging.specs.Judge.{Judged, reads, fails, FromWords, ◌>>=◌, bindersAt, exprDeep, exprAt, atEnd, judgeSolution}
+use Rattle.judging.specs.Judge.{Judged, reads, fails, FromWords, ◌>>=◌, binders_at, expr_deep, expr_at, at_end, judge_solution}
 use Rattle.judging.specs.Spelled.{Spelled}
 use Rattle.judging.specs.Ends.{end_of}
 use Rattle.judging.specs.declared.End.TheVariants as end
 use Rattle.judging.proofs.ReadFields.{word_in, word_out}
 use Rattle.judge.proofs.ReadExpr.{ends_at, ends-no}
-use Rattle.judging.proofs.Spell.{Low, post-reads, spelled_none}
+use Rattle.judging.proofs.Spell.{Low, post_reads, spelled_none}
 use Rattle.judging.proofs.SpellSort.{binders-behind}
 use Rattle.judging.proofs.SpellExpr.{expr-spelled}
-use Rattle.judging.proofs.SolutionParts.{Parts, parts-of}
-use Rattle.flattening.specs.Operations.{noText}
-use Rattle.show.specs.Lines.{solutionText}
-use Rattle.show.specs.Shown.{text_of, wordsText, hasRoom}
+use Rattle.judging.proofs.SolutionParts.{Parts, parts_of}
+use Rattle.flattening.specs.Operations.{no_text}
+use Rattle.show.specs.Lines.{solution_text}
+use Rattle.show.specs.Shown.{text_of, words_text, has_room}
 use Rattle.show.proofs.Params.{text-length}
 
 -- How long the text is: three bytes, and nine for each word but the first.
-pub parts-length : {words : List ℕ} {s : Solution} → Low words → Parts noText words s → length (solutionText s) ≡ 3 + 9 * (length words - 1)
+pub parts-length : {words : List ℕ} {s : Solution} → Low words → Parts no_text words s → length (solution_text s) ≡ 3 + 9 * (length words - 1)
 parts-length {words} {s} low p =
-    let b : Spelled words 1 p.behind (words_of (binderItems s.params)) = post-reads (bindersAt noText (get_or words 0 0) words 1) (λ bs n. Spelled words 1 n (words_of (binderItems bs))) ((binders-behind noText low (get_or words 0 0)).reach 1 1 (spelled_none p.some)) p.binders in
-    omega (arith, p.some, b.ends, (expr-spelled noText maxNodes words low p.behind p.body).ends, size-solution s, text-length s)
+    let b : Spelled words 1 p.behind (words_of (binder_items s.params)) = post_reads (binders_at no_text (get_or words 0 0) words 1) (λ bs n. Spelled words 1 n (words_of (binder_items bs))) ((binders-behind no_text low (get_or words 0 0)).reach 1 1 (spelled_none p.some)) p.binders in
+    omega (arith, p.some, b.ends, (expr-spelled no_text max_nodes words low p.behind p.body).ends, size-solution s, text-length s)
 
 -- The solution that words are judged to be, where there is room for its text.
 pub record Placed (words : List ℕ) (room : ℕ) : Type 0 where
   pub solution : Solution
-  pub text : wordsText words ≡ just (solutionText solution)
-  pub parts : Parts noText words solution
-  pub fits : length (solutionText solution) ≤ room
+  pub text : words_text words ≡ just (solution_text solution)
+  pub parts : Parts no_text words solution
+  pub fits : length (solution_text solution) ≤ room
 
-pub placed : (words : List ℕ) (room : ℕ) → hasRoom (wordsText words) room ≡ true → Placed words room
-unfolding wordsText
-placed words room e = go (judgeSolution noText words) refl e
+pub placed : (words : List ℕ) (room : ℕ) → has_room (words_text words) room ≡ true → Placed words room
+unfolding words_text
+placed words room e = go (judge_solution no_text words) refl e
   where
-    go : (x : Judged Solution) → judgeSolution noText words ≡ x → hasRoom (text_of x) room ≡ true → Placed words room
-    go (reads s n) h q = record { solution = s; text = ap text_of h; parts = parts-of noText words h; fits = leb-true (length (solutionText s)) room q }
+    go : (x : Judged Solution) → judge_solution no_text words ≡ x → has_room (text_of x) room ≡ true → Placed words room
+    go (reads s n) h q = record { solution = s; text = ap text_of h; parts = parts_of no_text words h; fits = leb-true (length (solution_text s)) room q }
     go (fails r) h q = absurd (false≢true q)
 
 -- What the answers of the code say of the text.
 module _ (words : List ℕ) (room : ℕ) where
   -- A refusal has no text.
-  pub fits-no : {r : ℕ} → end.No r ≡ end_of (judgeSolution noText words) → false ≡ hasRoom (wordsText words) room
-  unfolding wordsText
-  fits-no e = ap (λ (j : Judged Solution). hasRoom (text_of j) room) (sym (ends-no (judgeSolution noText words) e))
+  pub fits-no : {r : ℕ} → end.No r ≡ end_of (judge_solution no_text words) → false ≡ has_room (words_text words) room
+  unfolding words_text
+  fits-no e = ap (λ (j : Judged Solution). has_room (text_of j) room) (sym (ends-no (judge_solution no_text words) e))
 
   -- A solution has words, and its text is as long as they say.
-  pub fits-some : {n : ℕ} → end.At n ≡ end_of (judgeSolution noText words) → 1 ≤ length words
-  fits-some e = (parts-of noText words (ends_at (judgeSolution noText words) e).1).some
+  pub fits-some : {n : ℕ} → end.At n ≡ end_of (judge_solution no_text words) → 1 ≤ length words
+  fits-some e = (parts_of no_text words (ends_at (judge_solution no_text words) e).1).some
 
-  pub fits_all : {n : ℕ} {t : Bool} → Low words → end.At n ≡ end_of (judgeSolution noText words) → t ≡ leb (3 + 9 * (length words - 1)) room → t ≡ hasRoom (wordsText words) room
-  unfolding wordsText
+  pub fits_all : {n : ℕ} {t : Bool} → Low words → end.At n ≡ end_of (judge_solution no_text words) → t ≡ leb (3 + 9 * (length words - 1)) room → t ≡ has_room (words_text words) room
+  unfolding words_text
   fits_all {n} low e q =
-      let j = ends_at (judgeSolution noText words) e in
-      let k : 3 + 9 * (length words - 1) ≡ length (solutionText j.0) = omega (arith, parts-length low (parts-of noText words j.1)) in
-      q ∙ ap (λ (i : ℕ). leb i room) k ∙ ap (λ (x : Judged Solution). hasRoom (text_of x) room) (sym j.1)
+      let j = ends_at (judge_solution no_text words) e in
+      let k : 3 + 9 * (length words - 1) ≡ length (solution_text j.0) = omega (arith, parts-length low (parts_of no_text words j.1)) in
+      q ∙ ap (λ (i : ℕ). leb i room) k ∙ ap (λ (x : Judged Solution). has_room (text_of x) room) (sym j.1)

@@ -6,44 +6,44 @@ use native.Mathlib.Omega.{arith}
 use lib.ListN.{length, length-append}
 use lib.Seq.{take_at}
 use Rattle.reading.proofs.Placed.{at_drop}
-use Rattle.grammar.specs.Sort.{two, sortWords}
+use Rattle.grammar.specs.Sort.{two, sort_words}
 use Rattle.grammar.specs.Item.{Item, words_of}
-use Rattle.grammar.specs.Expr.{Binder, Expr, exprItems, Solution, binderItems, sortItems, solutionItems}
+use Rattle.grammar.specs.Expr.{Binder, Expr, expr_items, Solution, binder_items, sort_items, solution_items}
 use Rattle.grammar.proofs.Items.{words-front}
-use Rattle.judging.specs.Judge.{reads, several, two_words, sortAt, binderAt, bindersAt}
+use Rattle.judging.specs.Judge.{reads, several, two_words, sort_at, binder_at, binders_at}
 use Rattle.judging.specs.Spelled.{Spelled}
 use Rattle.judging.proofs.FieldsBack.{moved}
-use Rattle.judging.proofs.Spell.{Low, post-reads, spelled-inside, spelled_none, spelled-seq, a-two}
+use Rattle.judging.proofs.Spell.{Low, post_reads, spelled-inside, spelled_none, spelled_seq, a-two}
 use Rattle.judging.proofs.SpellSort.{a-sort}
 use Rattle.judging.proofs.Taken.{first_read, same-value, same_end}
-use Rattle.flattening.specs.Operations.{noText}
-use Rattle.show.specs.Lines.{line, refusalText, paramLines, solutionText}
+use Rattle.flattening.specs.Operations.{no_text}
+use Rattle.show.specs.Lines.{line, refusal_text, param_lines, solution_text}
 use Rattle.show.proofs.Printing.{between, line-length}
 
 -- The words of a parameter.
-abbrev pub paramWords : Binder → List ℕ
-paramWords b = two b.var ++ sortWords b.sort
+abbrev pub param_words : Binder → List ℕ
+param_words b = two b.var ++ sort_words b.sort
 
 -- The words of parameters and a body: the first parameter, and the others.
-words-next : (b : Binder) (bs : List Binder) (its : List Item) → words_of (binderItems (b ∷ bs) ++ its) ≡ paramWords b ++ words_of (binderItems bs ++ its)
-unfolding binderItems words_of
+words-next : (b : Binder) (bs : List Binder) (its : List Item) → words_of (binder_items (b ∷ bs) ++ its) ≡ param_words b ++ words_of (binder_items bs ++ its)
+unfolding binder_items words_of
 words-next b bs its =
-    ap (λ l. two b.var ++ words_of l) (append_assoc (sortItems b.sort) (binderItems bs) its)
-    ∙ ap (λ l. two b.var ++ l) (words-front (sortWords b.sort) (binderItems bs ++ its))
+    ap (λ l. two b.var ++ words_of l) (append_assoc (sort_items b.sort) (binder_items bs) its)
+    ∙ ap (λ l. two b.var ++ l) (words-front (sort_words b.sort) (binder_items bs ++ its))
 
 -- Nine bytes a word.
-lines-length : (bs : List Binder) (e : Expr) → length (paramLines bs ++ line (words_of (exprItems e))) ≡ 9 * length (words_of (binderItems bs ++ exprItems e))
-unfolding paramLines binderItems
-lines-length [] e = line-length (words_of (exprItems e))
+lines-length : (bs : List Binder) (e : Expr) → length (param_lines bs ++ line (words_of (expr_items e))) ≡ 9 * length (words_of (binder_items bs ++ expr_items e))
+unfolding param_lines binder_items
+lines-length [] e = line-length (words_of (expr_items e))
 lines-length (b ∷ bs) e =
-    let a : List ℕ = line (paramWords b) in
-    let r : List ℕ = paramLines bs ++ line (words_of (exprItems e)) in
-    ap length (append_assoc a (paramLines bs) (line (words_of (exprItems e))))
-    ∙ omega (arith, length-append a r, line-length (paramWords b), lines-length bs e, ap length (words-next b bs (exprItems e)), length-append (paramWords b) (words_of (binderItems bs ++ exprItems e)))
+    let a : List ℕ = line (param_words b) in
+    let r : List ℕ = param_lines bs ++ line (words_of (expr_items e)) in
+    ap length (append_assoc a (param_lines bs) (line (words_of (expr_items e))))
+    ∙ omega (arith, length-append a r, line-length (param_words b), lines-length bs e, ap length (words-next b bs (expr_items e)), length-append (param_words b) (words_of (binder_items bs ++ expr_items e)))
 
 -- The whole text, which lacks the word for the number of parameters.
-pub text-length : (s : Solution) → length (solutionText s) + 6 ≡ 9 * length (words_of (solutionItems s))
-unfolding solutionText refusalText solutionItems words_of
+pub text-length : (s : Solution) → length (solution_text s) + 6 ≡ 9 * length (words_of (solution_items s))
+unfolding solution_text refusal_text solution_items words_of
 text-length s = omega (arith, lines-length s.params s.body)
 
 -- Words that are spelled between two places are the words between them.
@@ -58,19 +58,19 @@ pub record Next (words : List ℕ) (from left : ℕ) (bs : List Binder) (behind 
   pub others : List Binder
   pub is : bs ≡ binder ∷ others
   pub to : ℕ
-  pub sort : sortAt noText words (from + 2) ≡ reads binder.sort to
-  pub then : bindersAt noText (left - 1) words to ≡ reads others behind
-  pub spelled : Spelled words from to (paramWords binder)
+  pub sort : sort_at no_text words (from + 2) ≡ reads binder.sort to
+  pub then : binders_at no_text (left - 1) words to ≡ reads others behind
+  pub spelled : Spelled words from to (param_words binder)
 
 module _ (words : List ℕ) {bs : List Binder} {behind : ℕ} where
   -- A number and a sort.
-  next-at : Low words → (from left : ℕ) → from ≤ length words → (b : Binder) (others : List Binder) (m : ℕ) → binderAt noText words from ≡ reads b m → bindersAt noText (left - 1) words m ≡ reads others behind → bs ≡ b ∷ others → Next words from left bs behind
-  unfolding binderAt
+  next-at : Low words → (from left : ℕ) → from ≤ length words → (b : Binder) (others : List Binder) (m : ℕ) → binder_at no_text words from ≡ reads b m → binders_at no_text (left - 1) words m ≡ reads others behind → bs ≡ b ∷ others → Next words from left bs behind
+  unfolding binder_at
   next-at low from left h b others m x u e =
       first_read (two_words words from) _ words x λ k a p q.
-      first_read (sortAt noText words a) _ words q λ s t f g.
-      let n : Spelled words from a (two k) = post-reads (two_words words from) (λ i j. Spelled words from j (two i)) ((a-two low).reach from from (spelled_none h)) p in
-      let o : Spelled words a t (sortWords s) = post-reads (sortAt noText words a) (λ i j. Spelled words a j (sortWords i)) ((a-sort noText low).reach a a (spelled_none (spelled-inside n))) f in
+      first_read (sort_at no_text words a) _ words q λ s t f g.
+      let n : Spelled words from a (two k) = post_reads (two_words words from) (λ i j. Spelled words from j (two i)) ((a-two low).reach from from (spelled_none h)) p in
+      let o : Spelled words a t (sort_words s) = post_reads (sort_at no_text words a) (λ i j. Spelled words a j (sort_words i)) ((a-sort no_text low).reach a a (spelled_none (spelled-inside n))) f in
       let l : a ≡ from + 2 = omega (arith, n.ends) in
       let c : Binder = record { var = k; sort = s } in
       record {
@@ -80,20 +80,20 @@ module _ (words : List ℕ) {bs : List Binder} {behind : ℕ} where
         to = t;
         sort = rw l at f;
         then = rw (same_end g) u;
-        spelled = spelled-seq n o;
+        spelled = spelled_seq n o;
       }
 
-  pub next-read : Low words → (from left : ℕ) → from ≤ length words → 0 < left → bindersAt noText left words from ≡ reads bs behind → Next words from left bs behind
-  unfolding bindersAt several
+  pub next-read : Low words → (from left : ℕ) → from ≤ length words → 0 < left → binders_at no_text left words from ≡ reads bs behind → Next words from left bs behind
+  unfolding binders_at several
   next-read low from zero h z e = absurd (omega arith)
   next-read low from (suc left) h z e =
       let k : suc left - 1 ≡ left = omega arith in
-      first_read (binderAt noText words from) _ words e λ b m x y.
-      first_read (bindersAt noText left words m) _ words y λ others n u v.
+      first_read (binder_at no_text words from) _ words e λ b m x y.
+      first_read (binders_at no_text left words m) _ words y λ others n u v.
       next-at low from (suc left) h b others m x (rw k (u ∙ moved (same_end v))) (sym (same-value v))
 
   -- No parameter is left.
-  pub none_read : (from left : ℕ) → left ≤ 0 → bindersAt noText left words from ≡ reads bs behind → (bs ≡ []) × (from ≡ behind)
-  unfolding bindersAt several
+  pub none_read : (from left : ℕ) → left ≤ 0 → binders_at no_text left words from ≡ reads bs behind → (bs ≡ []) × (from ≡ behind)
+  unfolding binders_at several
   none_read from zero h e = (sym (same-value e), same_end e)
   none_read from (suc left) h e = absurd (omega arith)

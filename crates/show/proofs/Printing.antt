@@ -9,9 +9,9 @@ use lib.Dec.{eqb}
 use lib.ListN.{length, take, drop, get_or, length-drop}
 use lib.Seq.{sets, length-sets, length-take-le, drop-cons}
 use Rattle.reading.specs.Pick.{pick}
-use Rattle.writing.specs.Digits.{eightDigits}
+use Rattle.writing.specs.Digits.{eight_digits}
 use Rattle.show.specs.Lines.{separator, line}
-use Rattle.show.proofs.Stores.{sets-append}
+use Rattle.show.proofs.Stores.{sets_append}
 
 -- Nine bytes a word.
 pub line-length : (ws : List ℕ) → length (line ws) ≡ 9 * length ws
@@ -35,7 +35,7 @@ separator-at (w ∷ ws) next to h e = rw (ne_eqb next to (λ q. absurd (omega ar
 
 -- A word and its separator, as `word` writes them.
 abbrev printed : ℕ → ℕ → List ℕ
-printed w sep = eightDigits w ++ (sep ∷ [])
+printed w sep = eight_digits w ++ (sep ∷ [])
 
 -- The first word of a line, and the line behind it.
 line-next : (words : List ℕ) (i to : ℕ) → i < to → to ≤ length words
@@ -56,13 +56,13 @@ pub record Lining (words : List ℕ) (from to at : ℕ) (out₀ out : List ℕ) 
   pub text : sets out a (line (between words i to)) ≡ sets out₀ at (line (between words from to))
 
 -- Nothing is written yet.
-pub lining-starts : (words : List ℕ) (from to at : ℕ) (out : List ℕ) → from ≤ to → Lining words from to at out out from at
-lining-starts words from to at out h = record { low = omega arith; high = h; place = omega arith; kept = refl; text = refl }
+pub lining_starts : (words : List ℕ) (from to at : ℕ) (out : List ℕ) → from ≤ to → Lining words from to at out out from at
+lining_starts words from to at out h = record { low = omega arith; high = h; place = omega arith; kept = refl; text = refl }
 
 -- One word more.
-pub lining-more : {words : List ℕ} {from to at : ℕ} {out₀ out out' : List ℕ} {i a sep : ℕ} → Lining words from to at out₀ out i a → to ≤ length words → i < to
+pub lining_more : {words : List ℕ} {from to at : ℕ} {out₀ out out' : List ℕ} {i a sep : ℕ} → Lining words from to at out₀ out i a → to ≤ length words → i < to
     → sep ≡ pick (eqb (i + 1) to) 10 32 → out' ≡ sets out a (printed (get_or words i 0) sep) → Lining words from to at out₀ out' (i + 1) (a + 9)
-lining-more {words} {from} {to} {at} {out₀} {out} {out'} {i} {a} {sep} v l h q e =
+lining_more {words} {from} {to} {at} {out₀} {out} {out'} {i} {a} {sep} v l h q e =
     let w : List ℕ = printed (get_or words i 0) sep in
     let n : line (between words i to) ≡ w ++ line (between words (i + 1) to) = rw q (line-next words i to h l) in
     record {
@@ -70,7 +70,7 @@ lining-more {words} {from} {to} {at} {out₀} {out} {out'} {i} {a} {sep} v l h q
       high = omega arith;
       place = omega (arith, v.place, v.low);
       kept = ap length e ∙ length-sets out a w ∙ v.kept;
-      text = rw e (sets-append w (line (between words (i + 1) to)) out a) ∙ ap (sets out a) (sym n) ∙ v.text;
+      text = rw e (sets_append w (line (between words (i + 1) to)) out a) ∙ ap (sets out a) (sym n) ∙ v.text;
     }
 
 -- All is written.

@@ -8,8 +8,8 @@ use borrow.Author.Tests.{le-leb, lt-leb}
 use Rattle.reading.specs.Pick.{pick}
 use Rattle.reading.specs.Bytes.{Maybe, nothing, just}
 use Rattle.reading.specs.Answer.{zeros, over}
-use Rattle.show.specs.Lines.{refusalText}
-use Rattle.show.specs.Shown.{hasRoom, Shown, shown}
+use Rattle.show.specs.Lines.{refusal_text}
+use Rattle.show.specs.Shown.{has_room, Shown, shown}
 
 -- What is answered, and the output.
 abbrev pub answering : ℕ → List ℕ → Shown
@@ -30,16 +30,16 @@ module _ (out₀ : List ℕ) where
       (ap (λ (s : Shown). s.count) q, ap (λ (s : Shown). s.out) q)
 
   -- No text, or one for which there is no room.
-  pub hides : (t : Maybe (List ℕ)) {out : List ℕ} → hasRoom t (length out₀) ≡ false → out ≡ zeros out₀ → answering 0 out ≡ shown t out₀
+  pub hides : (t : Maybe (List ℕ)) {out : List ℕ} → has_room t (length out₀) ≡ false → out ≡ zeros out₀ → answering 0 out ≡ shown t out₀
   unfolding shown pick
   hides nothing h o = ap (answering 0) o
   hides (just text) h o = rw h (ap (answering 0) o)
 
   -- The text of a refusal has three bytes.
-  pub refusal-hides : (n : ℕ) {out : List ℕ} → length out₀ < 3 → out ≡ zeros out₀ → answering 0 out ≡ shown (just (refusalText n)) out₀
-  unfolding refusalText
-  refusal-hides n h o = hides (just (refusalText n)) (lt-leb 3 (length out₀) h) o
+  pub refusal-hides : (n : ℕ) {out : List ℕ} → length out₀ < 3 → out ≡ zeros out₀ → answering 0 out ≡ shown (just (refusal_text n)) out₀
+  unfolding refusal_text
+  refusal-hides n h o = hides (just (refusal_text n)) (lt-leb 3 (length out₀) h) o
 
-  pub refusal-shows : (n : ℕ) {out : List ℕ} {r : ℕ} → 3 ≤ length out₀ → answering r out ≡ shown (just (refusalText n)) out₀ → (r ≡ 3) × (out ≡ over (refusalText n) out₀)
-  unfolding refusalText
-  refusal-shows n h a = reveals (refusalText n) refl h a
+  pub refusal-shows : (n : ℕ) {out : List ℕ} {r : ℕ} → 3 ≤ length out₀ → answering r out ≡ shown (just (refusal_text n)) out₀ → (r ≡ 3) × (out ≡ over (refusal_text n) out₀)
+  unfolding refusal_text
+  refusal-shows n h a = reveals (refusal_text n) refl h a

@@ -10,9 +10,9 @@ use Rattle.reading.specs.Answer.{over}
 use Rattle.reading.proofs.Over.{over-more}
 
 -- Stores of the first values, and of others behind them.
-pub sets-append : (vs ws o : List ℕ) (i : ℕ) → sets (sets o i vs) (i + length vs) ws ≡ sets o i (vs ++ ws)
-sets-append [] ws o i = ap (λ (k : ℕ). sets o k ws) (omega arith)
-sets-append (v ∷ vs) ws o i = ap (λ (k : ℕ). sets (sets (set o i v) (suc i) vs) k ws) (omega arith) ∙ sets-append vs ws (set o i v) (suc i)
+pub sets_append : (vs ws o : List ℕ) (i : ℕ) → sets (sets o i vs) (i + length vs) ws ≡ sets o i (vs ++ ws)
+sets_append [] ws o i = ap (λ (k : ℕ). sets o k ws) (omega arith)
+sets_append (v ∷ vs) ws o i = ap (λ (k : ℕ). sets (sets (set o i v) (suc i) vs) k ws) (omega arith) ∙ sets_append vs ws (set o i v) (suc i)
 
 -- Stores from the start on.
 pub sets_over : (vs o : List ℕ) → sets o 0 vs ≡ over vs o

@@ -3,9 +3,9 @@ ghost use Rattle.std.specs.Prelude.{◌≡◌, [], ◌∷◌, ◌++◌, ◌+◌,
 ghost use Rattle.std.proofs.lemmas.List.Edits.{sets};
 ghost use Rattle.reading.specs.Pick.{pick};
 ghost use Rattle.reading.specs.Bytes.{just};
-ghost use Rattle.writing.specs.Digits.{eightDigits};
-ghost use Rattle.show.specs.Lines.{line as line_of, refusalText};
-ghost use Rattle.show.specs.Shown.{wordsText, hasRoom, shown};
+ghost use Rattle.writing.specs.Digits.{eight_digits};
+ghost use Rattle.show.specs.Lines.{line as line_of, refusal_text};
+ghost use Rattle.show.specs.Shown.{words_text, has_room, shown};
 
 use judge::expr_words::{NO_TEXT, solution as solution_end};
 use judging::End;
@@ -25,7 +25,7 @@ fn separator(next: usize, to: usize) -> u8
 // A word and what stands behind it.
 fn word(w: u32, sep: u8, out: &mut [u8], at: usize)
     requires { at + 9 ≤ length out.old }
-    ensures { out.new ≡ sets out.old at (eightDigits w ++ (sep ∷ [])) }
+    ensures { out.new ≡ sets out.old at (eight_digits w ++ (sep ∷ [])) }
 {
     out[at] = digit(w / 0x1000_0000 % 16);
     out[at + 1] = digit(w / 0x100_0000 % 16);
@@ -56,7 +56,7 @@ fn line(words: &[u32], from: usize, to: usize, out: &mut [u8], at: usize) -> usi
 // The text of a refusal, at the start of the output; answers its length. An output without room for its three bytes is cleared, and the
 // answer is 0.
 pub fn refusal(n: u32, out: &mut [u8]) -> usize
-    ensures { record { count = result; out = out.new } ≡ shown (just (refusalText n)) out.old }
+    ensures { record { count = result; out = out.new } ≡ shown (just (refusal_text n)) out.old }
 {
     if out.len() < 3 {
         clear(out);
@@ -84,7 +84,7 @@ fn long_enough(words: usize, room: usize) -> bool
 
 // The words are judged to be a solution, and there is room for its text.
 fn fits(words: &[u32], room: usize) -> bool
-    ensures { result ≡ hasRoom (wordsText words.now) room }
+    ensures { result ≡ has_room (words_text words.now) room }
 {
     match solution_end(words, NO_TEXT) {
         End::At(_) => long_enough(words.len(), room),
@@ -94,8 +94,8 @@ fn fits(words: &[u32], room: usize) -> bool
 
 // The text of the solution that these words are, in an output with room for it; answers its length.
 fn lines(words: &[u32], out: &mut [u8]) -> usize
-    requires { hasRoom (wordsText words.now) (length out.old) ≡ true }
-    ensures { record { count = result; out = out.new } ≡ shown (wordsText words.now) out.old }
+    requires { has_room (words_text words.now) (length out.old) ≡ true }
+    ensures { record { count = result; out = out.new } ≡ shown (words_text words.now) out.old }
 {
     let mut at = refusal(0, out);
     let mut from = 1;
@@ -119,7 +119,7 @@ fn lines(words: &[u32], out: &mut [u8]) -> usize
 // The text of the solution that these words are judged to be, at the start of the output; answers its length. Where the words are no
 // solution, or the output has no room for all of the text, the output is cleared, and the answer is 0.
 pub fn solution(words: &[u32], out: &mut [u8]) -> usize
-    ensures { record { count = result; out = out.new } ≡ shown (wordsText words.now) out.old }
+    ensures { record { count = result; out = out.new } ≡ shown (words_text words.now) out.old }
 {
     if fits(words, out.len()) {
         return lines(words, out);

@@ -44,15 +44,15 @@ unfolding pick
 pick-and true x e = (refl, e)
 pick-and false x e = absurd (false≢true e)
 
-pub pick-unless : (t x : Bool) → pick t false x ≡ true → (t ≡ false) × (x ≡ true)
+pub pick_unless : (t x : Bool) → pick t false x ≡ true → (t ≡ false) × (x ≡ true)
 unfolding pick
-pick-unless true x e = absurd (false≢true e)
-pick-unless false x e = (refl, e)
+pick_unless true x e = absurd (false≢true e)
+pick_unless false x e = (refl, e)
 
-pub pick-neither : (t x : Bool) → pick t false x ≡ false → t ≡ false → x ≡ false
+pub pick_neither : (t x : Bool) → pick t false x ≡ false → t ≡ false → x ≡ false
 unfolding pick
-pick-neither true x e h = absurd (false≢true (sym h))
-pick-neither false x e h = e
+pick_neither true x e h = absurd (false≢true (sym h))
+pick_neither false x e h = e
 
 -- What holds of each where it is picked holds of the one that is picked.
 pub pick_known : {A : Type 0} (t : Bool) (x y : A) (R : A → Type 0) → (t ≡ true → R x) → (t ≡ false → R y) → R (pick t x y)

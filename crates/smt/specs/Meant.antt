@@ -6,10 +6,10 @@ use Rattle.grammar.specs.Expr.{BinOp, Relation}
 -- Sorts; the last one is for those that no term says.
 mutual
   pub data MeantSort : Type 0 where
-    intSort boolSort realSort stringSort : MeantSort
-    bitsSort : ℕ → MeantSort
-    arraySort : MeantSort → MeantSort → MeantSort
-    dataSort : List ℕ → MeantSorts → MeantSort
+    int_sort bool_sort real_sort string_sort : MeantSort
+    bits_sort : ℕ → MeantSort
+    array_sort : MeantSort → MeantSort → MeantSort
+    data_sort : List ℕ → MeantSorts → MeantSort
     unsaid : MeantSort
 
   pub data MeantSorts : Type 0 where
@@ -23,21 +23,21 @@ pub record MeantVar : Type 0 where
 
 -- What an expression is, but for its operands and but for calls.
 pub data MeantKind : Type 0 where
-  mNum : ℕ → MeantKind
-  mBool : Bool → MeantKind
-  mStr : List ℕ → MeantKind
-  mBitVec : ℕ → ℕ → MeantKind
-  mFresh : ℕ → MeantKind
-  mNamed : List ℕ → MeantKind
-  mNeg : MeantKind
-  mBin : BinOp → MeantKind
-  mIf mAnd mOr mNot mImp : MeantKind
-  mAtom : Relation → MeantKind
-  mLet : List ℕ → MeantKind
-  mTheory : ℕ → MeantKind
-  mIsCtor : List ℕ → MeantKind
-  mExists : List MeantVar → MeantKind
-  mLetFresh : ℕ → MeantKind
+  m_num : ℕ → MeantKind
+  m_bool : Bool → MeantKind
+  m_str : List ℕ → MeantKind
+  m_bit_vec : ℕ → ℕ → MeantKind
+  m_fresh : ℕ → MeantKind
+  m_named : List ℕ → MeantKind
+  m_neg : MeantKind
+  m_bin : BinOp → MeantKind
+  m_if m_and m_or m_not m_imp : MeantKind
+  m_atom : Relation → MeantKind
+  m_let : List ℕ → MeantKind
+  m_theory : ℕ → MeantKind
+  m_is_ctor : List ℕ → MeantKind
+  m_exists : List MeantVar → MeantKind
+  m_let_fresh : ℕ → MeantKind
 
 -- An expression.
 mutual

@@ -3,8 +3,8 @@
 use Rattle.std.specs.Prelude.{ℕ, Bool, true, false, not, ◌&&◌, ◌||◌, List, [], ◌∷◌, ◌++◌, eqb, leb}
 use Prim.Native.String.{String}
 use Rattle.reading.specs.Pick.{pick}
-use Rattle.reading.specs.Bytes.{ascii, sameBytes}
-use Rattle.reading.specs.Number.{isDigit}
+use Rattle.reading.specs.Bytes.{ascii, same_bytes}
+use Rattle.reading.specs.Number.{is_digit}
 use Rattle.writing.specs.Digits.{decimal}
 
 -- A symbol is its bytes, without the bars that may stand round it; so is a string without its quotes.
@@ -23,9 +23,9 @@ abbrev pub between : ℕ → ℕ → ℕ → Bool
 between low high b = leb low b && leb b high
 
 -- One of these bytes.
-abbrev pub oneAmong : List ℕ → ℕ → Bool
-oneAmong [] b = false
-oneAmong (x ∷ xs) b = eqb b x || oneAmong xs b
+abbrev pub one_among : List ℕ → ℕ → Bool
+one_among [] b = false
+one_among (x ∷ xs) b = eqb b x || one_among xs b
 
 -- Each byte passes.
 abbrev pub every : (ℕ → Bool) → List ℕ → Bool
@@ -34,11 +34,11 @@ every p (b ∷ bs) = p b && every p bs
 
 -- A decimal digit.
 abbrev pub digit : ℕ → Bool
-digit b = isDigit 10 b
+digit b = is_digit 10 b
 
 -- A byte of a symbol that needs no bars.
-unfoldable pub symbolByte : ℕ → Bool
-symbolByte b = between 65 90 b || between 97 122 b || digit b || oneAmong (ascii "~!@$%^&*_-+=<>.?/") b
+unfoldable pub symbol_byte : ℕ → Bool
+symbol_byte b = between 65 90 b || between 97 122 b || digit b || one_among (ascii "~!@$%^&*_-+=<>.?/") b
 
 -- Space, tab, line feed, carriage return.
 unfoldable pub white : ℕ → Bool
@@ -55,11 +55,11 @@ quotable b = (white b || printable b) && not (eqb b 124) && not (eqb b 92)
 -- One of these words.
 abbrev pub listed : List String → List ℕ → Bool
 listed [] w = false
-listed (s ∷ ss) w = sameBytes w (ascii s) || listed ss w
+listed (s ∷ ss) w = same_bytes w (ascii s) || listed ss w
 
 -- The reserved words: the general ones and the names of commands.
-unfoldable pub reservedWords : List String
-reservedWords =
+unfoldable pub reserved_words : List String
+reserved_words =
     "!" ∷ "_" ∷ "as" ∷ "BINARY" ∷ "DECIMAL" ∷ "exists" ∷ "HEXADECIMAL" ∷ "forall" ∷ "let" ∷ "match" ∷ "NUMERAL" ∷ "par" ∷ "STRING"
     ∷ "assert" ∷ "check-sat" ∷ "check-sat-assuming" ∷ "declare-const" ∷ "declare-datatype" ∷ "declare-datatypes" ∷ "declare-fun"
     ∷ "declare-sort" ∷ "define-fun" ∷ "define-fun-rec" ∷ "define-funs-rec" ∷ "define-sort" ∷ "echo" ∷ "exit" ∷ "get-assertions"
@@ -67,22 +67,22 @@ reservedWords =
     ∷ "get-value" ∷ "pop" ∷ "push" ∷ "reset" ∷ "reset-assertions" ∷ "set-info" ∷ "set-logic" ∷ "set-option" ∷ []
 
 -- A word that is no symbol.
-unfoldable pub isReserved : List ℕ → Bool
-isReserved w = listed reservedWords w
+unfoldable pub is_reserved : List ℕ → Bool
+is_reserved w = listed reserved_words w
 
 -- A symbol that needs no bars.
 unfoldable pub simple : List ℕ → Bool
 simple [] = false
-simple (b ∷ bs) = every symbolByte (b ∷ bs) && not (digit b) && not (isReserved (b ∷ bs))
+simple (b ∷ bs) = every symbol_byte (b ∷ bs) && not (digit b) && not (is_reserved (b ∷ bs))
 
 -- A symbol, in bars where it needs them.
-unfoldable pub symbolText : List ℕ → List ℕ
-symbolText s = pick (simple s) s (124 ∷ s ++ (124 ∷ []))
+unfoldable pub symbol_text : List ℕ → List ℕ
+symbol_text s = pick (simple s) s (124 ∷ s ++ (124 ∷ []))
 
 -- The bytes of an S-expression.
 unfoldable mutual
   pub print : Sx → List ℕ
-  print (symbol s) = symbolText s
+  print (symbol s) = symbol_text s
   print (string s) = 34 ∷ s ++ (34 ∷ [])
   print (reserved w) = w
   print (numeral n) = decimal n

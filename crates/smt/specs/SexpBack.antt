@@ -2,8 +2,8 @@
 use Rattle.std.specs.Prelude.{ℕ, Bool, true, false, ◌||◌, List, [], ◌∷◌, ◌++◌, eqb}
 use Rattle.reading.specs.Pick.{pick}
 use Rattle.reading.specs.Bytes.{Maybe, nothing, just}
-use Rattle.reading.specs.Number.{allDigits, valueFrom}
-use Rattle.smt.specs.Sexp.{Sx, symbol, string, reserved, numeral, list, Sxs, xnil, xcons, digit, symbolByte, white, printable, quotable, isReserved}
+use Rattle.reading.specs.Number.{all_digits, value_from}
+use Rattle.smt.specs.Sexp.{Sx, symbol, string, reserved, numeral, list, Sxs, xnil, xcons, digit, symbol_byte, white, printable, quotable, is_reserved}
 
 -- One after the other; where there is no value it ends.
 abbrev pub then : {A B : Type 0} → Maybe A → (A → Maybe B) → Maybe B
@@ -14,20 +14,20 @@ then (just a) f = f a
 unfoldable pub canonical : List ℕ → Bool
 canonical [] = false
 canonical (b ∷ []) = digit b
-canonical (b ∷ c ∷ bs) = pick (eqb b 48) false (allDigits 10 (b ∷ c ∷ bs))
+canonical (b ∷ c ∷ bs) = pick (eqb b 48) false (all_digits 10 (b ∷ c ∷ bs))
 
 -- The number of a numeral.
 unfoldable pub natural : List ℕ → Maybe ℕ
-natural w = pick (canonical w) (just (valueFrom 10 0 w)) nothing
+natural w = pick (canonical w) (just (value_from 10 0 w)) nothing
 
 -- Its first byte is a digit.
-abbrev pub ledByDigit : List ℕ → Bool
-ledByDigit [] = false
-ledByDigit (b ∷ bs) = digit b
+abbrev pub led_by_digit : List ℕ → Bool
+led_by_digit [] = false
+led_by_digit (b ∷ bs) = digit b
 
 -- What a run of symbol bytes is. One that begins with a digit and is no numeral is refused.
-unfoldable pub runSx : List ℕ → Maybe Sx
-runSx w = pick (ledByDigit w) (then (natural w) λ n. just (numeral n)) (pick (isReserved w) (just (reserved w)) (just (symbol w)))
+unfoldable pub run_sx : List ℕ → Maybe Sx
+run_sx w = pick (led_by_digit w) (then (natural w) λ n. just (numeral n)) (pick (is_reserved w) (just (reserved w)) (just (symbol w)))
 
 -- Parentheses, and what is no list.
 pub data Token : Type 0 where
@@ -47,29 +47,29 @@ pub data Step : Type 0 where
 
 -- What a byte begins where no item has begun.
 pub data Class : Type 0 where
-  cSymbol cWhite cOpen cClose cBar cQuote cSemicolon cOther : Class
+  c_symbol c_white c_open c_close c_bar c_quote c_semicolon c_other : Class
 
 -- Symbol bytes first.
 unfoldable pub class_of : ℕ → Class
 class_of b =
-    pick (symbolByte b) cSymbol
-    (pick (white b) cWhite
-    (pick (eqb b 40) cOpen
-    (pick (eqb b 41) cClose
-    (pick (eqb b 124) cBar
-    (pick (eqb b 34) cQuote
-    (pick (eqb b 59) cSemicolon cOther))))))
+    pick (symbol_byte b) c_symbol
+    (pick (white b) c_white
+    (pick (eqb b 40) c_open
+    (pick (eqb b 41) c_close
+    (pick (eqb b 124) c_bar
+    (pick (eqb b 34) c_quote
+    (pick (eqb b 59) c_semicolon c_other))))))
 
 -- A byte outside every item.
 abbrev pub begin : Class → ℕ → Step
-begin cSymbol b = to [] (run (b ∷ []))
-begin cWhite b = to [] idle
-begin cOpen b = to (opens ∷ []) idle
-begin cClose b = to (closes ∷ []) idle
-begin cBar b = to [] (bars [])
-begin cQuote b = to [] (quotes [])
-begin cSemicolon b = to [] comment
-begin cOther b = stuck
+begin c_symbol b = to [] (run (b ∷ []))
+begin c_white b = to [] idle
+begin c_open b = to (opens ∷ []) idle
+begin c_close b = to (closes ∷ []) idle
+begin c_bar b = to [] (bars [])
+begin c_quote b = to [] (quotes [])
+begin c_semicolon b = to [] comment
+begin c_other b = stuck
 
 -- The same where an item has ended just before.
 abbrev pub after : Maybe Sx → Step → Step
@@ -78,41 +78,41 @@ after (just x) stuck = stuck
 after (just x) (to ts m) = to (item x ∷ ts) m
 
 -- A byte in a run of symbol bytes, by whether it is one.
-abbrev pub inRun : Bool → List ℕ → ℕ → Step
-inRun true w b = to [] (run (w ++ (b ∷ [])))
-inRun false w b = after (runSx w) (begin (class_of b) b)
+abbrev pub in_run : Bool → List ℕ → ℕ → Step
+in_run true w b = to [] (run (w ++ (b ∷ [])))
+in_run false w b = after (run_sx w) (begin (class_of b) b)
 
 -- A byte between bars, by whether it is a bar and whether it may stand there.
-abbrev pub inBars : Bool → Bool → List ℕ → ℕ → Step
-inBars true q w b = to (item (symbol w) ∷ []) idle
-inBars false true w b = to [] (bars (w ++ (b ∷ [])))
-inBars false false w b = stuck
+abbrev pub in_bars : Bool → Bool → List ℕ → ℕ → Step
+in_bars true q w b = to (item (symbol w) ∷ []) idle
+in_bars false true w b = to [] (bars (w ++ (b ∷ [])))
+in_bars false false w b = stuck
 
 -- A byte of a string, by whether it is a quote and whether it may stand there.
-abbrev pub inQuotes : Bool → Bool → List ℕ → ℕ → Step
-inQuotes true q w b = to [] (closing w)
-inQuotes false true w b = to [] (quotes (w ++ (b ∷ [])))
-inQuotes false false w b = stuck
+abbrev pub in_quotes : Bool → Bool → List ℕ → ℕ → Step
+in_quotes true q w b = to [] (closing w)
+in_quotes false true w b = to [] (quotes (w ++ (b ∷ [])))
+in_quotes false false w b = stuck
 
 -- A byte behind a quote in a string, by whether it is another one.
-abbrev pub behindQuote : Bool → List ℕ → ℕ → Step
-behindQuote true w b = to [] (quotes (w ++ (34 ∷ [])))
-behindQuote false w b = after (just (string w)) (begin (class_of b) b)
+abbrev pub behind_quote : Bool → List ℕ → ℕ → Step
+behind_quote true w b = to [] (quotes (w ++ (34 ∷ [])))
+behind_quote false w b = after (just (string w)) (begin (class_of b) b)
 
 -- A byte, by what the bytes before stand in.
 unfoldable pub step : Mode → ℕ → Step
 step idle b = begin (class_of b) b
 step comment b = pick (eqb b 10 || eqb b 13) (to [] idle) (to [] comment)
-step (run w) b = inRun (symbolByte b) w b
-step (bars w) b = inBars (eqb b 124) (quotable b) w b
-step (quotes w) b = inQuotes (eqb b 34) (white b || printable b) w b
-step (closing w) b = behindQuote (eqb b 34) w b
+step (run w) b = in_run (symbol_byte b) w b
+step (bars w) b = in_bars (eqb b 124) (quotable b) w b
+step (quotes w) b = in_quotes (eqb b 34) (white b || printable b) w b
+step (closing w) b = behind_quote (eqb b 34) w b
 
 -- Behind the last byte.
 unfoldable pub ended : Mode → Maybe (List Token)
 ended idle = just []
 ended comment = just []
-ended (run w) = then (runSx w) λ x. just (item x ∷ [])
+ended (run w) = then (run_sx w) λ x. just (item x ∷ [])
 ended (bars w) = nothing
 ended (quotes w) = nothing
 ended (closing w) = just (item (string w) ∷ [])
@@ -128,9 +128,9 @@ stepped (to ts m) k = more ts (k m)
 stepped stuck k = nothing
 
 -- The tokens of bytes.
-unfoldable pub tokensIn : List ℕ → Mode → Maybe (List Token)
-tokensIn [] m = ended m
-tokensIn (b ∷ bs) m = stepped (step m b) (tokensIn bs)
+unfoldable pub tokens_in : List ℕ → Mode → Maybe (List Token)
+tokens_in [] m = ended m
+tokens_in (b ∷ bs) m = stepped (step m b) (tokens_in bs)
 
 -- One S-expression more.
 unfoldable pub snoc : Sxs → Sx → Sxs
@@ -147,5 +147,5 @@ build (closes ∷ ts) now (o ∷ os) = build ts (snoc o (list now)) os
 build (item x ∷ ts) now os = build ts (snoc now x) os
 
 -- The S-expressions that stand one behind the other in bytes.
-unfoldable pub readSxs : List ℕ → Maybe Sxs
-readSxs bytes = then (tokensIn bytes idle) λ ts. build ts xnil []
+unfoldable pub read_sxs : List ℕ → Maybe Sxs
+read_sxs bytes = then (tokens_in bytes idle) λ ts. build ts xnil []

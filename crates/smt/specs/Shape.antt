@@ -4,22 +4,22 @@
 use Rattle.std.specs.Prelude.{ℕ, Bool, true, false, List, [], ◌∷◌}
 use Rattle.reading.specs.Bytes.{bytes_at}
 use Rattle.reading.specs.Number.{value_of}
-use Rattle.grammar.specs.Sort.{Ctor, cSet, cMap, cData, Sort, Sorts, s_int, s_bool, sReal, sStr, sBitVec, sSize, sVar, sFunc, sAbs, sApp, snil, scons}
-use Rattle.grammar.specs.Expr.{relEq, Binder, Kind, kNum, kBool, kStr, kBitVec, kFresh, kNamed, kNeg, kBin, kIf, kAnd, kOr, kNot, kImp, kIff, kAtom, kLet, kTheory, kIsCtor, kExists, kLetFresh, Expr, Exprs, node, app, enil, econs, Solution}
-use Rattle.smt.specs.Meant.{MeantSort, intSort, realSort, boolSort, stringSort, bitsSort, arraySort, dataSort, unsaid, MeantSorts, onil, ocons, MeantVar, MeantKind, mNum, mBool, mStr, mBitVec, mFresh, mNamed, mNeg, mBin, mIf, mAnd, mOr, mNot, mImp, mAtom, mLet, mTheory, mIsCtor, mExists, mLetFresh, Meant, says, calls, Meants, mnil, mcons, MeantSolution}
+use Rattle.grammar.specs.Sort.{Ctor, c_set, c_map, c_data, Sort, Sorts, s_int, s_bool, s_real, s_str, s_bit_vec, s_size, s_var, s_func, s_abs, s_app, snil, scons}
+use Rattle.grammar.specs.Expr.{rel_eq, Binder, Kind, k_num, k_bool, k_str, k_bit_vec, k_fresh, k_named, k_neg, k_bin, k_if, k_and, k_or, k_not, k_imp, k_iff, k_atom, k_let, k_theory, k_is_ctor, k_exists, k_let_fresh, Expr, Exprs, node, app, enil, econs, Solution}
+use Rattle.smt.specs.Meant.{MeantSort, int_sort, real_sort, bool_sort, string_sort, bits_sort, array_sort, data_sort, unsaid, MeantSorts, onil, ocons, MeantVar, MeantKind, m_num, m_bool, m_str, m_bit_vec, m_fresh, m_named, m_neg, m_bin, m_if, m_and, m_or, m_not, m_imp, m_atom, m_let, m_theory, m_is_ctor, m_exists, m_let_fresh, Meant, says, calls, Meants, mnil, mcons, MeantSolution}
 
 -- No operand, by a constant; one, which stands alone; or more.
 abbrev pub joined : Bool → MeantKind → Meants → Meant
-joined unit k mnil = says (mBool unit) mnil
+joined unit k mnil = says (m_bool unit) mnil
 joined unit k (mcons e mnil) = e
 joined unit k (mcons e (mcons f fs)) = says k (mcons e (mcons f fs))
 
 -- An exists without variables is its body.
 abbrev pub bound : List MeantVar → Meants → Meant
-bound [] mnil = says (mExists []) mnil
+bound [] mnil = says (m_exists []) mnil
 bound [] (mcons e mnil) = e
-bound [] (mcons e (mcons f fs)) = says (mExists []) (mcons e (mcons f fs))
-bound (b ∷ bs) es = says (mExists (b ∷ bs)) es
+bound [] (mcons e (mcons f fs)) = says (m_exists []) (mcons e (mcons f fs))
+bound (b ∷ bs) es = says (m_exists (b ∷ bs)) es
 
 -- An application without arguments is its head.
 abbrev pub called : Meants → Meant → Meant
@@ -27,88 +27,88 @@ called mnil h = h
 called (mcons e es) h = calls (mcons e es) h
 
 -- A BitVec of a width.
-abbrev pub bitsShape : Sort → MeantSort
-bitsShape s_int = unsaid
-bitsShape s_bool = unsaid
-bitsShape sReal = unsaid
-bitsShape sStr = unsaid
-bitsShape (sBitVec s) = unsaid
-bitsShape (sSize width) = bitsSort width
-bitsShape (sVar i) = unsaid
-bitsShape (sFunc s t) = unsaid
-bitsShape (sAbs i s) = unsaid
-bitsShape (sApp c ss) = unsaid
+abbrev pub bits_shape : Sort → MeantSort
+bits_shape s_int = unsaid
+bits_shape s_bool = unsaid
+bits_shape s_real = unsaid
+bits_shape s_str = unsaid
+bits_shape (s_bit_vec s) = unsaid
+bits_shape (s_size width) = bits_sort width
+bits_shape (s_var i) = unsaid
+bits_shape (s_func s t) = unsaid
+bits_shape (s_abs i s) = unsaid
+bits_shape (s_app c ss) = unsaid
 
 -- A Map of two sorts.
-abbrev pub mapShape : MeantSorts → MeantSort
-mapShape onil = unsaid
-mapShape (ocons s onil) = unsaid
-mapShape (ocons s (ocons t onil)) = arraySort s t
-mapShape (ocons s (ocons t (ocons u us))) = unsaid
+abbrev pub map_shape : MeantSorts → MeantSort
+map_shape onil = unsaid
+map_shape (ocons s onil) = unsaid
+map_shape (ocons s (ocons t onil)) = array_sort s t
+map_shape (ocons s (ocons t (ocons u us))) = unsaid
 
 module _ (text : List ℕ) where
   -- A constructor with the shapes of its sorts.
-  abbrev pub ctorShape : Ctor → MeantSorts → MeantSort
-  ctorShape cSet ss = unsaid
-  ctorShape cMap ss = mapShape ss
-  ctorShape (cData s) ss = dataSort (bytes_at text s) ss
+  abbrev pub ctor_shape : Ctor → MeantSorts → MeantSort
+  ctor_shape c_set ss = unsaid
+  ctor_shape c_map ss = map_shape ss
+  ctor_shape (c_data s) ss = data_sort (bytes_at text s) ss
 
   -- Sorts that cannot be written are not said.
   unfoldable mutual
-    pub sortShape : Sort → MeantSort
-    sortShape s_int = intSort
-    sortShape s_bool = boolSort
-    sortShape sReal = realSort
-    sortShape sStr = stringSort
-    sortShape (sBitVec s) = bitsShape s
-    sortShape (sSize width) = unsaid
-    sortShape (sVar i) = unsaid
-    sortShape (sFunc s t) = unsaid
-    sortShape (sAbs i s) = unsaid
-    sortShape (sApp c ss) = ctorShape c (sortsShape ss)
+    pub sort_shape : Sort → MeantSort
+    sort_shape s_int = int_sort
+    sort_shape s_bool = bool_sort
+    sort_shape s_real = real_sort
+    sort_shape s_str = string_sort
+    sort_shape (s_bit_vec s) = bits_shape s
+    sort_shape (s_size width) = unsaid
+    sort_shape (s_var i) = unsaid
+    sort_shape (s_func s t) = unsaid
+    sort_shape (s_abs i s) = unsaid
+    sort_shape (s_app c ss) = ctor_shape c (sorts_shape ss)
 
-    pub sortsShape : Sorts → MeantSorts
-    sortsShape snil = onil
-    sortsShape (scons s ss) = ocons (sortShape s) (sortsShape ss)
+    pub sorts_shape : Sorts → MeantSorts
+    sorts_shape snil = onil
+    sorts_shape (scons s ss) = ocons (sort_shape s) (sorts_shape ss)
 
   -- Variables keep their numbers.
-  unfoldable pub varsShape : List Binder → List MeantVar
-  varsShape [] = []
-  varsShape (b ∷ bs) = record { var = b.var; sort = sortShape b.sort } ∷ varsShape bs
+  unfoldable pub vars_shape : List Binder → List MeantVar
+  vars_shape [] = []
+  vars_shape (b ∷ bs) = record { var = b.var; sort = sort_shape b.sort } ∷ vars_shape bs
 
   -- A kind with the shapes of its operands.
-  unfoldable pub nodeShape : Kind → Meants → Meant
-  nodeShape (kNum v) es = says (mNum (value_of v)) es
-  nodeShape (kBool b) es = says (mBool b) es
-  nodeShape (kStr s) es = says (mStr (bytes_at text s)) es
-  nodeShape (kBitVec v width) es = says (mBitVec (value_of v) width) es
-  nodeShape (kFresh k) es = says (mFresh k) es
-  nodeShape (kNamed x) es = says (mNamed (bytes_at text x.span)) es
-  nodeShape kNeg es = says mNeg es
-  nodeShape (kBin op) es = says (mBin op) es
-  nodeShape kIf es = says mIf es
-  nodeShape kAnd es = joined true mAnd es
-  nodeShape kOr es = joined false mOr es
-  nodeShape kNot es = says mNot es
-  nodeShape kImp es = says mImp es
-  nodeShape kIff es = says (mAtom relEq) es
-  nodeShape (kAtom r) es = says (mAtom r) es
-  nodeShape (kLet x) es = says (mLet (bytes_at text x.span)) es
-  nodeShape (kTheory k) es = says (mTheory k) es
-  nodeShape (kIsCtor x) es = says (mIsCtor (bytes_at text x.span)) es
-  nodeShape (kExists bs) es = bound (varsShape bs) es
-  nodeShape (kLetFresh k) es = says (mLetFresh k) es
+  unfoldable pub node_shape : Kind → Meants → Meant
+  node_shape (k_num v) es = says (m_num (value_of v)) es
+  node_shape (k_bool b) es = says (m_bool b) es
+  node_shape (k_str s) es = says (m_str (bytes_at text s)) es
+  node_shape (k_bit_vec v width) es = says (m_bit_vec (value_of v) width) es
+  node_shape (k_fresh k) es = says (m_fresh k) es
+  node_shape (k_named x) es = says (m_named (bytes_at text x.span)) es
+  node_shape k_neg es = says m_neg es
+  node_shape (k_bin op) es = says (m_bin op) es
+  node_shape k_if es = says m_if es
+  node_shape k_and es = joined true m_and es
+  node_shape k_or es = joined false m_or es
+  node_shape k_not es = says m_not es
+  node_shape k_imp es = says m_imp es
+  node_shape k_iff es = says (m_atom rel_eq) es
+  node_shape (k_atom r) es = says (m_atom r) es
+  node_shape (k_let x) es = says (m_let (bytes_at text x.span)) es
+  node_shape (k_theory k) es = says (m_theory k) es
+  node_shape (k_is_ctor x) es = says (m_is_ctor (bytes_at text x.span)) es
+  node_shape (k_exists bs) es = bound (vars_shape bs) es
+  node_shape (k_let_fresh k) es = says (m_let_fresh k) es
 
   -- An output sort is skipped.
   unfoldable mutual
-    pub exprShape : Expr → Meant
-    exprShape (node k es) = nodeShape k (exprsShape es)
-    exprShape (app o es h) = called (exprsShape es) (exprShape h)
+    pub expr_shape : Expr → Meant
+    expr_shape (node k es) = node_shape k (exprs_shape es)
+    expr_shape (app o es h) = called (exprs_shape es) (expr_shape h)
 
-    pub exprsShape : Exprs → Meants
-    exprsShape enil = mnil
-    exprsShape (econs e es) = mcons (exprShape e) (exprsShape es)
+    pub exprs_shape : Exprs → Meants
+    exprs_shape enil = mnil
+    exprs_shape (econs e es) = mcons (expr_shape e) (exprs_shape es)
 
   -- Parameters and body.
   unfoldable pub shape : Solution → MeantSolution
-  shape s = record { params = varsShape s.params; body = exprShape s.body }
+  shape s = record { params = vars_shape s.params; body = expr_shape s.body }

@@ -5,8 +5,8 @@ use Rattle.smt.specs.Sexp.{Sx, symbol, string, reserved, numeral, list, Sxs, xni
 
 -- An index is a numeral or a symbol.
 pub data Index : Type 0 where
-  byNumber : ℕ → Index
-  bySymbol : List ℕ → Index
+  by_number : ℕ → Index
+  by_symbol : List ℕ → Index
 
 -- An identifier: a symbol, or (_ symbol index ..).
 pub record Ident : Type 0 where
@@ -14,8 +14,8 @@ pub record Ident : Type 0 where
   pub indices : List Index
 
 -- A symbol by itself.
-abbrev pub plainIdent : List ℕ → Ident
-plainIdent s = record { name = s; indices = [] }
+abbrev pub plain_ident : List ℕ → Ident
+plain_ident s = record { name = s; indices = [] }
 
 -- An identifier, and the sorts that it is applied to.
 mutual
@@ -55,68 +55,68 @@ terms tnil = 0
 terms (tcons t ts) = suc (terms ts)
 
 -- Lists of two and of three.
-abbrev pub pairSx : Sx → Sx → Sx
-pairSx x y = list (xcons x (xcons y xnil))
+abbrev pub pair_sx : Sx → Sx → Sx
+pair_sx x y = list (xcons x (xcons y xnil))
 
-abbrev pub tripleSx : Sx → Sx → Sx → Sx
-tripleSx x y z = list (xcons x (xcons y (xcons z xnil)))
+abbrev pub triple_sx : Sx → Sx → Sx → Sx
+triple_sx x y z = list (xcons x (xcons y (xcons z xnil)))
 
 -- The S-expression of an index.
-abbrev pub indexSx : Index → Sx
-indexSx (byNumber n) = numeral n
-indexSx (bySymbol s) = symbol s
+abbrev pub index_sx : Index → Sx
+index_sx (by_number n) = numeral n
+index_sx (by_symbol s) = symbol s
 
-abbrev pub indexSxs : List Index → Sxs
-indexSxs [] = xnil
-indexSxs (i ∷ is) = xcons (indexSx i) (indexSxs is)
+abbrev pub index_sxs : List Index → Sxs
+index_sxs [] = xnil
+index_sxs (i ∷ is) = xcons (index_sx i) (index_sxs is)
 
 -- A symbol, or one with indices behind `_`.
-abbrev pub indexedSx : List ℕ → List Index → Sx
-indexedSx s [] = symbol s
-indexedSx s (i ∷ is) = list (xcons (reserved (ascii "_")) (xcons (symbol s) (xcons (indexSx i) (indexSxs is))))
+abbrev pub indexed_sx : List ℕ → List Index → Sx
+indexed_sx s [] = symbol s
+indexed_sx s (i ∷ is) = list (xcons (reserved (ascii "_")) (xcons (symbol s) (xcons (index_sx i) (index_sxs is))))
 
-abbrev pub identSx : Ident → Sx
-identSx i = indexedSx i.name i.indices
+abbrev pub ident_sx : Ident → Sx
+ident_sx i = indexed_sx i.name i.indices
 
 -- A sort's name by itself, or in front of its sorts.
-abbrev pub parametricSx : Sx → Sxs → Sx
-parametricSx x xnil = x
-parametricSx x (xcons y ys) = list (xcons x (xcons y ys))
+abbrev pub parametric_sx : Sx → Sxs → Sx
+parametric_sx x xnil = x
+parametric_sx x (xcons y ys) = list (xcons x (xcons y ys))
 
 -- The S-expression of a sort.
 unfoldable mutual
-  pub sortSx : SmtSort → Sx
-  sortSx (srt i ss) = parametricSx (identSx i) (sortSxs ss)
+  pub sort_sx : SmtSort → Sx
+  sort_sx (srt i ss) = parametric_sx (ident_sx i) (sort_sxs ss)
 
-  pub sortSxs : SmtSorts → Sxs
-  sortSxs rnil = xnil
-  sortSxs (rcons s ss) = xcons (sortSx s) (sortSxs ss)
+  pub sort_sxs : SmtSorts → Sxs
+  sort_sxs rnil = xnil
+  sort_sxs (rcons s ss) = xcons (sort_sx s) (sort_sxs ss)
 
 -- A sorted variable is a list of its symbol and its sort.
-unfoldable pub varSx : Var → Sx
-varSx v = pairSx (symbol v.name) (sortSx v.sort)
+unfoldable pub var_sx : Var → Sx
+var_sx v = pair_sx (symbol v.name) (sort_sx v.sort)
 
-unfoldable pub varSxs : List Var → Sxs
-varSxs [] = xnil
-varSxs (v ∷ vs) = xcons (varSx v) (varSxs vs)
+unfoldable pub var_sxs : List Var → Sxs
+var_sxs [] = xnil
+var_sxs (v ∷ vs) = xcons (var_sx v) (var_sxs vs)
 
 -- The S-expression of a term.
 unfoldable mutual
-  pub termSx : Term → Sx
-  termSx (tnum n) = numeral n
-  termSx (tstr s) = string s
-  termSx (tid i) = identSx i
-  termSx (tapp i t ts) = list (xcons (identSx i) (xcons (termSx t) (termSxs ts)))
-  termSx (tlet s t bs b) = tripleSx (reserved (ascii "let")) (list (xcons (pairSx (symbol s) (termSx t)) (bindingSxs bs))) (termSx b)
-  termSx (texists v vs b) = tripleSx (reserved (ascii "exists")) (list (xcons (varSx v) (varSxs vs))) (termSx b)
+  pub term_sx : Term → Sx
+  term_sx (tnum n) = numeral n
+  term_sx (tstr s) = string s
+  term_sx (tid i) = ident_sx i
+  term_sx (tapp i t ts) = list (xcons (ident_sx i) (xcons (term_sx t) (term_sxs ts)))
+  term_sx (tlet s t bs b) = triple_sx (reserved (ascii "let")) (list (xcons (pair_sx (symbol s) (term_sx t)) (binding_sxs bs))) (term_sx b)
+  term_sx (texists v vs b) = triple_sx (reserved (ascii "exists")) (list (xcons (var_sx v) (var_sxs vs))) (term_sx b)
 
-  pub termSxs : Terms → Sxs
-  termSxs tnil = xnil
-  termSxs (tcons t ts) = xcons (termSx t) (termSxs ts)
+  pub term_sxs : Terms → Sxs
+  term_sxs tnil = xnil
+  term_sxs (tcons t ts) = xcons (term_sx t) (term_sxs ts)
 
-  pub bindingSxs : Bindings → Sxs
-  bindingSxs bnil = xnil
-  bindingSxs (bcons s t bs) = xcons (pairSx (symbol s) (termSx t)) (bindingSxs bs)
+  pub binding_sxs : Bindings → Sxs
+  binding_sxs bnil = xnil
+  binding_sxs (bcons s t bs) = xcons (pair_sx (symbol s) (term_sx t)) (binding_sxs bs)
 
 -- A list of sorted variables and a term.
 pub record Closed : Type 0 where
@@ -124,5 +124,5 @@ pub record Closed : Type 0 where
   pub term : Term
 
 -- The list, one space, the term.
-unfoldable pub closedBytes : Closed → List ℕ
-closedBytes c = print (list (varSxs c.vars)) ++ (32 ∷ print (termSx c.term))
+unfoldable pub closed_bytes : Closed → List ℕ
+closed_bytes c = print (list (var_sxs c.vars)) ++ (32 ∷ print (term_sx c.term))

@@ -6,14 +6,14 @@ use types.Run.{miss}
 use Rattle.reading.specs.Answer.{bad, unwritable}
 use Rattle.nodes.specs.declared.kind.Node.{Node}
 use Rattle.nodes.specs.declared.kind.Node.TheVariants as told
-use Rattle.smtfronts.specs.Fronts.{calleeText}
+use Rattle.smtfronts.specs.Fronts.{callee_text}
 use Rattle.smtseams.proofs.Rest.{Among}
 
 -- Every kind but variables and theory functions.
 abbrev callee-left : List ℕ
 callee-left = 0 ∷ 1 ∷ 2 ∷ 3 ∷ 6 ∷ 7 ∷ 8 ∷ 9 ∷ 10 ∷ 11 ∷ 12 ∷ 13 ∷ 14 ∷ 15 ∷ 17 ∷ 18 ∷ 19 ∷ 20 ∷ []
 
-pub rest-callee : (text : List ℕ) (node : Node) → Among callee-left node → bad unwritable ≡ calleeText text node
+pub rest-callee : (text : List ℕ) (node : Node) → Among callee-left node → bad unwritable ≡ callee_text text node
 rest-callee text (told.Num a b c d) h = refl
 rest-callee text (told.Bool b) h = refl
 rest-callee text (told.Str start len) h = refl

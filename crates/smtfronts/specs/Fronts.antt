@@ -8,78 +8,78 @@ use Rattle.grammar.specs.Expr.{Binder, Kind}
 use Rattle.nodes.specs.declared.kind.Node.{Node}
 use Rattle.nodes.specs.declared.kind.Node.TheVariants as told
 use Rattle.writing.specs.Digits.{decimal}
-use Rattle.smt.specs.Sexp.{symbolText, list, print}
-use Rattle.smt.specs.Term.{identSx, varSxs, termSx}
+use Rattle.smt.specs.Sexp.{symbol_text, list, print}
+use Rattle.smt.specs.Term.{ident_sx, var_sxs, term_sx}
 use Rattle.smt.specs.Vocabulary.{operators, relations}
-use Rattle.smt.specs.Writer.{spelledAt, fitsWidth, Form, alone, operator, folded, letting, some, fields_of}
-use Rattle.smtoperators.specs.Operators.{operatorText}
-use Rattle.smtbools.specs.Bools.{foldedText, boolText}
-use Rattle.smtfunctions.specs.Functions.{functionText}
-use Rattle.smtnames.specs.Pieces.{joined, nameText, freshText, stringText, varsText}
+use Rattle.smt.specs.Writer.{spelled_at, fits_width, Form, alone, operator, folded, letting, some, fields_of}
+use Rattle.smtoperators.specs.Operators.{operator_text}
+use Rattle.smtbools.specs.Bools.{folded_text, bool_text}
+use Rattle.smtfunctions.specs.Functions.{function_text}
+use Rattle.smtnames.specs.Pieces.{joined, name_text, fresh_text, string_text, vars_text}
 
 -- In front of so many operands.
-unfoldable pub frontOf : Form → ℕ → List ℕ
-frontOf (alone t) n = print (termSx t)
-frontOf (operator i k) n = operatorText (print (identSx i))
-frontOf (folded unit i) zero = print (identSx unit)
-frontOf (folded unit i) (suc zero) = []
-frontOf (folded unit i) (suc (suc n)) = operatorText (print (identSx i))
-frontOf (letting x) n = ascii "(let ((" ++ (symbolText x ++ (32 ∷ []))
-frontOf (some []) n = []
-frontOf (some (v ∷ vs)) n = ascii "(exists " ++ (print (list (varSxs (v ∷ vs))) ++ (32 ∷ []))
+unfoldable pub front_of : Form → ℕ → List ℕ
+front_of (alone t) n = print (term_sx t)
+front_of (operator i k) n = operator_text (print (ident_sx i))
+front_of (folded unit i) zero = print (ident_sx unit)
+front_of (folded unit i) (suc zero) = []
+front_of (folded unit i) (suc (suc n)) = operator_text (print (ident_sx i))
+front_of (letting x) n = ascii "(let ((" ++ (symbol_text x ++ (32 ∷ []))
+front_of (some []) n = []
+front_of (some (v ∷ vs)) n = ascii "(exists " ++ (print (list (var_sxs (v ∷ vs))) ++ (32 ∷ []))
 
 -- Between two operands there are other bytes in a let.
-unfoldable pub formLets : Form → Bool
-formLets (alone t) = false
-formLets (operator i k) = false
-formLets (folded unit i) = false
-formLets (letting x) = true
-formLets (some vs) = false
+unfoldable pub form_lets : Form → Bool
+form_lets (alone t) = false
+form_lets (operator i k) = false
+form_lets (folded unit i) = false
+form_lets (letting x) = true
+form_lets (some vs) = false
 
 -- A parenthesis stands behind the operands.
-unfoldable pub formCloses : Form → ℕ → Bool
-formCloses (alone t) n = false
-formCloses (operator i k) n = true
-formCloses (folded unit i) n = leb 2 n
-formCloses (letting x) n = true
-formCloses (some []) n = false
-formCloses (some (v ∷ vs)) n = true
+unfoldable pub form_closes : Form → ℕ → Bool
+form_closes (alone t) n = false
+form_closes (operator i k) n = true
+form_closes (folded unit i) n = leb 2 n
+form_closes (letting x) n = true
+form_closes (some []) n = false
+form_closes (some (v ∷ vs)) n = true
 
 -- In front of the operands of a kind.
-unfoldable pub frontText : List ℕ → Kind → ℕ → Ans (List ℕ)
-frontText text k n = and_then (fields_of text k) λ f. got (frontOf f n)
+unfoldable pub front_text : List ℕ → Kind → ℕ → Ans (List ℕ)
+front_text text k n = and_then (fields_of text k) λ f. got (front_of f n)
 
 -- A value of a width.
-unfoldable pub bitsText : Wide → ℕ → Ans (List ℕ)
-bitsText v width = pick (fitsWidth v width) (got (ascii "(_ bv" ++ (decimal (value_of v) ++ (32 ∷ decimal width ++ (41 ∷ []))))) (bad unwritable)
+unfoldable pub bits_text : Wide → ℕ → Ans (List ℕ)
+bits_text v width = pick (fits_width v width) (got (ascii "(_ bv" ++ (decimal (value_of v) ++ (32 ∷ decimal width ++ (41 ∷ []))))) (bad unwritable)
 
 -- A let of a fresh variable, up to its value.
-unfoldable pub letFreshText : ℕ → List ℕ
-letFreshText k = ascii "(let ((" ++ (freshText k ++ (32 ∷ []))
+unfoldable pub let_fresh_text : ℕ → List ℕ
+let_fresh_text k = ascii "(let ((" ++ (fresh_text k ++ (32 ∷ []))
 
 -- In front of the operands by what the code is told of a kind; the binders of an exists are not told.
-abbrev pub nodeText : List ℕ → Node → ℕ → Ans (List ℕ)
-nodeText text (told.Num a b c d) n = got (decimal (value_of (record { a = a; b = b; c = c; d = d })))
-nodeText text (told.Bool b) n = got (boolText b)
-nodeText text (told.Str start len) n = stringText text (record { start = start; len = len })
-nodeText text (told.BitVec a b c d width) n = bitsText (record { a = a; b = b; c = c; d = d }) width
-nodeText text (told.Fresh k) n = got (freshText k)
-nodeText text (told.Named start len) n = nameText text 110 (record { start = start; len = len })
-nodeText text told.Neg n = got (ascii "(- ")
-nodeText text (told.Bin op) n = got (operatorText (spelledAt operators op))
-nodeText text told.If n = got (ascii "(ite ")
-nodeText text told.And n = got (foldedText (ascii "true") (ascii "and") n)
-nodeText text told.Or n = got (foldedText (ascii "false") (ascii "or") n)
-nodeText text told.Not n = got (ascii "(not ")
-nodeText text told.Imp n = got (ascii "(=> ")
-nodeText text told.Iff n = got (ascii "(= ")
-nodeText text (told.Atom r) n = got (operatorText (spelledAt relations r))
-nodeText text (told.Let start len) n = joined (got (ascii "(let ((")) (joined (nameText text 110 (record { start = start; len = len })) (got (ascii " ")))
-nodeText text (told.Theory k) n = bad unwritable
-nodeText text (told.IsCtor start len) n = joined (got (ascii "((_ is ")) (joined (nameText text 110 (record { start = start; len = len })) (got (ascii ") ")))
-nodeText text (told.Exists m) n = bad unwritable
-nodeText text (told.LetFresh k) n = got (letFreshText k)
-nodeText text told.Other n = bad unwritable
+abbrev pub node_text : List ℕ → Node → ℕ → Ans (List ℕ)
+node_text text (told.Num a b c d) n = got (decimal (value_of (record { a = a; b = b; c = c; d = d })))
+node_text text (told.Bool b) n = got (bool_text b)
+node_text text (told.Str start len) n = string_text text (record { start = start; len = len })
+node_text text (told.BitVec a b c d width) n = bits_text (record { a = a; b = b; c = c; d = d }) width
+node_text text (told.Fresh k) n = got (fresh_text k)
+node_text text (told.Named start len) n = name_text text 110 (record { start = start; len = len })
+node_text text told.Neg n = got (ascii "(- ")
+node_text text (told.Bin op) n = got (operator_text (spelled_at operators op))
+node_text text told.If n = got (ascii "(ite ")
+node_text text told.And n = got (folded_text (ascii "true") (ascii "and") n)
+node_text text told.Or n = got (folded_text (ascii "false") (ascii "or") n)
+node_text text told.Not n = got (ascii "(not ")
+node_text text told.Imp n = got (ascii "(=> ")
+node_text text told.Iff n = got (ascii "(= ")
+node_text text (told.Atom r) n = got (operator_text (spelled_at relations r))
+node_text text (told.Let start len) n = joined (got (ascii "(let ((")) (joined (name_text text 110 (record { start = start; len = len })) (got (ascii " ")))
+node_text text (told.Theory k) n = bad unwritable
+node_text text (told.IsCtor start len) n = joined (got (ascii "((_ is ")) (joined (name_text text 110 (record { start = start; len = len })) (got (ascii ") ")))
+node_text text (told.Exists m) n = bad unwritable
+node_text text (told.LetFresh k) n = got (let_fresh_text k)
+node_text text told.Other n = bad unwritable
 
 -- Operators and relations have numbers in their tables.
 abbrev pub Numbered : Node → Type 0
@@ -106,30 +106,30 @@ Numbered (told.LetFresh k) = Unit {0}
 Numbered told.Other = Unit {0}
 
 -- An exists up to its body; without variables it is its body.
-unfoldable pub existsText : List ℕ → List Binder → Ans (List ℕ)
-existsText text [] = got []
-existsText text (b ∷ bs) = joined (got (ascii "(exists ")) (joined (varsText text (b ∷ bs)) (got (ascii " ")))
+unfoldable pub exists_text : List ℕ → List Binder → Ans (List ℕ)
+exists_text text [] = got []
+exists_text text (b ∷ bs) = joined (got (ascii "(exists ")) (joined (vars_text text (b ∷ bs)) (got (ascii " ")))
 
 -- The head of an application with arguments, behind a parenthesis and before a space.
-abbrev pub calleeText : List ℕ → Node → Ans (List ℕ)
-calleeText text (told.Num a b c d) = bad unwritable
-calleeText text (told.Bool b) = bad unwritable
-calleeText text (told.Str start len) = bad unwritable
-calleeText text (told.BitVec a b c d width) = bad unwritable
-calleeText text (told.Fresh k) = got (freshText k)
-calleeText text (told.Named start len) = nameText text 110 (record { start = start; len = len })
-calleeText text told.Neg = bad unwritable
-calleeText text (told.Bin op) = bad unwritable
-calleeText text told.If = bad unwritable
-calleeText text told.And = bad unwritable
-calleeText text told.Or = bad unwritable
-calleeText text told.Not = bad unwritable
-calleeText text told.Imp = bad unwritable
-calleeText text told.Iff = bad unwritable
-calleeText text (told.Atom r) = bad unwritable
-calleeText text (told.Let start len) = bad unwritable
-calleeText text (told.Theory k) = functionText k
-calleeText text (told.IsCtor start len) = bad unwritable
-calleeText text (told.Exists m) = bad unwritable
-calleeText text (told.LetFresh k) = bad unwritable
-calleeText text told.Other = bad unwritable
+abbrev pub callee_text : List ℕ → Node → Ans (List ℕ)
+callee_text text (told.Num a b c d) = bad unwritable
+callee_text text (told.Bool b) = bad unwritable
+callee_text text (told.Str start len) = bad unwritable
+callee_text text (told.BitVec a b c d width) = bad unwritable
+callee_text text (told.Fresh k) = got (fresh_text k)
+callee_text text (told.Named start len) = name_text text 110 (record { start = start; len = len })
+callee_text text told.Neg = bad unwritable
+callee_text text (told.Bin op) = bad unwritable
+callee_text text told.If = bad unwritable
+callee_text text told.And = bad unwritable
+callee_text text told.Or = bad unwritable
+callee_text text told.Not = bad unwritable
+callee_text text told.Imp = bad unwritable
+callee_text text told.Iff = bad unwritable
+callee_text text (told.Atom r) = bad unwritable
+callee_text text (told.Let start len) = bad unwritable
+callee_text text (told.Theory k) = function_text k
+callee_text text (told.IsCtor start len) = bad unwritable
+callee_text text (told.Exists m) = bad unwritable
+callee_text text (told.LetFresh k) = bad unwritable
+callee_text text told.Other = bad unwritable

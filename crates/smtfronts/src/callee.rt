@@ -2,7 +2,7 @@
 ghost use Rattle.std.specs.Prelude.{[], ◌∷◌};
 ghost use Rattle.reading.specs.Answer.{got};
 ghost use Rattle.smtnames.specs.Pieces.{joined};
-ghost use Rattle.smtfronts.specs.Fronts.{calleeText};
+ghost use Rattle.smtfronts.specs.Fronts.{callee_text};
 ghost use Rattle.smtnames.specs.Written.{TellsPiece};
 
 use nodes::kind::Node;
@@ -13,7 +13,7 @@ use writing::byte;
 
 // A head by what is told of it.
 fn named(node: Node, text: &[u8], out: &mut [u8], place: usize) -> Written
-    ensures { TellsPiece (calleeText text.now node) out.old place out.new result }
+    ensures { TellsPiece (callee_text text.now node) out.old place out.new result }
 {
     match node {
         Node::Fresh(k) => Written::To(fresh(k, out, place)),
@@ -25,7 +25,7 @@ fn named(node: Node, text: &[u8], out: &mut [u8], place: usize) -> Written
 
 // A head behind a parenthesis and before a space.
 pub fn callee(node: Node, text: &[u8], out: &mut [u8], place: usize) -> Written
-    ensures { TellsPiece (joined (got (40 ∷ [])) (joined (calleeText text.now node) (got (32 ∷ [])))) out.old place out.new result }
+    ensures { TellsPiece (joined (got (40 ∷ [])) (joined (callee_text text.now node) (got (32 ∷ [])))) out.old place out.new result }
 {
     let a = byte(out, place, 40);
     match named(node, text, out, a) {

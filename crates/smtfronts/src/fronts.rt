@@ -1,12 +1,12 @@
 // What stands in front of the operands of an expression.
 ghost use Rattle.std.specs.Prelude.{◌≡◌, List, ℕ};
 ghost use Rattle.grammar.specs.Expr.{Binder, Kind};
-ghost use Rattle.judging.specs.Judge.{reads, operandsOf, bindersAt, header};
+ghost use Rattle.judging.specs.Judge.{reads, operands_of, binders_at, header};
 ghost use Rattle.nodes.specs.Node.{node_of};
 ghost use Rattle.nodes.specs.declared.kind.Node.TheVariants as told;
 ghost use Rattle.writing.specs.Quads.{as_wide};
 ghost use Rattle.writing.specs.Wrote.{WroteBytes};
-ghost use Rattle.smtfronts.specs.Fronts.{frontText, bitsText, existsText, letFreshText, Numbered, nodeText};
+ghost use Rattle.smtfronts.specs.Fronts.{front_text, bits_text, exists_text, let_fresh_text, Numbered, node_text};
 ghost use Rattle.smtnames.specs.Written.{TellsPiece};
 
 use nodes::kind::Node;
@@ -20,7 +20,7 @@ use writing::{Quad, byte, bytes, decimal, decimal_word};
 
 // A let of a name, up to its value.
 fn let_front(text: &[u8], start: u32, len: u32, out: &mut [u8], place: usize) -> Written
-    ensures { TellsPiece (nodeText text.now (told.Let start len) 2) out.old place out.new result }
+    ensures { TellsPiece (node_text text.now (told.Let start len) 2) out.old place out.new result }
 {
     let a = bytes(b"(let ((", out, place);
     match name(110, text, start, len, out, a) {
@@ -31,7 +31,7 @@ fn let_front(text: &[u8], start: u32, len: u32, out: &mut [u8], place: usize) ->
 
 // A let of a fresh variable, up to its value.
 fn fresh_let_front(k: u64, out: &mut [u8], place: usize) -> usize
-    ensures { WroteBytes out.old place (letFreshText k) out.new result }
+    ensures { WroteBytes out.old place (let_fresh_text k) out.new result }
 {
     let a = bytes(b"(let ((", out, place);
     let b = fresh(k, out, a);
@@ -40,7 +40,7 @@ fn fresh_let_front(k: u64, out: &mut [u8], place: usize) -> usize
 
 // A constructor test, up to its operand.
 fn test_front(text: &[u8], start: u32, len: u32, out: &mut [u8], place: usize) -> Written
-    ensures { TellsPiece (nodeText text.now (told.IsCtor start len) 1) out.old place out.new result }
+    ensures { TellsPiece (node_text text.now (told.IsCtor start len) 1) out.old place out.new result }
 {
     let a = bytes(b"((_ is ", out, place);
     match name(110, text, start, len, out, a) {
@@ -51,7 +51,7 @@ fn test_front(text: &[u8], start: u32, len: u32, out: &mut [u8], place: usize) -
 
 // A value of a width.
 fn bits(q: Quad, width: u32, out: &mut [u8], place: usize) -> Written
-    ensures { TellsPiece (bitsText (as_wide q) width) out.old place out.new result }
+    ensures { TellsPiece (bits_text (as_wide q) width) out.old place out.new result }
 {
     if !fits(q, width) {
         return Written::No(15);
@@ -65,7 +65,7 @@ fn bits(q: Quad, width: u32, out: &mut [u8], place: usize) -> Written
 
 // In front of so many operands, of every kind but an exists.
 fn plain_front(node: Node, n: u32, text: &[u8], out: &mut [u8], place: usize) -> Written
-    ensures { Numbered node → TellsPiece (nodeText text.now node n) out.old place out.new result }
+    ensures { Numbered node → TellsPiece (node_text text.now node n) out.old place out.new result }
 {
     match node {
         Node::Num(a, b, c, d) => {
@@ -117,7 +117,7 @@ fn exists_front(
     out: &mut [u8],
     place: usize,
 ) -> Written
-    ensures { (limit : ℕ) (bs : List Binder) (m : ℕ) → bindersAt limit n words.now at ≡ reads bs m → TellsPiece (existsText text.now bs) out.old place out.new result }
+    ensures { (limit : ℕ) (bs : List Binder) (m : ℕ) → binders_at limit n words.now at ≡ reads bs m → TellsPiece (exists_text text.now bs) out.old place out.new result }
 {
     if n == 0 {
         return Written::To(place);
@@ -139,7 +139,7 @@ pub fn front(
     out: &mut [u8],
     place: usize,
 ) -> Written
-    ensures { (limit : ℕ) (k : Kind) (a : ℕ) → header limit words.now at ≡ reads (operandsOf k n) a → node ≡ node_of k → TellsPiece (frontText text.now k n) out.old place out.new result }
+    ensures { (limit : ℕ) (k : Kind) (a : ℕ) → header limit words.now at ≡ reads (operands_of k n) a → node ≡ node_of k → TellsPiece (front_text text.now k n) out.old place out.new result }
 {
     match node {
         Node::Exists(m) => {

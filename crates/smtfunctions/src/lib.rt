@@ -1,6 +1,6 @@
 // The bit-vector functions of SMT-LIB by their numbers.
 ghost use Rattle.std.specs.Prelude.{◌≤◌, ◌<◌};
-ghost use Rattle.smtfunctions.specs.Functions.{functionText};
+ghost use Rattle.smtfunctions.specs.Functions.{function_text};
 ghost use Rattle.smtnames.specs.Written.{TellsPiece};
 
 use smtnames::answers::Written;
@@ -8,7 +8,7 @@ use writing::bytes;
 
 // A theory function by its number: the bit-vector functions, from 9 to 31, have names.
 pub fn function(k: u32, out: &mut [u8], place: usize) -> Written
-    ensures { TellsPiece (functionText k) out.old place out.new result }
+    ensures { TellsPiece (function_text k) out.old place out.new result }
 {
     if k < 17 {
         return comparison(k, out, place);
@@ -22,7 +22,7 @@ pub fn function(k: u32, out: &mut [u8], place: usize) -> Written
 // The comparisons; the functions before them have no name.
 fn comparison(k: u32, out: &mut [u8], place: usize) -> Written
     requires { k < 17 }
-    ensures { TellsPiece (functionText k) out.old place out.new result }
+    ensures { TellsPiece (function_text k) out.old place out.new result }
 {
     match k {
         9 => Written::To(bytes(b"bvule", out, place)),
@@ -41,7 +41,7 @@ fn comparison(k: u32, out: &mut [u8], place: usize) -> Written
 fn division(k: u32, out: &mut [u8], place: usize) -> Written
     requires le_k { 17 ≤ k }
     requires k_bound { k < 23 }
-    ensures { TellsPiece (functionText k) out.old place out.new result }
+    ensures { TellsPiece (function_text k) out.old place out.new result }
 {
     match k {
         17 => Written::To(bytes(b"bvudiv", out, place)),
@@ -56,7 +56,7 @@ fn division(k: u32, out: &mut [u8], place: usize) -> Written
 // Bitwise functions, arithmetic and the shift to the left; the functions behind them have no name.
 fn arithmetic(k: u32, out: &mut [u8], place: usize) -> Written
     requires { 23 ≤ k }
-    ensures { TellsPiece (functionText k) out.old place out.new result }
+    ensures { TellsPiece (function_text k) out.old place out.new result }
 {
     match k {
         23 => Written::To(bytes(b"bvand", out, place)),

@@ -9,24 +9,24 @@ use lib.ListN.{length, set, get_or, length-set}
 use lib.Seq.{get_or-set_same, get_or-set_other}
 use borrow.Author.Tests.{eqb-true, eqb-false}
 use Rattle.reading.specs.Pick.{pick}
-use Rattle.reading.proofs.Picks.{pick-eq, pick-ne, pick-lt, pick-ge}
+use Rattle.reading.proofs.Picks.{pick_eq, pick_ne, pick_lt, pick_ge}
 use Rattle.grammar.specs.Numbers.{hit}
 use Rattle.smtlevels.specs.Open.{total, ending, settled}
 use Rattle.smtlevels.specs.Levels.{Within, Known, standing, below, half}
 use Rattle.smtlevels.proofs.Open.{hit-yes, hit-no, ending-none, past-total}
 
 -- What holds whether a test for equal numbers tells the one or the other.
-by-test : (a b x y : ℕ) (P : ℕ → Type 0) → (a ≡ b → P x) → ((a ≡ b → ⊥) → P y) → P (pick (eqb a b) x y)
+by_test : (a b x y : ℕ) (P : ℕ → Type 0) → (a ≡ b → P x) → ((a ≡ b → ⊥) → P y) → P (pick (eqb a b) x y)
 unfolding pick
-by-test a b x y P h k = go (eqb a b) refl
+by_test a b x y P h k = go (eqb a b) refl
   where
     go : (t : Bool) → eqb a b ≡ t → P (pick t x y)
     go true e = h (eqb-true a b e)
     go false e = k (eqb-false a b e)
 
 -- The same by other names.
-pub within-as : {bases bases' : List ℕ} {known known' : ℕ} → bases' ≡ bases → known' ≡ known → Within bases known → Within bases' known'
-within-as e f h = rw (e, f) h
+pub within_as : {bases bases' : List ℕ} {known known' : ℕ} → bases' ≡ bases → known' ≡ known → Within bases known → Within bases' known'
+within_as e f h = rw (e, f) h
 
 -- What is known does not hang on the innermost list's own sorts, nor on what stands behind it in the array.
 pub known_as : (bases : List ℕ) (k c d : ℕ) (cs : List ℕ) → Known bases k (c ∷ cs) → Known bases k (d ∷ cs)
@@ -80,9 +80,9 @@ unfolding standing total settled
 standing-known bases left zero cs e o = tt
 standing-known bases left (suc k) [] e o = absurd o
 standing-known bases left (suc k) (zero ∷ cs) e o =
-    by-test (get_or bases k 0) left (standing bases left k) (suc k) (λ n. Known bases n (settled cs)) (λ f. standing-known bases left k cs (omega (arith, e)) o.1) (λ f. absurd (f (omega (arith, e, o.0))))
+    by_test (get_or bases k 0) left (standing bases left k) (suc k) (λ n. Known bases n (settled cs)) (λ f. standing-known bases left k cs (omega (arith, e)) o.1) (λ f. absurd (f (omega (arith, e, o.0))))
 standing-known bases left (suc k) (suc c ∷ cs) e o =
-    by-test (get_or bases k 0) left (standing bases left k) (suc k) (λ n. Known bases n (suc c ∷ cs)) (λ f. absurd (omega (arith, e, f, o.0))) (λ f. o)
+    by_test (get_or bases k 0) left (standing bases left k) (suc k) (λ n. Known bases n (suc c ∷ cs)) (λ f. absurd (omega (arith, e, f, o.0))) (λ f. o)
 
 -- The others have ended, and they are all that have if any stands.
 standing-ends : (bases : List ℕ) (left k : ℕ) (cs : List ℕ) → left ≡ total cs → Known bases k cs → 0 < standing bases left k → standing bases left k + ending left cs ≡ k
@@ -90,7 +90,7 @@ unfolding standing total ending
 standing-ends bases left zero cs e o h = absurd (omega (arith, h))
 standing-ends bases left (suc k) [] e o h = absurd o
 standing-ends bases left (suc k) (c ∷ cs) e o h =
-    by-test (get_or bases k 0) left (standing bases left k) (suc k) (λ n. 0 < n → n + (hit left (total cs) + ending left cs) ≡ suc k)
+    by_test (get_or bases k 0) left (standing bases left k) (suc k) (λ n. 0 < n → n + (hit left (total cs) + ending left cs) ≡ suc k)
     (λ f i. omega (arith, standing-ends bases left k cs (sym f ∙ o.0) o.1 i, hit-yes left (total cs) (sym f ∙ o.0)))
     (λ f i.
     let t : total cs < left = omega (arith, e, o.0, f) in
@@ -104,12 +104,12 @@ standing-count bases left k cs e o h n = omega (arith, h, n, standing-ends bases
 pub standing_on : (bases : List ℕ) (left k : ℕ) → 0 < k → get_or bases (k - 1) 0 ≡ left → standing bases left (k - 1) ≡ standing bases left k
 unfolding standing
 standing_on bases left zero h e = absurd (omega (arith, h))
-standing_on bases left (suc k) h e = let z : suc k - 1 ≡ k = omega arith in rw z (pick-eq _ (rw z at e) refl)
+standing_on bases left (suc k) h e = let z : suc k - 1 ≡ k = omega arith in rw z (pick_eq _ (rw z at e) refl)
 
 pub standing_here : (bases : List ℕ) (left k : ℕ) → 0 < k → (get_or bases (k - 1) 0 ≡ left → ⊥) → k ≡ standing bases left k
 unfolding standing
 standing_here bases left zero h e = absurd (omega (arith, h))
-standing_here bases left (suc k) h e = let z : suc k - 1 ≡ k = omega arith in pick-ne _ (rw z at e) refl
+standing_here bases left (suc k) h e = let z : suc k - 1 ≡ k = omega arith in pick_ne _ (rw z at e) refl
 
 pub standing-none : (bases : List ℕ) (left k : ℕ) → k ≤ 0 → 0 ≡ standing bases left k
 unfolding standing
@@ -120,11 +120,11 @@ standing-none bases left (suc k) h = absurd (omega (arith, h))
 module _ (left c : ℕ) (cs : List ℕ) where
   below-inner : total cs < left → c ∷ cs ≡ below left (c ∷ cs)
   unfolding below
-  below-inner h = pick-lt _ h refl
+  below-inner h = pick_lt _ h refl
 
-  below-outer : left ≤ total cs → below left cs ≡ below left (c ∷ cs)
+  below_outer : left ≤ total cs → below left cs ≡ below left (c ∷ cs)
   unfolding below
-  below-outer h = pick-ge _ h refl
+  below_outer h = pick_ge _ h refl
 
 below_all : (left : ℕ) (cs : List ℕ) → total cs < left → cs ≡ below left cs
 unfolding below total
@@ -135,13 +135,13 @@ below_all left (c ∷ cs) h = below-inner left c cs (omega (arith, h))
 pub below-settled : (left : ℕ) (cs : List ℕ) → left ≡ total cs → below left cs ≡ settled cs
 unfolding below total settled
 below-settled left [] e = refl
-below-settled left (zero ∷ cs) e = sym (below-outer left zero cs (omega (arith, e))) ∙ below-settled left cs (omega (arith, e))
+below-settled left (zero ∷ cs) e = sym (below_outer left zero cs (omega (arith, e))) ∙ below-settled left cs (omega (arith, e))
 below-settled left (suc c ∷ cs) e = sym (below-inner left (suc c) cs (omega (arith, e)))
 
 settled-below : (left : ℕ) (cs : List ℕ) → left ≤ total cs → below left cs ≡ below left (settled cs)
 unfolding total settled
 settled-below left [] h = refl
-settled-below left (zero ∷ cs) h = sym (below-outer left zero cs (omega (arith, h))) ∙ settled-below left cs (omega (arith, h))
+settled-below left (zero ∷ cs) h = sym (below_outer left zero cs (omega (arith, h))) ∙ settled-below left cs (omega (arith, h))
 settled-below left (suc c ∷ cs) h = refl
 
 below_as : (left c d : ℕ) (cs bases : List ℕ) (k : ℕ) → Known bases k (below left (c ∷ cs)) → Known bases k (below left (d ∷ cs))
@@ -157,11 +157,11 @@ all_known : (left : ℕ) (cs bases : List ℕ) (k : ℕ) → total cs < left →
 all_known left cs bases k h o = rw (sym (below_all left cs h)) at o
 
 module _ (left c : ℕ) (cs bases : List ℕ) (k : ℕ) {p : ℕ} (q : p ≡ total cs) where
-  pub outer-into : left ≤ p → Known bases k (below left cs) → Known bases k (below left (c ∷ cs))
-  outer-into h o = rw (below-outer left c cs (omega (arith, q, h))) at o
+  pub outer_into : left ≤ p → Known bases k (below left cs) → Known bases k (below left (c ∷ cs))
+  outer_into h o = rw (below_outer left c cs (omega (arith, q, h))) at o
 
-  pub outer-past : {ds : List ℕ} → settled cs ≡ suc c ∷ ds → left ≤ p → Known bases k (below left cs) → Known bases k (below left (c ∷ ds))
-  outer-past {ds} e h o = below_as left (suc c) c ds bases k (rw (settled-below left cs (omega (arith, q, h)) ∙ ap (below left) e) at o)
+  pub outer_past : {ds : List ℕ} → settled cs ≡ suc c ∷ ds → left ≤ p → Known bases k (below left cs) → Known bases k (below left (c ∷ ds))
+  outer_past {ds} e h o = below_as left (suc c) c ds bases k (rw (settled-below left cs (omega (arith, q, h)) ∙ ap (below left) e) at o)
 
   pub inner-into : (bases' : List ℕ) (r : ℕ) → p < left → (Known bases k cs → Known bases' r (c ∷ cs)) → Known bases k (below left cs) → Known bases' r (below left (c ∷ cs))
   inner-into bases' r h f o =

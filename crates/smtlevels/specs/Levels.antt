@@ -1,16 +1,16 @@
 -- The innermost of the open lists are known by how many sorts are to come when they end, which stands in an array, the innermost list's last.
 use Rattle.std.specs.Prelude.{ℕ, zero, suc, ◌/◌, ◌≤◌, ◌≡◌, List, [], ◌∷◌, eqb, ltb, length, get_or}
-use Rattle.reading.specs.Limits.{maxLists}
+use Rattle.reading.specs.Limits.{max_lists}
 use Rattle.reading.specs.Pick.{pick}
 use Rattle.smtlevels.specs.Open.{total}
 
 -- How many are kept where there is no room for one more.
 abbrev pub half : ℕ
-half = maxLists / 2
+half = max_lists / 2
 
 -- An array with room for so many.
 abbrev pub Within : List ℕ → ℕ → Type 0
-Within bases known = (length bases ≡ maxLists) × (known ≤ maxLists)
+Within bases known = (length bases ≡ max_lists) × (known ≤ max_lists)
 
 -- So many of the open lists are known.
 abbrev pub Known : List ℕ → ℕ → List ℕ → Type 0

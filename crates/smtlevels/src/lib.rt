@@ -1,7 +1,7 @@
 // The innermost lists that are open around a sort, as many at most as lists may stand inside one another in a text: an array has how many sorts are to come when each ends, the innermost list's
 // last.
 ghost use Rattle.std.specs.Prelude.{◌≡◌, List, ◌∷◌, ℕ, suc, ◌≤◌, ◌<◌, length};
-ghost use Rattle.reading.specs.Limits.{maxLists};
+ghost use Rattle.reading.specs.Limits.{max_lists};
 ghost use Rattle.smtlevels.specs.Open.{total, settled};
 ghost use Rattle.smtlevels.specs.Levels.{Within, Known, standing, below};
 
@@ -12,7 +12,7 @@ const HALF: usize = MAX_LISTS / 2;
 
 // How many of the known lists do not end where just so many sorts are to come.
 pub fn standing(bases: &[u64; MAX_LISTS], known: usize, left: u64) -> usize
-    requires { known ≤ maxLists }
+    requires { known ≤ max_lists }
     ensures few { result ≤ known }
     ensures lists { result ≡ standing bases.now left known }
 {
@@ -29,7 +29,7 @@ pub fn standing(bases: &[u64; MAX_LISTS], known: usize, left: u64) -> usize
 // Room for one list more: where there is none, the outer half of the known lists is forgotten.
 fn halved(bases: &mut [u64; MAX_LISTS], known: usize) -> usize
     requires { Within bases.old known }
-    ensures room { (length bases.new ≡ maxLists) × (result < maxLists) }
+    ensures room { (length bases.new ≡ max_lists) × (result < max_lists) }
     ensures lists { (cs : List ℕ) → Known bases.old known cs → Known bases.new result cs }
 {
     if known < MAX_LISTS {
@@ -56,7 +56,7 @@ pub fn entered(bases: &mut [u64; MAX_LISTS], known: usize, base: u64) -> usize
 
 // How many of the known lists do not end, where only lists are known that end with fewer sorts to come than so many.
 pub fn standing_below(bases: &[u64; MAX_LISTS], known: usize, pending: u64, left: u64) -> usize
-    requires { known ≤ maxLists }
+    requires { known ≤ max_lists }
     ensures few { result ≤ known }
     ensures lists { (c : ℕ) (cs ds : List ℕ) → settled cs ≡ suc c ∷ ds → pending ≡ total cs → Known bases.now known (below left cs) → Known bases.now result (below left (c ∷ ds)) }
 {

@@ -1,7 +1,7 @@
 -- What the operation decides, as the code answers it.
 use Rattle.std.specs.Prelude.{ℕ, ◌≡◌, List, length}
 use Rattle.reading.specs.Answer.{Final, accepts, refuses, over}
-use Rattle.smt.specs.Operation.{smtlibFinal}
+use Rattle.smt.specs.Operation.{smtlib_final}
 use Rattle.smtlib.specs.declared.Answer.{Answer}
 use Rattle.smtlib.specs.declared.Answer.TheVariants as said
 
@@ -17,5 +17,5 @@ pub data Outcome : Final (List ℕ) → List ℕ → List ℕ → Type 0 where
 
 -- What is answered, with the output not cleared yet.
 pub record Attempted (words text l l' : List ℕ) (r : Answer) : Type 0 where
-  pub answer : r ≡ answer_of (smtlibFinal words text l)
-  pub output : Outcome (smtlibFinal words text l) l l'
+  pub answer : r ≡ answer_of (smtlib_final words text l)
+  pub output : Outcome (smtlib_final words text l) l l'

@@ -1,7 +1,7 @@
 // Solutions as SMT-LIB terms: words that may come from anywhere are judged as those of one solution, and written as its list of sorted
 // variables, a space and one term. What is answered stands in crates/smt/specs/Operation.antt, what is written in its Writer.antt.
 ghost use Rattle.std.specs.Prelude.{◌≡◌};
-ghost use Rattle.smt.specs.Operation.{smtlibFinal, smtlibOut};
+ghost use Rattle.smt.specs.Operation.{smtlib_final, smtlib_out};
 ghost use Rattle.smtlib.specs.Answers.{answer_of, Attempted};
 
 use crate::terms::term;
@@ -51,8 +51,8 @@ fn attempt(words: &[u32], text: &[u8], out: &mut [u8]) -> Answer
 // others, 14 for words left over; then 15 for a part that cannot be written and 16 for a byte of a name or a string that cannot, in the order
 // of the words; and at last 7 if the output has room for fewer bytes. A refusal zeroes the output.
 pub fn smtlib(words: &[u32], text: &[u8], out: &mut [u8]) -> Answer
-    ensures answer { result ≡ answer_of (smtlibFinal words.now text.now out.old) }
-    ensures output { out.new ≡ smtlibOut words.now text.now out.old }
+    ensures answer { result ≡ answer_of (smtlib_final words.now text.now out.old) }
+    ensures output { out.new ≡ smtlib_out words.now text.now out.old }
 {
     match attempt(words, text, out) {
         Answer::Done(n) => Answer::Done(n),

@@ -1,10 +1,10 @@
 // Terms: recursion goes over the nesting of expressions, operands and arguments are walked by a loop.
 ghost use Rattle.std.specs.Prelude.{◌≡◌, ℕ, length};
 ghost use Rattle.grammar.specs.Expr.{Expr, Exprs, enil, econs};
-ghost use Rattle.judging.specs.Judge.{reads, several, exprDeep};
-ghost use Rattle.smtlib.specs.Terms.{termText, seamed};
+ghost use Rattle.judging.specs.Judge.{reads, several, expr_deep};
+ghost use Rattle.smtlib.specs.Terms.{term_text, seamed};
 ghost use Rattle.writing.specs.Wrote.{WroteBytes};
-ghost use Rattle.smtseams.specs.Seams.{seamOf, gap_of};
+ghost use Rattle.smtseams.specs.Seams.{seam_of, gap_of};
 ghost use Rattle.smtnames.specs.Written.{TellsPart};
 
 use heads::{Header, head};
@@ -28,7 +28,7 @@ pub fn term(
     out: &mut [u8],
     place: usize,
 ) -> Walked
-    ensures { (e : Expr) (n : ℕ) → exprDeep (length text.now) room words.now at ≡ reads e n → TellsPart n (termText text.now e) out.old place out.new result }
+    ensures { (e : Expr) (n : ℕ) → expr_deep (length text.now) room words.now at ≡ reads e n → TellsPart n (term_text text.now e) out.old place out.new result }
 {
     if room == 0 {
         return Walked::No(6);
@@ -89,7 +89,7 @@ fn terms(
     out: &mut [u8],
     place: usize,
 ) -> Walked
-    ensures { (es : Exprs) (m : ℕ) → several (exprDeep (length text.now) room) enil econs n words.now at ≡ reads es m → TellsPart m (seamed text.now (seamOf in_let) es) out.old place out.new result }
+    ensures { (es : Exprs) (m : ℕ) → several (expr_deep (length text.now) room) enil econs n words.now at ≡ reads es m → TellsPart m (seamed text.now (seam_of in_let) es) out.old place out.new result }
 {
     let mut a = at;
     let mut p = place;

@@ -6,12 +6,12 @@ use Rattle.reading.specs.Answer.{Ans, got, bad}
 use Rattle.smtnames.specs.Pieces.{joined}
 
 -- Brackets do not matter.
-pub joined-assoc : (x y z : Ans (List ℕ)) → joined (joined x y) z ≡ joined x (joined y z)
+pub joined_assoc : (x y z : Ans (List ℕ)) → joined (joined x y) z ≡ joined x (joined y z)
 unfolding joined
-joined-assoc (bad r) y z = refl
-joined-assoc (got a) (bad r) z = refl
-joined-assoc (got a) (got b) (bad r) = refl
-joined-assoc (got a) (got b) (got c) = ap got (append_assoc a b c)
+joined_assoc (bad r) y z = refl
+joined_assoc (got a) (bad r) z = refl
+joined_assoc (got a) (got b) (bad r) = refl
+joined_assoc (got a) (got b) (got c) = ap got (append_assoc a b c)
 
 -- No bytes change nothing.
 pub joined-none : (x : Ans (List ℕ)) → joined (got []) x ≡ x

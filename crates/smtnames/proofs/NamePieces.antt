@@ -12,8 +12,8 @@ use Rattle.reading.specs.Number.{value_of}
 use Rattle.reading.specs.Answer.{Ans, got, bad, and_then, unprintable}
 use Rattle.writing.specs.Digits.{decimal}
 use Rattle.writing.proofs.Wrote.{either}
-use Rattle.smt.specs.Writer.{writable, allWritable, bytes_of}
-use Rattle.smtnames.specs.Pieces.{joined, nameText, freshText, stringText}
+use Rattle.smt.specs.Writer.{writable, all_writable, bytes_of}
+use Rattle.smtnames.specs.Pieces.{joined, name_text, fresh_text, string_text}
 
 -- A part of a text by places that are kept inside it.
 part-inside : (text : List ℕ) (s n : ℕ) → take (min (s + n) (length text) - min s (length text)) (drop (min s (length text)) text) ≡ bytes_at text (record { start = s; len = n })
@@ -37,40 +37,40 @@ pub part-is : (text : List ℕ) (s n : ℕ) {from to : ℕ} → from ≡ min s (
 part-is text s n e f = rw (e, f) (part-inside text s n)
 
 -- The bytes of a span, or the refusal.
-pub bytes_good : (text : List ℕ) (s : Span) {part : List ℕ} → part ≡ bytes_at text s → allWritable part ≡ true → bytes_of text s ≡ got part
+pub bytes_good : (text : List ℕ) (s : Span) {part : List ℕ} → part ≡ bytes_at text s → all_writable part ≡ true → bytes_of text s ≡ got part
 unfolding bytes_of pick
 bytes_good text s e h = rw (← e, h)
 
-pub bytes-bad : (text : List ℕ) (s : Span) {part : List ℕ} → part ≡ bytes_at text s → allWritable part ≡ false → bytes_of text s ≡ bad unprintable
+pub bytes-bad : (text : List ℕ) (s : Span) {part : List ℕ} → part ≡ bytes_at text s → all_writable part ≡ false → bytes_of text s ≡ bad unprintable
 unfolding bytes_of pick
 bytes-bad text s e h = rw (← e, h)
 
 -- All bytes from a place on can be written: no more bytes, one that can, one that cannot.
-pub writable-none : (bs : List ℕ) (i : ℕ) → length bs ≤ i → allWritable (drop i bs) ≡ true
-unfolding allWritable
+pub writable-none : (bs : List ℕ) (i : ℕ) → length bs ≤ i → all_writable (drop i bs) ≡ true
+unfolding all_writable
 writable-none bs i h = rw (drop_of_length-le bs {i = i} h)
 
-pub writable-one : (bs : List ℕ) (i : ℕ) → i < length bs → writable (get_or bs i 0) ≡ true → allWritable (drop i bs) ≡ allWritable (drop (i + 1) bs)
-unfolding allWritable pick
+pub writable-one : (bs : List ℕ) (i : ℕ) → i < length bs → writable (get_or bs i 0) ≡ true → all_writable (drop i bs) ≡ all_writable (drop (i + 1) bs)
+unfolding all_writable pick
 writable-one bs i h e =
     let n : i + 1 ≡ suc i = omega arith in
     rw (n, drop-cons bs i 0 h, e) refl
 
-pub writable-not : (bs : List ℕ) (i : ℕ) → i < length bs → writable (get_or bs i 0) ≡ false → allWritable (drop i bs) ≡ false
-unfolding allWritable pick
+pub writable-not : (bs : List ℕ) (i : ℕ) → i < length bs → writable (get_or bs i 0) ≡ false → all_writable (drop i bs) ≡ false
+unfolding all_writable pick
 writable-not bs i h e = rw (drop-cons bs i 0 h, e)
 
 -- A name and a string, by the bytes of the span.
-pub name-text : (text : List ℕ) (kind : ℕ) (s : Span) → nameText text kind s ≡ joined (got (124 ∷ [])) (joined (got (kind ∷ [])) (joined (got (32 ∷ [])) (joined (bytes_of text s) (got (124 ∷ [])))))
-unfolding nameText joined
+pub name-text : (text : List ℕ) (kind : ℕ) (s : Span) → name_text text kind s ≡ joined (got (124 ∷ [])) (joined (got (kind ∷ [])) (joined (got (32 ∷ [])) (joined (bytes_of text s) (got (124 ∷ [])))))
+unfolding name_text joined
 name-text text kind s = go (bytes_of text s)
   where
     go : (x : Ans (List ℕ)) → and_then x (λ name. got (124 ∷ kind ∷ 32 ∷ name ++ (124 ∷ []))) ≡ joined (got (124 ∷ [])) (joined (got (kind ∷ [])) (joined (got (32 ∷ [])) (joined x (got (124 ∷ [])))))
     go (got name) = refl
     go (bad r) = refl
 
-pub string-text : (text : List ℕ) (s : Span) → stringText text s ≡ joined (got (34 ∷ [])) (joined (bytes_of text s) (got (34 ∷ [])))
-unfolding stringText joined
+pub string-text : (text : List ℕ) (s : Span) → string_text text s ≡ joined (got (34 ∷ [])) (joined (bytes_of text s) (got (34 ∷ [])))
+unfolding string_text joined
 string-text text s = go (bytes_of text s)
   where
     go : (x : Ans (List ℕ)) → and_then x (λ bytes. got (34 ∷ bytes ++ (34 ∷ []))) ≡ joined (got (34 ∷ [])) (joined x (got (34 ∷ [])))
@@ -78,11 +78,11 @@ string-text text s = go (bytes_of text s)
     go (bad r) = refl
 
 -- A fresh variable.
-pub fresh-text : (k : ℕ) → ascii "|v " ++ (decimal k ++ (124 ∷ [])) ≡ freshText k
-unfolding freshText
+pub fresh-text : (k : ℕ) → ascii "|v " ++ (decimal k ++ (124 ∷ [])) ≡ fresh_text k
+unfolding fresh_text
 fresh-text k = refl
 
 -- A number of 64 bits in words.
-pub quad-value : (n : ℕ) → value_of (record { a = n % 4294967296; b = n / 4294967296; c = 0; d = 0 }) ≡ n
+pub quad_value : (n : ℕ) → value_of (record { a = n % 4294967296; b = n / 4294967296; c = 0; d = 0 }) ≡ n
 unfolding value_of
-quad-value n = omega arith
+quad_value n = omega arith

@@ -6,7 +6,7 @@ use native.Mathlib.Omega.{arith}
 use lib.ListN.{length}
 use Rattle.reading.specs.Answer.{Refusal, number, Ans, got, bad}
 use Rattle.writing.specs.Wrote.{WroteBytes}
-use Rattle.writing.proofs.Wrote.{wrote_none, wrote-seq}
+use Rattle.writing.proofs.Wrote.{wrote_none, wrote_seq}
 use Rattle.smtnames.specs.Pieces.{joined}
 use Rattle.smtnames.specs.Written.{Tells, tells, keeps, TellsPiece, TellsPart}
 use Rattle.smtnames.specs.declared.answers.Written.{Written}
@@ -27,9 +27,9 @@ pub put-none : (l : List ℕ) (place : ℕ) → Put (got []) l place l place
 put-none l place = put (wrote_none l place)
 
 -- A piece behind a piece, and a refusal behind one or before one.
-pub put-seq : {x y : Ans (List ℕ)} {l l₁ l₂ : List ℕ} {place p q : ℕ} → Put x l place l₁ p → Put y l₁ p l₂ q → Put (joined x y) l place l₂ q
+pub put_seq : {x y : Ans (List ℕ)} {l l₁ l₂ : List ℕ} {place p q : ℕ} → Put x l place l₁ p → Put y l₁ p l₂ q → Put (joined x y) l place l₂ q
 unfolding joined
-put-seq (put {xs = xs} w) (put {xs = ys} v) = put (wrote-seq xs ys w v)
+put_seq (put {xs = xs} w) (put {xs = ys} v) = put (wrote_seq xs ys w v)
 
 pub gone-behind : {x y : Ans (List ℕ)} {l l₁ l₂ : List ℕ} {place p k : ℕ} → Put x l place l₁ p → Gone y l₁ l₂ k → Gone (joined x y) l l₂ k
 unfolding joined
@@ -43,8 +43,8 @@ gone-first y (gone h e) = gone h e
 pub put_as : {x y : Ans (List ℕ)} {l l' : List ℕ} {place p : ℕ} → x ≡ y → Put y l place l' p → Put x l place l' p
 put_as e w = rw e w
 
-pub gone-as : {x y : Ans (List ℕ)} {l l' : List ℕ} {k : ℕ} → x ≡ y → Gone y l l' k → Gone x l l' k
-gone-as e w = rw e w
+pub gone_as : {x y : Ans (List ℕ)} {l l' : List ℕ} {k : ℕ} → x ≡ y → Gone y l l' k → Gone x l l' k
+gone_as e w = rw e w
 
 -- No bytes are laid of what is refused.
 pub put-bad : {P : Type 0} {x : Ans (List ℕ)} {e : Refusal} {l l' : List ℕ} {place p : ℕ} → Put x l place l' p → x ≡ bad e → P
@@ -66,29 +66,29 @@ module _ {R : Type 0} {to no : ℕ → R} where
   tells-no e h = keeps h refl
 
   -- A piece behind bytes, bytes behind a piece, and nothing behind a refusal.
-  pub tells-seq : (xs : List ℕ) {y : Ans (List ℕ)} {l l₁ l₂ : List ℕ} {place p : ℕ} {r : R} → WroteBytes l place xs l₁ p → Tells to no y l₁ p l₂ r → Tells to no (joined (got xs) y) l place l₂ r
+  pub tells_seq : (xs : List ℕ) {y : Ans (List ℕ)} {l l₁ l₂ : List ℕ} {place p : ℕ} {r : R} → WroteBytes l place xs l₁ p → Tells to no y l₁ p l₂ r → Tells to no (joined (got xs) y) l place l₂ r
   unfolding joined
-  tells-seq xs w (tells {xs = ys} v e) = tells (wrote-seq xs ys w v) e
-  tells-seq xs w (keeps h e) = keeps (h ∙ w.kept) e
+  tells_seq xs w (tells {xs = ys} v e) = tells (wrote_seq xs ys w v) e
+  tells_seq xs w (keeps h e) = keeps (h ∙ w.kept) e
 
   pub tells-end : (ys : List ℕ) {x : Ans (List ℕ)} {l l₁ l₂ : List ℕ} {place p q : ℕ} → Put x l place l₁ p → WroteBytes l₁ p ys l₂ q → Tells to no (joined x (got ys)) l place l₂ (to q)
-  tells-end ys v w = put-told (put-seq v (put w))
+  tells-end ys v w = put-told (put_seq v (put w))
 
-  pub tells-stop : (y : Ans (List ℕ)) {x : Ans (List ℕ)} {l l' : List ℕ} {place k : ℕ} → Gone x l l' k → Tells to no (joined x y) l place l' (no k)
-  tells-stop y g = gone-told (gone-first y g)
+  pub tells_stop : (y : Ans (List ℕ)) {x : Ans (List ℕ)} {l l' : List ℕ} {place k : ℕ} → Gone x l l' k → Tells to no (joined x y) l place l' (no k)
+  tells_stop y g = gone-told (gone-first y g)
 
   -- The same piece by another name.
   pub tells_as : {x y : Ans (List ℕ)} {l l' : List ℕ} {place : ℕ} {r : R} → x ≡ y → Tells to no y l place l' r → Tells to no x l place l' r
   tells_as e t = rw e t
 
 -- What a piece tells.
-pub piece-put : {x : Ans (List ℕ)} {l l' : List ℕ} {place : ℕ} {r : Written} {p : ℕ} → TellsPiece x l place l' r → r ≡ written.To p → Put x l place l' p
-piece-put {p = p} (tells {p = q} w e) h = let z : q ≡ p = cc in rw z at (put w)
-piece-put (keeps g e) h = let z : ◌≡◌ {A = ℕ} 0 1 = cc in absurd (omega arith)
+pub piece_put : {x : Ans (List ℕ)} {l l' : List ℕ} {place : ℕ} {r : Written} {p : ℕ} → TellsPiece x l place l' r → r ≡ written.To p → Put x l place l' p
+piece_put {p = p} (tells {p = q} w e) h = let z : q ≡ p = cc in rw z at (put w)
+piece_put (keeps g e) h = let z : ◌≡◌ {A = ℕ} 0 1 = cc in absurd (omega arith)
 
-pub piece-gone : {x : Ans (List ℕ)} {l l' : List ℕ} {place : ℕ} {r : Written} {k : ℕ} → TellsPiece x l place l' r → r ≡ written.No k → Gone x l l' k
-piece-gone (tells w e) h = let z : ◌≡◌ {A = ℕ} 0 1 = cc in absurd (omega arith)
-piece-gone {k = k} (keeps {e = f} g e) h = let z : k ≡ number f = cc in gone g z
+pub piece_gone : {x : Ans (List ℕ)} {l l' : List ℕ} {place : ℕ} {r : Written} {k : ℕ} → TellsPiece x l place l' r → r ≡ written.No k → Gone x l l' k
+piece_gone (tells w e) h = let z : ◌≡◌ {A = ℕ} 0 1 = cc in absurd (omega arith)
+piece_gone {k = k} (keeps {e = f} g e) h = let z : k ≡ number f = cc in gone g z
 
 -- What a part tells.
 pub part-put : {x : Ans (List ℕ)} {l l' : List ℕ} {place : ℕ} {n : ℕ} {r : Walked} {m p : ℕ} → TellsPart n x l place l' r → r ≡ walked.At m p → Put x l place l' p

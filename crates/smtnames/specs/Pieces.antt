@@ -6,8 +6,8 @@ use Rattle.grammar.specs.Sort.{Sort}
 use Rattle.grammar.specs.Expr.{Binder}
 use Rattle.writing.specs.Digits.{decimal}
 use Rattle.smt.specs.Sexp.{list, print}
-use Rattle.smt.specs.Term.{Ident, identSx, sortSx, varSxs}
-use Rattle.smt.specs.Writer.{bytes_of, sortOf, varsOf}
+use Rattle.smt.specs.Term.{Ident, ident_sx, sort_sx, var_sxs}
+use Rattle.smt.specs.Writer.{bytes_of, sort_of, vars_of}
 
 -- Bytes behind bytes; the first refusal ends it.
 unfoldable pub joined : Ans (List ℕ) → Ans (List ℕ) → Ans (List ℕ)
@@ -17,28 +17,28 @@ joined x y =
     got (xs ++ ys)
 
 -- An identifier, a sort.
-unfoldable pub identText : Ans Ident → Ans (List ℕ)
-identText x = and_then x λ i. got (print (identSx i))
+unfoldable pub ident_text : Ans Ident → Ans (List ℕ)
+ident_text x = and_then x λ i. got (print (ident_sx i))
 
-unfoldable pub sortText : List ℕ → Sort → Ans (List ℕ)
-sortText text s = and_then (sortOf text s) λ t. got (print (sortSx t))
+unfoldable pub sort_text : List ℕ → Sort → Ans (List ℕ)
+sort_text text s = and_then (sort_of text s) λ t. got (print (sort_sx t))
 
 -- A name in bars, behind the letter of its kind and a space.
-unfoldable pub nameText : List ℕ → ℕ → Span → Ans (List ℕ)
-nameText text kind s = and_then (bytes_of text s) λ name. got (124 ∷ kind ∷ 32 ∷ name ++ (124 ∷ []))
+unfoldable pub name_text : List ℕ → ℕ → Span → Ans (List ℕ)
+name_text text kind s = and_then (bytes_of text s) λ name. got (124 ∷ kind ∷ 32 ∷ name ++ (124 ∷ []))
 
 -- A fresh variable in bars.
-unfoldable pub freshText : ℕ → List ℕ
-freshText k = 124 ∷ 118 ∷ 32 ∷ decimal k ++ (124 ∷ [])
+unfoldable pub fresh_text : ℕ → List ℕ
+fresh_text k = 124 ∷ 118 ∷ 32 ∷ decimal k ++ (124 ∷ [])
 
 -- The list of sorted variables in parentheses.
-unfoldable pub varsText : List ℕ → List Binder → Ans (List ℕ)
-varsText text bs = and_then (varsOf text bs) λ vs. got (print (list (varSxs vs)))
+unfoldable pub vars_text : List ℕ → List Binder → Ans (List ℕ)
+vars_text text bs = and_then (vars_of text bs) λ vs. got (print (list (var_sxs vs)))
 
 -- A string in quotes.
-unfoldable pub stringText : List ℕ → Span → Ans (List ℕ)
-stringText text s = and_then (bytes_of text s) λ bytes. got (34 ∷ bytes ++ (34 ∷ []))
+unfoldable pub string_text : List ℕ → Span → Ans (List ℕ)
+string_text text s = and_then (bytes_of text s) λ bytes. got (34 ∷ bytes ++ (34 ∷ []))
 
 -- A sorted variable in parentheses.
-unfoldable pub varText : List ℕ → Binder → Ans (List ℕ)
-varText text b = joined (got (40 ∷ freshText b.var ++ (32 ∷ []))) (joined (sortText text b.sort) (got (41 ∷ [])))
+unfoldable pub var_text : List ℕ → Binder → Ans (List ℕ)
+var_text text b = joined (got (40 ∷ fresh_text b.var ++ (32 ∷ []))) (joined (sort_text text b.sort) (got (41 ∷ [])))

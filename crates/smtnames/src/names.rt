@@ -3,8 +3,8 @@ ghost use Rattle.std.specs.Prelude.{◌≡◌, [], ◌∷◌, min, length};
 ghost use Rattle.reading.specs.Number.{value_of};
 ghost use Rattle.writing.specs.Wrote.{WroteBytes};
 ghost use Rattle.writing.specs.Quads.{as_wide};
-ghost use Rattle.smt.specs.Writer.{writable as writableByte, allWritable, bytes_of};
-ghost use Rattle.smtnames.specs.Pieces.{nameText, freshText, stringText};
+ghost use Rattle.smt.specs.Writer.{writable as writableByte, all_writable, bytes_of};
+ghost use Rattle.smtnames.specs.Pieces.{name_text, fresh_text, string_text};
 ghost use Rattle.smtnames.specs.Written.{TellsPiece};
 
 use crate::answers::Written;
@@ -34,7 +34,7 @@ fn writable(b: u8) -> bool
 
 // Only such bytes.
 fn all_writable(part: &[u8]) -> bool
-    ensures { result ≡ allWritable part.now }
+    ensures { result ≡ all_writable part.now }
 {
     let mut i = 0;
     while i < part.len() {
@@ -71,7 +71,7 @@ pub fn span(text: &[u8], start: u32, len: u32, out: &mut [u8], place: usize) -> 
 
 // A name in bars, behind the letter of its kind: `n` for a variable, `s` for a sort.
 pub fn name(letter: u8, text: &[u8], start: u32, len: u32, out: &mut [u8], place: usize) -> Written
-    ensures { TellsPiece (nameText text.now letter (record { start = start; len = len })) out.old place out.new result }
+    ensures { TellsPiece (name_text text.now letter (record { start = start; len = len })) out.old place out.new result }
 {
     let a = byte(out, place, 124);
     let b = byte(out, a, letter);
@@ -84,7 +84,7 @@ pub fn name(letter: u8, text: &[u8], start: u32, len: u32, out: &mut [u8], place
 
 // A string in quotes.
 pub fn string(text: &[u8], start: u32, len: u32, out: &mut [u8], place: usize) -> Written
-    ensures { TellsPiece (stringText text.now (record { start = start; len = len })) out.old place out.new result }
+    ensures { TellsPiece (string_text text.now (record { start = start; len = len })) out.old place out.new result }
 {
     let a = byte(out, place, 34);
     match span(text, start, len, out, a) {
@@ -107,7 +107,7 @@ fn quad(n: u64) -> Quad
 
 // A fresh variable in bars, by its number.
 pub fn fresh(n: u64, out: &mut [u8], place: usize) -> usize
-    ensures { WroteBytes out.old place (freshText n) out.new result }
+    ensures { WroteBytes out.old place (fresh_text n) out.new result }
 {
     let a = bytes(b"|v ", out, place);
     let b = decimal(quad(n), out, a);

@@ -2,5 +2,5 @@
 use Rattle.std.specs.Prelude.{ℕ, List, [], ◌∷◌, ◌++◌}
 
 -- An operator behind a parenthesis, and a space.
-abbrev pub operatorText : List ℕ → List ℕ
-operatorText name = 40 ∷ name ++ (32 ∷ [])
+abbrev pub operator_text : List ℕ → List ℕ
+operator_text name = 40 ∷ name ++ (32 ∷ [])

@@ -2,14 +2,14 @@
 ghost use Rattle.std.specs.Prelude.{◌<◌};
 ghost use Rattle.writing.specs.Wrote.{WroteBytes};
 ghost use Rattle.smt.specs.Vocabulary.{operators, relations};
-ghost use Rattle.smt.specs.Writer.{spelledAt};
-ghost use Rattle.smtoperators.specs.Operators.{operatorText};
+ghost use Rattle.smt.specs.Writer.{spelled_at};
+ghost use Rattle.smtoperators.specs.Operators.{operator_text};
 
 use writing::bytes;
 
 // An operator by its number, behind a parenthesis.
 pub fn operator(op: u32, out: &mut [u8], place: usize) -> usize
-    ensures { op < 5 → WroteBytes out.old place (operatorText (spelledAt operators op)) out.new result }
+    ensures { op < 5 → WroteBytes out.old place (operator_text (spelled_at operators op)) out.new result }
 {
     match op {
         0 => bytes(b"(+ ", out, place),
@@ -22,7 +22,7 @@ pub fn operator(op: u32, out: &mut [u8], place: usize) -> usize
 
 // A relation by its number, behind a parenthesis.
 pub fn relation(r: u32, out: &mut [u8], place: usize) -> usize
-    ensures { r < 6 → WroteBytes out.old place (operatorText (spelledAt relations r)) out.new result }
+    ensures { r < 6 → WroteBytes out.old place (operator_text (spelled_at relations r)) out.new result }
 {
     match r {
         0 => bytes(b"(= ", out, place),

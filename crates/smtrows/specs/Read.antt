@@ -2,10 +2,10 @@
 use Rattle.std.specs.Prelude.{ℕ, ◌≡◌, refl, true, false, List, [], ◌∷◌, map}
 use Prim.Native.String.{String}
 use Rattle.reading.specs.Bytes.{ascii, Maybe, nothing, just}
-use Rattle.grammar.specs.Expr.{opSub, opDiv, relEq, relNe, relLt}
-use Rattle.smt.specs.Meant.{MeantSort, intSort, boolSort, realSort, stringSort, bitsSort, arraySort, dataSort, onil, ocons, MeantVar, MeantKind, mNum, mBool, mStr, mBitVec, mFresh, mNamed, mNeg, mBin, mIf, mAnd, mOr, mNot, mImp, mAtom, mLet, mTheory, mIsCtor, mExists, mLetFresh, Meant, says, calls, Meants, mnil, mcons, MeantSolution}
-use Rattle.smt.specs.Meaning.{readSolution}
-use Rattle.smt.specs.Compute.{smtComputes}
+use Rattle.grammar.specs.Expr.{op_sub, op_div, rel_eq, rel_ne, rel_lt}
+use Rattle.smt.specs.Meant.{MeantSort, int_sort, bool_sort, real_sort, string_sort, bits_sort, array_sort, data_sort, onil, ocons, MeantVar, MeantKind, m_num, m_bool, m_str, m_bit_vec, m_fresh, m_named, m_neg, m_bin, m_if, m_and, m_or, m_not, m_imp, m_atom, m_let, m_theory, m_is_ctor, m_exists, m_let_fresh, Meant, says, calls, Meants, mnil, mcons, MeantSolution}
+use Rattle.smt.specs.Meaning.{read_solution}
+use Rattle.smt.specs.Compute.{smt_computes}
 
 -- A variable of a sort; what stands alone; one operand, and two.
 abbrev pub var : ℕ → MeantSort → MeantVar
@@ -30,26 +30,26 @@ row text params body = record { text = text; meant = record { params = params; b
 
 abbrev pub rows : List Row
 rows =
-    row "() true" [] (leaf (mBool true))
-    ∷ row "((|v 0| Int)) (< |v 0| 5)" (var 0 intSort ∷ []) (says (mAtom relLt) (two (leaf (mFresh 0)) (leaf (mNum 5))))
-    ∷ row "((|v 1| Bool) (|v 2| Real) (|v 3| String) (|v 4| (_ BitVec 8)) (|v 5| (Array Int |s T|)) (|v 6| (|s T| Int))) |n x|" (var 1 boolSort ∷ var 2 realSort ∷ var 3 stringSort ∷ var 4 (bitsSort 8) ∷ var 5 (arraySort intSort (dataSort (ascii "T") onil)) ∷ var 6 (dataSort (ascii "T") (ocons intSort onil)) ∷ []) (leaf (mNamed (ascii "x")))
-    ∷ row "() (- 5)" [] (says mNeg (one (leaf (mNum 5))))
-    ∷ row "() (- 5 2)" [] (says (mBin opSub) (two (leaf (mNum 5)) (leaf (mNum 2))))
-    ∷ row "() (div 5 2)" [] (says (mBin opDiv) (two (leaf (mNum 5)) (leaf (mNum 2))))
-    ∷ row "() (= (distinct true false) (not true))" [] (says (mAtom relEq) (two (says (mAtom relNe) (two (leaf (mBool true)) (leaf (mBool false)))) (says mNot (one (leaf (mBool true))))))
-    ∷ row "() (and true (or false true))" [] (says mAnd (two (leaf (mBool true)) (says mOr (two (leaf (mBool false)) (leaf (mBool true))))))
-    ∷ row "() (=> true (ite true false true))" [] (says mImp (two (leaf (mBool true)) (says mIf (mcons (leaf (mBool true)) (two (leaf (mBool false)) (leaf (mBool true)))))))
-    ∷ row "() (let ((|n x| 1)) |n x|)" [] (says (mLet (ascii "x")) (two (leaf (mNum 1)) (leaf (mNamed (ascii "x")))))
-    ∷ row "() (let ((|v 3| 1)) (< |v 3| 2))" [] (says (mLetFresh 3) (two (leaf (mNum 1)) (says (mAtom relLt) (two (leaf (mFresh 3)) (leaf (mNum 2))))))
-    ∷ row "() (let ((|v 4294967296| (let ((|v 1| 1)) |v 1|))) (let ((|n x| 2)) |v 4294967296|))" [] (says (mLetFresh 4294967296) (two (says (mLetFresh 1) (two (leaf (mNum 1)) (leaf (mFresh 1)))) (says (mLet (ascii "x")) (two (leaf (mNum 2)) (leaf (mFresh 4294967296))))))
-    ∷ row "() (exists ((|v 1| Int)) ((_ is |n Cons|) |v 1|))" [] (says (mExists (var 1 intSort ∷ [])) (one (says (mIsCtor (ascii "Cons")) (one (leaf (mFresh 1))))))
-    ∷ row "() (|n f| \"a b\" (_ bv5 3))" [] (calls (two (leaf (mStr (ascii "a b"))) (leaf (mBitVec 5 3))) (leaf (mNamed (ascii "f"))))
-    ∷ row "() (bvadd |v 7|)" [] (calls (one (leaf (mFresh 7))) (leaf (mTheory 27)))
+    row "() true" [] (leaf (m_bool true))
+    ∷ row "((|v 0| Int)) (< |v 0| 5)" (var 0 int_sort ∷ []) (says (m_atom rel_lt) (two (leaf (m_fresh 0)) (leaf (m_num 5))))
+    ∷ row "((|v 1| Bool) (|v 2| Real) (|v 3| String) (|v 4| (_ BitVec 8)) (|v 5| (Array Int |s T|)) (|v 6| (|s T| Int))) |n x|" (var 1 bool_sort ∷ var 2 real_sort ∷ var 3 string_sort ∷ var 4 (bits_sort 8) ∷ var 5 (array_sort int_sort (data_sort (ascii "T") onil)) ∷ var 6 (data_sort (ascii "T") (ocons int_sort onil)) ∷ []) (leaf (m_named (ascii "x")))
+    ∷ row "() (- 5)" [] (says m_neg (one (leaf (m_num 5))))
+    ∷ row "() (- 5 2)" [] (says (m_bin op_sub) (two (leaf (m_num 5)) (leaf (m_num 2))))
+    ∷ row "() (div 5 2)" [] (says (m_bin op_div) (two (leaf (m_num 5)) (leaf (m_num 2))))
+    ∷ row "() (= (distinct true false) (not true))" [] (says (m_atom rel_eq) (two (says (m_atom rel_ne) (two (leaf (m_bool true)) (leaf (m_bool false)))) (says m_not (one (leaf (m_bool true))))))
+    ∷ row "() (and true (or false true))" [] (says m_and (two (leaf (m_bool true)) (says m_or (two (leaf (m_bool false)) (leaf (m_bool true))))))
+    ∷ row "() (=> true (ite true false true))" [] (says m_imp (two (leaf (m_bool true)) (says m_if (mcons (leaf (m_bool true)) (two (leaf (m_bool false)) (leaf (m_bool true)))))))
+    ∷ row "() (let ((|n x| 1)) |n x|)" [] (says (m_let (ascii "x")) (two (leaf (m_num 1)) (leaf (m_named (ascii "x")))))
+    ∷ row "() (let ((|v 3| 1)) (< |v 3| 2))" [] (says (m_let_fresh 3) (two (leaf (m_num 1)) (says (m_atom rel_lt) (two (leaf (m_fresh 3)) (leaf (m_num 2))))))
+    ∷ row "() (let ((|v 4294967296| (let ((|v 1| 1)) |v 1|))) (let ((|n x| 2)) |v 4294967296|))" [] (says (m_let_fresh 4294967296) (two (says (m_let_fresh 1) (two (leaf (m_num 1)) (leaf (m_fresh 1)))) (says (m_let (ascii "x")) (two (leaf (m_num 2)) (leaf (m_fresh 4294967296))))))
+    ∷ row "() (exists ((|v 1| Int)) ((_ is |n Cons|) |v 1|))" [] (says (m_exists (var 1 int_sort ∷ [])) (one (says (m_is_ctor (ascii "Cons")) (one (leaf (m_fresh 1))))))
+    ∷ row "() (|n f| \"a b\" (_ bv5 3))" [] (calls (two (leaf (m_str (ascii "a b"))) (leaf (m_bit_vec 5 3))) (leaf (m_named (ascii "f"))))
+    ∷ row "() (bvadd |v 7|)" [] (calls (one (leaf (m_fresh 7))) (leaf (m_theory 27)))
     ∷ []
 
 unfoldable pub read_all : List String → List (Maybe MeantSolution)
-unfolding smtComputes
-read_all texts = map (λ t. readSolution (ascii t)) texts
+unfolding smt_computes
+read_all texts = map (λ t. read_solution (ascii t)) texts
 
 pub rows-read : read_all (map (λ r. r.text) rows) ≡ map (λ r. just r.meant) rows
 unfolding read_all
@@ -67,7 +67,7 @@ pub loose-read : read_all loose ≡ read_all plain
 unfolding read_all
 loose-read = refl
 
-pub quotes-read : read_all ("() \"a\"\"b\"" ∷ []) ≡ (just (record { params = []; body = leaf (mStr (97 ∷ 34 ∷ 98 ∷ [])) }) ∷ [])
+pub quotes-read : read_all ("() \"a\"\"b\"" ∷ []) ≡ (just (record { params = []; body = leaf (m_str (97 ∷ 34 ∷ 98 ∷ [])) }) ∷ [])
 unfolding read_all
 quotes-read = refl
 

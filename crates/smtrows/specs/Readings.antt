@@ -3,16 +3,16 @@ use Rattle.std.specs.Prelude.{◌≡◌, refl, List, [], ◌∷◌}
 use Rattle.smtrows.specs.Shown.{refusal, bytes, Row, on, onto, answers, expected}
 
 -- The whole solution is judged first: 14 and 6 as met, then 14 for words left over; only then 15 and 16.
-abbrev pub judgedFirst : List Row
-judgedFirst =
+abbrev pub judged_first : List Row
+judged_first =
     on (0 ∷ 37 ∷ 0 ∷ 1 ∷ 0 ∷ []) "|" (refusal 14)
     ∷ on (1 ∷ 0 ∷ 0 ∷ 6 ∷ 1 ∷ 31 ∷ []) "" (refusal 14)
     ∷ on (0 ∷ 42 ∷ 2 ∷ 49 ∷ 0 ∷ []) "" (refusal 14)
     ∷ []
 
-pub judged-first-hold : answers judgedFirst ≡ expected judgedFirst
+pub judged_first_hold : answers judged_first ≡ expected judged_first
 unfolding answers
-judged-first-hold = refl
+judged_first_hold = refl
 
 -- A span outside the text is 14 at its place, also in an output sort; one inside ends at most at the end of the text.
 abbrev pub spans : List Row
@@ -25,9 +25,9 @@ spans =
     ∷ on (0 ∷ 37 ∷ 1 ∷ 4294967295 ∷ []) "x" (refusal 14)
     ∷ []
 
-pub spans-hold : answers spans ≡ expected spans
+pub spans_hold : answers spans ≡ expected spans
 unfolding answers
-spans-hold = refl
+spans_hold = refl
 
 -- A count, for each parameter two words and a sort, then the body.
 abbrev pub headers : List Row
@@ -39,13 +39,13 @@ headers =
     ∷ on (4294967295 ∷ 0 ∷ 0 ∷ 1 ∷ 33 ∷ 1 ∷ []) "" (refusal 14)
     ∷ []
 
-pub headers-hold : answers headers ≡ expected headers
+pub headers_hold : answers headers ≡ expected headers
 unfolding answers
-headers-hold = refl
+headers_hold = refl
 
 -- 15 and 16 by the place of the word that is at fault: parameters, then the body; arguments before the head; a name before what stands behind it.
-abbrev pub inOrder : List Row
-inOrder =
+abbrev pub in_order : List Row
+in_order =
     on (0 ∷ 42 ∷ 2 ∷ 37 ∷ 0 ∷ 1 ∷ 49 ∷ 0 ∷ []) "|" (refusal 16)
     ∷ on (0 ∷ 42 ∷ 2 ∷ 49 ∷ 0 ∷ 37 ∷ 0 ∷ 1 ∷ []) "|" (refusal 15)
     ∷ on (1 ∷ 0 ∷ 0 ∷ 6 ∷ 1 ∷ 37 ∷ 0 ∷ 1 ∷ []) "|" (refusal 15)
@@ -54,22 +54,22 @@ inOrder =
     ∷ on (0 ∷ 50 ∷ 0 ∷ 1 ∷ 49 ∷ 0 ∷ []) "|" (refusal 16)
     ∷ []
 
-pub in-order-hold : answers inOrder ≡ expected inOrder
+pub in_order_hold : answers in_order ≡ expected in_order
 unfolding answers
-in-order-hold = refl
+in_order_hold = refl
 
 -- 7 is last.
-abbrev pub noRoom : List Row
-noRoom =
+abbrev pub no_room : List Row
+no_room =
     onto 0 (0 ∷ 49 ∷ 0 ∷ []) "" (refusal 15)
     ∷ onto 3 (0 ∷ 42 ∷ 2 ∷ 33 ∷ 1 ∷ 37 ∷ 0 ∷ 1 ∷ []) "|" (refusal 16)
     ∷ onto 6 (0 ∷ 33 ∷ 1 ∷ []) "" (refusal 7)
     ∷ onto 7 (0 ∷ 33 ∷ 1 ∷ []) "" (bytes "() true")
     ∷ []
 
-pub no-room-hold : answers noRoom ≡ expected noRoom
+pub no_room_hold : answers no_room ≡ expected no_room
 unfolding answers
-no-room-hold = refl
+no_room_hold = refl
 
 -- The list, one space, the term. A numeral has 128 bits and no sign; a fresh number has 64 bits.
 abbrev pub forms : List Row
@@ -85,9 +85,9 @@ forms =
     ∷ on (0 ∷ 51 ∷ 2 ∷ 4 ∷ 0 ∷ 1 ∷ 4 ∷ 0 ∷ 2 ∷ 36 ∷ 4 ∷ 0 ∷ []) "" (bytes "() (exists ((|v 4| Int) (|v 4| Bool)) |v 4|)")
     ∷ []
 
-pub forms-hold : answers forms ≡ expected forms
+pub forms_hold : answers forms ≡ expected forms
 unfolding answers
-forms-hold = refl
+forms_hold = refl
 
 -- Every name stands in bars behind its letter, and so meets no other symbol.
 abbrev pub names : List Row
@@ -98,9 +98,9 @@ names =
     ∷ on (0 ∷ 37 ∷ 0 ∷ 3 ∷ []) "x y" (bytes "() |n x y|")
     ∷ []
 
-pub names-hold : answers names ≡ expected names
+pub names_hold : answers names ≡ expected names
 unfolding answers
-names-hold = refl
+names_hold = refl
 
 -- Every operator and every relation.
 abbrev pub operators : List Row
@@ -122,9 +122,9 @@ operators =
     ∷ on (0 ∷ 41 ∷ 33 ∷ 1 ∷ 32 ∷ 1 ∷ 0 ∷ 0 ∷ 0 ∷ 32 ∷ 2 ∷ 0 ∷ 0 ∷ 0 ∷ []) "" (bytes "() (ite true 1 2)")
     ∷ []
 
-pub operators-hold : answers operators ≡ expected operators
+pub operators_hold : answers operators ≡ expected operators
 unfolding answers
-operators-hold = refl
+operators_hold = refl
 
 -- And and Or of none, one and more, at every depth and never merged; an exists of none is its body.
 abbrev pub folded : List Row
@@ -140,9 +140,9 @@ folded =
     ∷ on (0 ∷ 51 ∷ 1 ∷ 1 ∷ 0 ∷ 1 ∷ 51 ∷ 1 ∷ 2 ∷ 0 ∷ 2 ∷ 33 ∷ 1 ∷ []) "" (bytes "() (exists ((|v 1| Int)) (exists ((|v 2| Bool)) true))")
     ∷ []
 
-pub folded-hold : answers folded ≡ expected folded
+pub folded_hold : answers folded ≡ expected folded
 unfolding answers
-folded-hold = refl
+folded_hold = refl
 
 -- A let of a name, a constructor test, strings.
 abbrev pub others : List Row
@@ -155,13 +155,13 @@ others =
     ∷ on (0 ∷ 34 ∷ 0 ∷ 0 ∷ []) "" (bytes "() \"\"")
     ∷ []
 
-pub others-hold : answers others ≡ expected others
+pub others_hold : answers others ≡ expected others
 unfolding answers
-others-hold = refl
+others_hold = refl
 
 -- A let of a fresh number: the number may be any, also one that is bound already; binding and body are written where they stand.
-abbrev pub freshLets : List Row
-freshLets =
+abbrev pub fresh_lets : List Row
+fresh_lets =
     on (1 ∷ 0 ∷ 0 ∷ 1 ∷ 52 ∷ 1 ∷ 0 ∷ 32 ∷ 1 ∷ 0 ∷ 0 ∷ 0 ∷ 47 ∷ 4 ∷ 36 ∷ 1 ∷ 0 ∷ 32 ∷ 2 ∷ 0 ∷ 0 ∷ 0 ∷ []) "" (bytes "((|v 0| Int)) (let ((|v 1| 1)) (< |v 1| 2))")
     ∷ on (0 ∷ 52 ∷ 0 ∷ 1 ∷ 33 ∷ 1 ∷ 36 ∷ 0 ∷ 1 ∷ []) "" (bytes "() (let ((|v 4294967296| true)) |v 4294967296|)")
     ∷ on (0 ∷ 52 ∷ 4294967295 ∷ 4294967295 ∷ 33 ∷ 1 ∷ 33 ∷ 0 ∷ []) "" (bytes "() (let ((|v 18446744073709551615| true)) false)")
@@ -181,9 +181,9 @@ freshLets =
     ∷ onto 29 (0 ∷ 52 ∷ 3 ∷ 0 ∷ 33 ∷ 1 ∷ 36 ∷ 3 ∷ 0 ∷ []) "" (bytes "() (let ((|v 3| true)) |v 3|)")
     ∷ []
 
-pub fresh-lets-hold : answers freshLets ≡ expected freshLets
+pub fresh_lets_hold : answers fresh_lets ≡ expected fresh_lets
 unfolding answers
-fresh-lets-hold = refl
+fresh_lets_hold = refl
 
 -- 16 for these bytes in names and in strings; only the bytes of the span count.
 abbrev pub unprintables : List Row
@@ -198,20 +198,20 @@ unprintables =
     ∷ on (0 ∷ 37 ∷ 0 ∷ 2 ∷ []) " ~" (bytes "() |n  ~|")
     ∷ []
 
-pub unprintables-hold : answers unprintables ≡ expected unprintables
+pub unprintables_hold : answers unprintables ≡ expected unprintables
 unfolding answers
-unprintables-hold = refl
+unprintables_hold = refl
 
 -- Neither sorts nor numbers of arguments are judged.
-abbrev pub notJudged : List Row
-notJudged =
+abbrev pub not_judged : List Row
+not_judged =
     on (0 ∷ 44 ∷ 32 ∷ 5 ∷ 0 ∷ 0 ∷ 0 ∷ []) "" (bytes "() (not 5)")
     ∷ on (0 ∷ 38 ∷ 0 ∷ 1 ∷ 32 ∷ 1 ∷ 0 ∷ 0 ∷ 0 ∷ 49 ∷ 27 ∷ []) "" (bytes "() (bvadd 1)")
     ∷ []
 
-pub not-judged-hold : answers notJudged ≡ expected notJudged
+pub not_judged_hold : answers not_judged ≡ expected not_judged
 unfolding answers
-not-judged-hold = refl
+not_judged_hold = refl
 
 -- The head stands first, the output sort is skipped; without arguments it is its head, whatever that is.
 abbrev pub applications : List Row
@@ -225,9 +225,9 @@ applications =
     ∷ on (0 ∷ 38 ∷ 1 ∷ 0 ∷ 1 ∷ 42 ∷ 2 ∷ 37 ∷ 0 ∷ 1 ∷ 37 ∷ 1 ∷ 1 ∷ []) "xy" (bytes "() (and |n x| |n y|)")
     ∷ []
 
-pub applications-hold : answers applications ≡ expected applications
+pub applications_hold : answers applications ≡ expected applications
 unfolding answers
-applications-hold = refl
+applications_hold = refl
 
 -- With arguments the head is a variable or a bit-vector function, by its own kind; its 15 stands behind the arguments and before what is inside it.
 abbrev pub heads : List Row
@@ -241,9 +241,9 @@ heads =
     ∷ on (0 ∷ 38 ∷ 0 ∷ 0 ∷ 34 ∷ 0 ∷ 1 ∷ []) "|" (refusal 16)
     ∷ []
 
-pub heads-hold : answers heads ≡ expected heads
+pub heads_hold : answers heads ≡ expected heads
 unfolding answers
-heads-hold = refl
+heads_hold = refl
 
 -- The theory functions 9 to 31 are written as heads only; all others are 15 everywhere.
 abbrev pub functions : List Row
@@ -286,9 +286,9 @@ functions =
     ∷ on (0 ∷ 49 ∷ 42 ∷ []) "" (refusal 14)
     ∷ []
 
-pub functions-hold : answers functions ≡ expected functions
+pub functions_hold : answers functions ≡ expected functions
 unfolding answers
-functions-hold = refl
+functions_hold = refl
 
 -- Sorts.
 abbrev pub sorts : List Row
@@ -304,9 +304,9 @@ sorts =
     ∷ on (2 ∷ 0 ∷ 0 ∷ 1 ∷ 1 ∷ 0 ∷ 10 ∷ 1 ∷ 2 ∷ 10 ∷ 2 ∷ 0 ∷ 1 ∷ 1 ∷ 10 ∷ 2 ∷ 0 ∷ 1 ∷ 0 ∷ 5 ∷ 6 ∷ 8 ∷ 33 ∷ 1 ∷ []) "T" (bytes "((|v 0| Int) (|v 1| (Array (|s T| |s T|) (_ BitVec 8)))) true")
     ∷ []
 
-pub sorts-hold : answers sorts ≡ expected sorts
+pub sorts_hold : answers sorts ≡ expected sorts
 unfolding answers
-sorts-hold = refl
+sorts_hold = refl
 
 -- 15 at the own kind word of a sort, before what is inside; the name of a Data sort before its sorts.
 abbrev pub unwritables : List Row
@@ -324,9 +324,9 @@ unwritables =
     ∷ on (0 ∷ 51 ∷ 1 ∷ 0 ∷ 0 ∷ 6 ∷ 3 ∷ 33 ∷ 1 ∷ []) "" (refusal 15)
     ∷ []
 
-pub unwritables-hold : answers unwritables ≡ expected unwritables
+pub unwritables_hold : answers unwritables ≡ expected unwritables
 unfolding answers
-unwritables-hold = refl
+unwritables_hold = refl
 
 -- BvSize is written in BitVec only; a width of 0 and a value of 2^width or more are 15.
 abbrev pub widths : List Row
@@ -341,6 +341,6 @@ widths =
     ∷ on (0 ∷ 35 ∷ 4294967295 ∷ 4294967295 ∷ 4294967295 ∷ 4294967295 ∷ 128 ∷ []) "" (bytes "() (_ bv340282366920938463463374607431768211455 128)")
     ∷ []
 
-pub widths-hold : answers widths ≡ expected widths
+pub widths_hold : answers widths ≡ expected widths
 unfolding answers
-widths-hold = refl
+widths_hold = refl

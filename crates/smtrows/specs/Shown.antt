@@ -3,8 +3,8 @@ use Rattle.std.specs.Prelude.{ℕ, List, map, replicate}
 use Prim.Native.String.{String}
 use Rattle.reading.specs.Bytes.{ascii}
 use Rattle.reading.specs.Answer.{Final, accepts, refuses}
-use Rattle.smt.specs.Operation.{smtlibFinal}
-use Rattle.smt.specs.Compute.{smtComputes}
+use Rattle.smt.specs.Operation.{smtlib_final}
+use Rattle.smt.specs.Compute.{smt_computes}
 
 -- A refusal's number, or the bytes written.
 pub data Shown : Type 0 where
@@ -34,8 +34,8 @@ on words text answer = onto 80 words text answer
 
 -- What the definitions answer to the rows of a table.
 unfoldable pub answers : List Row → List Shown
-unfolding smtComputes
-answers rows = map (λ r. shown (smtlibFinal r.words (ascii r.text) (replicate r.room 0))) rows
+unfolding smt_computes
+answers rows = map (λ r. shown (smtlib_final r.words (ascii r.text) (replicate r.room 0))) rows
 
 abbrev pub expected : List Row → List Shown
 expected rows = map (λ r. r.answer) rows

@@ -4,8 +4,8 @@ use Rattle.std.specs.Prelude.{ℕ, ◌≡◌, refl, List, [], ◌∷◌, ◌++�
 use Prim.Native.String.{String}
 use Rattle.reading.specs.Bytes.{ascii}
 use Rattle.reading.specs.Answer.{Said, accepted, refused}
-use Rattle.smt.specs.Operation.{smtlibSaid, smtlibOut}
-use Rattle.smt.specs.Compute.{smtComputes}
+use Rattle.smt.specs.Operation.{smtlib_said, smtlib_out}
+use Rattle.smt.specs.Compute.{smt_computes}
 
 -- Words, the text lent with them, the length of the output, and what is said and left.
 pub record Row : Type 0 where
@@ -30,18 +30,18 @@ rows =
     ∷ row (0 ∷ []) "" 3 (refused 14) (replicate 3 0)
     ∷ []
 
-unfoldable pub saidBy : List Row → List Said
-unfolding smtComputes
-saidBy l = map (λ r. smtlibSaid r.words (ascii r.text) (replicate r.room 7)) l
+unfoldable pub said_by : List Row → List Said
+unfolding smt_computes
+said_by l = map (λ r. smtlib_said r.words (ascii r.text) (replicate r.room 7)) l
 
-unfoldable pub leftBy : List Row → List (List ℕ)
-unfolding smtComputes
-leftBy l = map (λ r. smtlibOut r.words (ascii r.text) (replicate r.room 7)) l
+unfoldable pub left_by : List Row → List (List ℕ)
+unfolding smt_computes
+left_by l = map (λ r. smtlib_out r.words (ascii r.text) (replicate r.room 7)) l
 
-pub said-hold : saidBy rows ≡ map (λ r. r.said) rows
-unfolding saidBy
-said-hold = refl
+pub said_hold : said_by rows ≡ map (λ r. r.said) rows
+unfolding said_by
+said_hold = refl
 
-pub slices-hold : leftBy rows ≡ map (λ r. r.left) rows
-unfolding leftBy
-slices-hold = refl
+pub slices_hold : left_by rows ≡ map (λ r. r.left) rows
+unfolding left_by
+slices_hold = refl

@@ -8,7 +8,7 @@ use denote.Enum.Declared.{tag_of}
 use Rattle.nodes.specs.contracts.kind.Node.{the_type}
 use Rattle.nodes.specs.declared.kind.Node.{Node}
 use Rattle.nodes.specs.declared.kind.Node.TheVariants as told
-use Rattle.smtseams.specs.Seams.{nodeLets, nodeCloses}
+use Rattle.smtseams.specs.Seams.{node_lets, node_closes}
 
 -- One of the kinds with these numbers, from 0 in the order in which the code declares them.
 abbrev pub Among : List ℕ → Node → Type 0
@@ -18,7 +18,7 @@ Among ks node = OneOf ks (tag_of the_type node)
 abbrev lets-left : List ℕ
 lets-left = 0 ∷ 1 ∷ 2 ∷ 3 ∷ 4 ∷ 5 ∷ 6 ∷ 7 ∷ 8 ∷ 9 ∷ 10 ∷ 11 ∷ 12 ∷ 13 ∷ 14 ∷ 16 ∷ 17 ∷ 18 ∷ 20 ∷ []
 
-pub rest-lets : (node : Node) → Among lets-left node → false ≡ nodeLets node
+pub rest-lets : (node : Node) → Among lets-left node → false ≡ node_lets node
 rest-lets (told.Num a b c d) h = refl
 rest-lets (told.Bool b) h = refl
 rest-lets (told.Str start len) h = refl
@@ -45,7 +45,7 @@ rest-lets told.Other h = refl
 abbrev closes-left : List ℕ
 closes-left = 6 ∷ 7 ∷ 8 ∷ 11 ∷ 12 ∷ 13 ∷ 14 ∷ 15 ∷ 17 ∷ 19 ∷ []
 
-pub rest-closes : (node : Node) (n : ℕ) → Among closes-left node → true ≡ nodeCloses node n
+pub rest-closes : (node : Node) (n : ℕ) → Among closes-left node → true ≡ node_closes node n
 rest-closes (told.Num a b c d) n h = absurd (miss closes-left 0 tt h)
 rest-closes (told.Bool b) n h = absurd (miss closes-left 1 tt h)
 rest-closes (told.Str start len) n h = absurd (miss closes-left 2 tt h)

@@ -5,64 +5,64 @@ use Rattle.nodes.specs.declared.kind.Node.{Node}
 use Rattle.nodes.specs.declared.kind.Node.TheVariants as told
 
 -- Between two operands.
-abbrev pub seamOf : Bool → List ℕ
-seamOf true = ascii ")) "
-seamOf false = ascii " "
+abbrev pub seam_of : Bool → List ℕ
+seam_of true = ascii ")) "
+seam_of false = ascii " "
 
 -- Before an operand: nothing before the first one.
 abbrev pub gap_of : Bool → Bool → List ℕ
 gap_of true inLet = []
-gap_of false inLet = seamOf inLet
+gap_of false inLet = seam_of inLet
 
 -- Between two operands there are other bytes in a let.
-abbrev pub nodeLets : Node → Bool
-nodeLets (told.Num a b c d) = false
-nodeLets (told.Bool b) = false
-nodeLets (told.Str start len) = false
-nodeLets (told.BitVec a b c d width) = false
-nodeLets (told.Fresh k) = false
-nodeLets (told.Named start len) = false
-nodeLets told.Neg = false
-nodeLets (told.Bin op) = false
-nodeLets told.If = false
-nodeLets told.And = false
-nodeLets told.Or = false
-nodeLets told.Not = false
-nodeLets told.Imp = false
-nodeLets told.Iff = false
-nodeLets (told.Atom r) = false
-nodeLets (told.Let start len) = true
-nodeLets (told.Theory k) = false
-nodeLets (told.IsCtor start len) = false
-nodeLets (told.Exists m) = false
-nodeLets (told.LetFresh k) = true
-nodeLets told.Other = false
+abbrev pub node_lets : Node → Bool
+node_lets (told.Num a b c d) = false
+node_lets (told.Bool b) = false
+node_lets (told.Str start len) = false
+node_lets (told.BitVec a b c d width) = false
+node_lets (told.Fresh k) = false
+node_lets (told.Named start len) = false
+node_lets told.Neg = false
+node_lets (told.Bin op) = false
+node_lets told.If = false
+node_lets told.And = false
+node_lets told.Or = false
+node_lets told.Not = false
+node_lets told.Imp = false
+node_lets told.Iff = false
+node_lets (told.Atom r) = false
+node_lets (told.Let start len) = true
+node_lets (told.Theory k) = false
+node_lets (told.IsCtor start len) = false
+node_lets (told.Exists m) = false
+node_lets (told.LetFresh k) = true
+node_lets told.Other = false
 
 -- A parenthesis stands behind the operands.
-abbrev pub nodeCloses : Node → ℕ → Bool
-nodeCloses (told.Num a b c d) n = false
-nodeCloses (told.Bool b) n = false
-nodeCloses (told.Str start len) n = false
-nodeCloses (told.BitVec a b c d width) n = false
-nodeCloses (told.Fresh k) n = false
-nodeCloses (told.Named start len) n = false
-nodeCloses told.Neg n = true
-nodeCloses (told.Bin op) n = true
-nodeCloses told.If n = true
-nodeCloses told.And n = leb 2 n
-nodeCloses told.Or n = leb 2 n
-nodeCloses told.Not n = true
-nodeCloses told.Imp n = true
-nodeCloses told.Iff n = true
-nodeCloses (told.Atom r) n = true
-nodeCloses (told.Let start len) n = true
-nodeCloses (told.Theory k) n = false
-nodeCloses (told.IsCtor start len) n = true
-nodeCloses (told.Exists m) n = ltb 0 m
-nodeCloses (told.LetFresh k) n = true
-nodeCloses told.Other n = false
+abbrev pub node_closes : Node → ℕ → Bool
+node_closes (told.Num a b c d) n = false
+node_closes (told.Bool b) n = false
+node_closes (told.Str start len) n = false
+node_closes (told.BitVec a b c d width) n = false
+node_closes (told.Fresh k) n = false
+node_closes (told.Named start len) n = false
+node_closes told.Neg n = true
+node_closes (told.Bin op) n = true
+node_closes told.If n = true
+node_closes told.And n = leb 2 n
+node_closes told.Or n = leb 2 n
+node_closes told.Not n = true
+node_closes told.Imp n = true
+node_closes told.Iff n = true
+node_closes (told.Atom r) n = true
+node_closes (told.Let start len) n = true
+node_closes (told.Theory k) n = false
+node_closes (told.IsCtor start len) n = true
+node_closes (told.Exists m) n = ltb 0 m
+node_closes (told.LetFresh k) n = true
+node_closes told.Other n = false
 
 -- The parenthesis, if there is one.
-abbrev pub closeText : Bool → List ℕ
-closeText true = 41 ∷ []
-closeText false = []
+abbrev pub close_text : Bool → List ℕ
+close_text true = 41 ∷ []
+close_text false = []

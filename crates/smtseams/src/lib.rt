@@ -1,14 +1,14 @@
 // What stands between the operands of an SMT-LIB term and behind them.
 ghost use Rattle.std.specs.Prelude.{◌≡◌};
 ghost use Rattle.writing.specs.Wrote.{WroteBytes};
-ghost use Rattle.smtseams.specs.Seams.{seamOf, closeText, nodeLets, nodeCloses};
+ghost use Rattle.smtseams.specs.Seams.{seam_of, close_text, node_lets, node_closes};
 
 use nodes::kind::Node;
 use writing::{byte, bytes};
 
 // A let's value and body stand apart otherwise than other operands.
 pub fn lets(node: Node) -> bool
-    ensures { result ≡ nodeLets node }
+    ensures { result ≡ node_lets node }
 {
     match node {
         Node::Let(_, _) => true,
@@ -19,7 +19,7 @@ pub fn lets(node: Node) -> bool
 
 // A parenthesis stands behind the operands.
 pub fn closes(node: Node, n: u32) -> bool
-    ensures { result ≡ nodeCloses node n }
+    ensures { result ≡ node_closes node n }
 {
     match node {
         Node::Num(_, _, _, _) => false,
@@ -39,7 +39,7 @@ pub fn closes(node: Node, n: u32) -> bool
 
 // Between two operands.
 pub fn seam(in_let: bool, out: &mut [u8], place: usize) -> usize
-    ensures { WroteBytes out.old place (seamOf in_let) out.new result }
+    ensures { WroteBytes out.old place (seam_of in_let) out.new result }
 {
     if in_let {
         return bytes(b")) ", out, place);
@@ -49,7 +49,7 @@ pub fn seam(in_let: bool, out: &mut [u8], place: usize) -> usize
 
 // Behind the operands.
 pub fn close(closed: bool, out: &mut [u8], place: usize) -> usize
-    ensures { WroteBytes out.old place (closeText closed) out.new result }
+    ensures { WroteBytes out.old place (close_text closed) out.new result }
 {
     if closed {
         return byte(out, place, 41);

@@ -1,5 +1,5 @@
 // The bytes of a sort that stand before the sorts inside it.
-ghost use Rattle.smtsorts.specs.SortNode.{widthText, arrayText, dataText, openText};
+ghost use Rattle.smtsorts.specs.SortNode.{width_text, array_text, data_text, open_text};
 ghost use Rattle.smtnames.specs.Written.{TellsPiece};
 
 use smtnames::answers::Written;
@@ -9,7 +9,7 @@ use writing::{byte, bytes, decimal_word};
 
 // A BitVec of a width.
 fn bit_vec(width: u32, out: &mut [u8], place: usize) -> Written
-    ensures { TellsPiece (widthText width) out.old place out.new result }
+    ensures { TellsPiece (width_text width) out.old place out.new result }
 {
     if width == 0 {
         return Written::No(15);
@@ -21,7 +21,7 @@ fn bit_vec(width: u32, out: &mut [u8], place: usize) -> Written
 
 // An Array of so many sorts.
 fn array(n: u32, out: &mut [u8], place: usize) -> Written
-    ensures { TellsPiece (arrayText n) out.old place out.new result }
+    ensures { TellsPiece (array_text n) out.old place out.new result }
 {
     if n == 2 {
         return Written::To(bytes(b"(Array ", out, place));
@@ -31,7 +31,7 @@ fn array(n: u32, out: &mut [u8], place: usize) -> Written
 
 // A Data sort of so many sorts.
 fn data(text: &[u8], start: u32, len: u32, n: u32, out: &mut [u8], place: usize) -> Written
-    ensures { TellsPiece (dataText text.now start len n) out.old place out.new result }
+    ensures { TellsPiece (data_text text.now start len n) out.old place out.new result }
 {
     if n == 0 {
         return name(115, text, start, len, out, place);
@@ -45,7 +45,7 @@ fn data(text: &[u8], start: u32, len: u32, n: u32, out: &mut [u8], place: usize)
 
 // The bytes of a sort before the sorts inside it.
 pub fn opened(node: SortNode, text: &[u8], out: &mut [u8], place: usize) -> Written
-    ensures { TellsPiece (openText text.now node) out.old place out.new result }
+    ensures { TellsPiece (open_text text.now node) out.old place out.new result }
 {
     match node {
         SortNode::Int => Written::To(bytes(b"Int", out, place)),

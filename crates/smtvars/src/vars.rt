@@ -1,8 +1,8 @@
 // Sorted variables.
 ghost use Rattle.std.specs.Prelude.{◌≡◌, List, ℕ};
 ghost use Rattle.grammar.specs.Expr.{Binder};
-ghost use Rattle.judging.specs.Judge.{reads, binderAt, bindersAt};
-ghost use Rattle.smtnames.specs.Pieces.{varText, varsText};
+ghost use Rattle.judging.specs.Judge.{reads, binder_at, binders_at};
+ghost use Rattle.smtnames.specs.Pieces.{var_text, vars_text};
 ghost use Rattle.smtnames.specs.Written.{TellsPart};
 
 use nodes::kind::word_at;
@@ -14,7 +14,7 @@ use writing::byte;
 
 // A sorted variable in parentheses.
 fn var(words: &[u32], at: usize, text: &[u8], out: &mut [u8], place: usize) -> Walked
-    ensures { (limit : ℕ) (b : Binder) (n : ℕ) → binderAt limit words.now at ≡ reads b n → TellsPart n (varText text.now b) out.old place out.new result }
+    ensures { (limit : ℕ) (b : Binder) (n : ℕ) → binder_at limit words.now at ≡ reads b n → TellsPart n (var_text text.now b) out.old place out.new result }
 {
     // Never, where the words are a binder.
     if words.len() <= at {
@@ -32,7 +32,7 @@ fn var(words: &[u32], at: usize, text: &[u8], out: &mut [u8], place: usize) -> W
 
 // So many sorted variables, one space apart, in parentheses.
 pub fn vars(words: &[u32], at: usize, n: u32, text: &[u8], out: &mut [u8], place: usize) -> Walked
-    ensures { (limit : ℕ) (bs : List Binder) (m : ℕ) → bindersAt limit n words.now at ≡ reads bs m → TellsPart m (varsText text.now bs) out.old place out.new result }
+    ensures { (limit : ℕ) (bs : List Binder) (m : ℕ) → binders_at limit n words.now at ≡ reads bs m → TellsPart m (vars_text text.now bs) out.old place out.new result }
 {
     let mut a = at;
     let mut p = byte(out, place, 40);

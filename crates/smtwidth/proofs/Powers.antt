@@ -7,9 +7,9 @@ use native.Mathlib.Nat.{add-zero, add-suc, mul-suc, mul_assoc, pow-suc, pow-le-p
 use lib.Dec.{ltb}
 use borrow.Author.Tests.{lt-ltb, le-ltb, ltb-true, ltb-false}
 use Rattle.reading.specs.Number.{Wide, value_of}
-use Rattle.reading.proofs.Picks.{pick-eq, pick-ne}
-use Rattle.writing.proofs.Quads.{quad-below}
-use Rattle.smt.specs.Writer.{fitsWidth}
+use Rattle.reading.proofs.Picks.{pick_eq, pick_ne}
+use Rattle.writing.proofs.Quads.{quad_below}
+use Rattle.smt.specs.Writer.{fits_width}
 
 two-more : (i j : ℕ) → i ≤ j → 2 ^ i ≤ 2 ^ j
 two-more i j h = pow-le-pow_right {n = 2} (omega arith) {i = i} {j = j} h
@@ -19,8 +19,8 @@ pub record Doubled (e p i : ℕ) : Type 0 where
   pub power : p ≡ 2 ^ (e - i)
   pub upto : i ≤ e
 
-pub double-none : (e : ℕ) → Doubled e 1 e
-double-none e =
+pub double_none : (e : ℕ) → Doubled e 1 e
+double_none e =
     let z : e - e ≡ 0 = omega arith in
     record { power = sym (ap (λ (k : ℕ). 2 ^ k) z); upto = omega arith }
 
@@ -30,16 +30,16 @@ module _ {e p i : ℕ} (d : Doubled e p i) where
       let z : e - (i - 1) ≡ suc (e - i) = omega (arith, h, d.upto) in
       ap (λ (k : ℕ). k * 2) d.power ∙ sym (pow-suc 2 (e - i)) ∙ ap (λ (k : ℕ). 2 ^ k) (sym z)
 
-  pub double-fits : 0 < i → e < 32 → p * 2 < 2 ^ 32
-  double-fits h l =
+  pub double_fits : 0 < i → e < 32 → p * 2 < 2 ^ 32
+  double_fits h l =
       let m : 2 ^ (e - (i - 1)) ≤ 2 ^ 31 = two-more (e - (i - 1)) 31 (omega (arith, h, l)) in
       omega (arith, m, next_power h)
 
-  pub double-next : 0 < i → Doubled e (p * 2) (i - 1)
-  double-next h = record { power = next_power h; upto = omega (arith, d.upto) }
+  pub double_next : 0 < i → Doubled e (p * 2) (i - 1)
+  double_next h = record { power = next_power h; upto = omega (arith, d.upto) }
 
-  pub double-all : i ≤ 0 → p ≡ 2 ^ e
-  double-all h =
+  pub double_all : i ≤ 0 → p ≡ 2 ^ e
+  double_all h =
       let z : e - i ≡ e = omega (arith, h) in
       d.power ∙ ap (λ (k : ℕ). 2 ^ k) z
 
@@ -72,57 +72,57 @@ highest k low x e h =
     omega (arith, m, power-sum k e)
 
 module _ (w : Wide) (width : ℕ) where
-  pub fits-never : width ≡ 0 → false ≡ fitsWidth w width
-  unfolding fitsWidth
-  fits-never h = pick-eq _ h refl
+  pub fits-never : width ≡ 0 → false ≡ fits_width w width
+  unfolding fits_width
+  fits-never h = pick_eq _ h refl
 
-  fits-some : {t : Bool} → (width ≡ 0 → ⊥) → t ≡ ltb (value_of w) (2 ^ width) → t ≡ fitsWidth w width
-  unfolding fitsWidth
-  fits-some h e = pick-ne false h e
+  fits-some : {t : Bool} → (width ≡ 0 → ⊥) → t ≡ ltb (value_of w) (2 ^ width) → t ≡ fits_width w width
+  unfolding fits_width
+  fits-some h e = pick_ne false h e
 
   -- A word stands too high.
-  fits-over : (k : ℕ) → (width ≡ 0 → ⊥) → width ≤ k → 2 ^ k ≤ value_of w → false ≡ fitsWidth w width
+  fits-over : (k : ℕ) → (width ≡ 0 → ⊥) → width ≤ k → 2 ^ k ≤ value_of w → false ≡ fits_width w width
   fits-over k h l m = fits-some h (sym (le-ltb (value_of w) (2 ^ width) (le_trans (two-more width k l) m)))
 
   -- By the highest word that is not 0, whose place is k.
-  fits_by : (k low x : ℕ) {p : ℕ} → (width ≡ 0 → ⊥) → k ≤ width → low < 2 ^ k → value_of w ≡ low + 2 ^ k * x → p ≡ 2 ^ (width - k) → ltb x p ≡ fitsWidth w width
+  fits_by : (k low x : ℕ) {p : ℕ} → (width ≡ 0 → ⊥) → k ≤ width → low < 2 ^ k → value_of w ≡ low + 2 ^ k * x → p ≡ 2 ^ (width - k) → ltb x p ≡ fits_width w width
   fits_by k low x {p} h l m v e =
       let z : k + (width - k) ≡ width = omega (arith, l) in
       fits-some h
       (ap (ltb x) e ∙ highest k low x (width - k) m ∙ ap (ltb (low + 2 ^ k * x)) (ap (λ (n : ℕ). 2 ^ n) z) ∙ ap (λ (n : ℕ). ltb n (2 ^ width)) (sym v))
 
   module _ (some : width ≡ 0 → ⊥) (ha : w.a < 2 ^ 32) (hb : w.b < 2 ^ 32) (hc : w.c < 2 ^ 32) where
-    pub fits_all : w.d < 2 ^ 32 → 128 ≤ width → true ≡ fitsWidth w width
+    pub fits_all : w.d < 2 ^ 32 → 128 ≤ width → true ≡ fits_width w width
     fits_all hd h =
-        fits-some some (sym (lt-ltb (value_of w) (2 ^ width) (le_trans (quad-below w ha hb hc hd) (two-more 128 width h))))
+        fits-some some (sym (lt-ltb (value_of w) (2 ^ width) (le_trans (quad_below w ha hb hc hd) (two-more 128 width h))))
 
-    pub fits-d : {p : ℕ} → 96 ≤ width → p ≡ 2 ^ (width - 96) → ltb w.d p ≡ fitsWidth w width
+    pub fits-d : {p : ℕ} → 96 ≤ width → p ≡ 2 ^ (width - 96) → ltb w.d p ≡ fits_width w width
     unfolding value_of
     fits-d h e = fits_by 96 (w.a + 2 ^ 32 * (w.b + 2 ^ 32 * w.c)) w.d some h (omega (arith, ha, hb, hc)) (omega arith) e
 
-    pub over-d : width < 96 → (w.d ≡ 0 → ⊥) → false ≡ fitsWidth w width
+    pub over-d : width < 96 → (w.d ≡ 0 → ⊥) → false ≡ fits_width w width
     unfolding value_of
     over-d h d = fits-over 96 some (omega (arith, h)) (omega (arith, d))
 
     module _ (zd : w.d ≡ 0) where
-      pub fits-c : {p : ℕ} → 64 ≤ width → p ≡ 2 ^ (width - 64) → ltb w.c p ≡ fitsWidth w width
+      pub fits-c : {p : ℕ} → 64 ≤ width → p ≡ 2 ^ (width - 64) → ltb w.c p ≡ fits_width w width
       unfolding value_of
       fits-c h e = fits_by 64 (w.a + 2 ^ 32 * w.b) w.c some h (omega (arith, ha, hb)) (omega (arith, zd)) e
 
-      pub over-c : width < 64 → (w.c ≡ 0 → ⊥) → false ≡ fitsWidth w width
+      pub over-c : width < 64 → (w.c ≡ 0 → ⊥) → false ≡ fits_width w width
       unfolding value_of
       over-c h c = fits-over 64 some (omega (arith, h)) (omega (arith, c))
 
       module _ (zc : w.c ≡ 0) where
-        pub fits-b : {p : ℕ} → 32 ≤ width → p ≡ 2 ^ (width - 32) → ltb w.b p ≡ fitsWidth w width
+        pub fits-b : {p : ℕ} → 32 ≤ width → p ≡ 2 ^ (width - 32) → ltb w.b p ≡ fits_width w width
         unfolding value_of
         fits-b h e = fits_by 32 w.a w.b some h ha (omega (arith, zd, zc)) e
 
-        pub over-b : width < 32 → (w.b ≡ 0 → ⊥) → false ≡ fitsWidth w width
+        pub over-b : width < 32 → (w.b ≡ 0 → ⊥) → false ≡ fits_width w width
         unfolding value_of
         over-b h b = fits-over 32 some (omega (arith, h)) (omega (arith, b))
 
-        pub fits-a : {p : ℕ} → w.b ≡ 0 → p ≡ 2 ^ width → ltb w.a p ≡ fitsWidth w width
+        pub fits-a : {p : ℕ} → w.b ≡ 0 → p ≡ 2 ^ width → ltb w.a p ≡ fits_width w width
         unfolding value_of
         fits-a zb e =
             let z : width - 0 ≡ width = omega arith in

@@ -1,7 +1,7 @@
 // Numbers that are values of a width, in bits.
 ghost use Rattle.std.specs.Prelude.{◌≡◌, ◌<◌, ◌^◌};
 ghost use Rattle.writing.specs.Quads.{as_wide};
-ghost use Rattle.smt.specs.Writer.{fitsWidth};
+ghost use Rattle.smt.specs.Writer.{fits_width};
 
 use writing::Quad;
 
@@ -21,7 +21,7 @@ fn power(e: u32) -> u32
 
 // A number is a value of a width.
 pub fn fits(q: Quad, width: u32) -> bool
-    ensures { result ≡ fitsWidth (as_wide q) width }
+    ensures { result ≡ fits_width (as_wide q) width }
 {
     if width == 0 {
         return false;

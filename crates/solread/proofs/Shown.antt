@@ -10,18 +10,18 @@ use Rattle.reading.specs.Pick.{pick}
 use Rattle.reading.specs.Bytes.{Maybe, just}
 use Rattle.reading.proofs.Over.{over-length, over-fits}
 use Rattle.grammar.specs.Expr.{Solution}
-use Rattle.judging.specs.Judge.{judgeSolution}
+use Rattle.judging.specs.Judge.{judge_solution}
 use Rattle.flattening.specs.Uncurry.{flattened}
-use Rattle.flattening.specs.Operations.{noText}
+use Rattle.flattening.specs.Operations.{no_text}
 use Rattle.session.specs.Session.{final}
-use Rattle.show.specs.Lines.{refusalText, solutionText}
-use Rattle.show.specs.Shown.{text_of, wordsText, shown}
+use Rattle.show.specs.Lines.{refusal_text, solution_text}
+use Rattle.show.specs.Shown.{text_of, words_text, shown}
 use Rattle.show.proofs.Params.{text-length}
 use Rattle.show.proofs.Showing.{answering, reveals}
 use Rattle.replies.specs.declared.Said.{Said}
 use Rattle.replies.specs.declared.Said.TheVariants.{Accepted, Refused}
-use Rattle.replies.specs.Calls.{solutionCall}
-use Rattle.solread.specs.Printed.{finalText, slice, printed}
+use Rattle.replies.specs.Calls.{solution_call}
+use Rattle.solread.specs.Printed.{final_text, slice, printed}
 use Rattle.replies.proofs.Solved.{ToldSolution, solved, not-solved}
 
 -- So many bytes of the output are what is printed for the text.
@@ -40,35 +40,35 @@ unfolding slice
 slice-long = length-replicate {A = ℕ} 4096 0
 
 -- A text that is not too long is printed by what its call decides.
-by_call : (text : List ℕ) → length text ≤ 8192 → printed text ≡ finalText (final (solutionCall text slice slice slice) 0)
+by_call : (text : List ℕ) → length text ≤ 8192 → printed text ≡ final_text (final (solution_call text slice slice slice) 0)
 unfolding printed pick
 by_call text h = rw (le-ltb 8192 (length text) h) refl
 
 module _ (text out₀ : List ℕ) {out : List ℕ} {r : ℕ} (room : 36864 ≤ length out₀) where
   -- A refusal is printed.
-  refusing : (n : ℕ) → answering r out ≡ shown (just (refusalText n)) out₀ → printed text ≡ refusalText n → Shown text out r
-  unfolding refusalText
-  refusing n d e = let l = laid (refusalText n) out₀ refl (omega arith) d in (l.0, l.1 ∙ sym e)
+  refusing : (n : ℕ) → answering r out ≡ shown (just (refusal_text n)) out₀ → printed text ≡ refusal_text n → Shown text out r
+  unfolding refusal_text
+  refusing n d e = let l = laid (refusal_text n) out₀ refl (omega arith) d in (l.0, l.1 ∙ sym e)
 
   -- A text that is too long.
-  pub shown-long : 8192 < length text → answering r out ≡ shown (just (refusalText 1)) out₀ → Shown text out r
+  pub shown-long : 8192 < length text → answering r out ≡ shown (just (refusal_text 1)) out₀ → Shown text out r
   unfolding printed pick
   shown-long h d = refusing 1 d (rw (lt-ltb 8192 (length text) h) refl)
 
   module _ {c : ℕ} {said : Said} {words : List ℕ} (t : ToldSolution text slice slice slice c said words) (h : length text ≤ 8192) where
     -- A text that is refused.
-    pub shown-refused : {n : ℕ} → said ≡ Refused n → answering r out ≡ shown (just (refusalText n)) out₀ → Shown text out r
-    unfolding finalText
-    shown-refused {n} e d = refusing n d (by_call text h ∙ ap finalText (not-solved t e))
+    pub shown-refused : {n : ℕ} → said ≡ Refused n → answering r out ≡ shown (just (refusal_text n)) out₀ → Shown text out r
+    unfolding final_text
+    shown-refused {n} e d = refusing n d (by_call text h ∙ ap final_text (not-solved t e))
 
     -- A text that is accepted.
-    pub shown-accepted : {k j : ℕ} → said ≡ Accepted k j → answering r out ≡ shown (wordsText (take k words)) out₀ → Shown text out r
-    unfolding finalText wordsText
+    pub shown-accepted : {k j : ℕ} → said ≡ Accepted k j → answering r out ≡ shown (words_text (take k words)) out₀ → Shown text out r
+    unfolding final_text words_text
     shown-accepted {k} e d =
         let a = solved t e in
         let s : Solution = flattened a.before in
-        let l = laid (solutionText s) out₀ (ap (λ (l : List ℕ). text_of (judgeSolution noText l)) a.first ∙ ap text_of (a.back noText (omega (arith, h)))) (omega (arith, text-length s, a.size, a.inside, slice-long, room)) d in
-        (l.0, l.1 ∙ sym (by_call text h ∙ ap finalText a.is))
+        let l = laid (solution_text s) out₀ (ap (λ (l : List ℕ). text_of (judge_solution no_text l)) a.first ∙ ap text_of (a.back no_text (omega (arith, h)))) (omega (arith, text-length s, a.size, a.inside, slice-long, room)) d in
+        (l.0, l.1 ∙ sym (by_call text h ∙ ap final_text a.is))
 
 -- The words that are counted lie in the output.
 pub words_inside : {text : List ℕ} {c : ℕ} {said : Said} {words : List ℕ} → ToldSolution text slice slice slice c said words → {k j : ℕ} → said ≡ Accepted k j → k ≤ length words

@@ -2,10 +2,10 @@
 use Rattle.std.specs.Prelude.{◌≡◌, refl, List, [], ◌∷◌, map, ℕ, replicate}
 use Prim.Native.String.{String}
 use Rattle.reading.specs.Bytes.{ascii}
-use Rattle.session.specs.Compute.{readerComputes}
+use Rattle.session.specs.Compute.{reader_computes}
 use Rattle.writing.specs.Digits.{digit}
-use Rattle.show.specs.Lines.{line, refusalText, paramLines, solutionText}
-use Rattle.solread.specs.Printed.{finalText, slice, printed}
+use Rattle.show.specs.Lines.{line, refusal_text, param_lines, solution_text}
+use Rattle.solread.specs.Printed.{final_text, slice, printed}
 
 -- The bytes of a text, and what is printed for it.
 pub record Row : Type 0 where
@@ -30,6 +30,6 @@ rows =
     ∷ []
 
 -- What is printed for the texts of the table is what the table says.
-pub rows-hold : map (λ r. printed r.text) rows ≡ map (λ r. ascii r.lines) rows
-unfolding readerComputes digit line refusalText paramLines solutionText finalText slice printed
-rows-hold = refl
+pub rows_hold : map (λ r. printed r.text) rows ≡ map (λ r. ascii r.lines) rows
+unfolding reader_computes digit line refusal_text param_lines solution_text final_text slice printed
+rows_hold = refl

@@ -9,28 +9,28 @@ use lib.Dec.{leb}
 use lib.ListN.{length, take, drop, length-append}
 use lib.Seq.{take_at, drop-append-add}
 use Rattle.reading.specs.Pick.{pick}
-use Rattle.reading.specs.Answer.{number, noRoom, Ans, got, bad, and_then, accepts, refuses, over, outputOf}
+use Rattle.reading.specs.Answer.{number, no_room, Ans, got, bad, and_then, accepts, refuses, over, output_of}
 use Rattle.reading.proofs.Over.{over-length, over-fits}
 use Rattle.grammar.specs.Expr.{Solution}
-use Rattle.judging.specs.Judge.{Judged, reads, fails, judgeSolution}
+use Rattle.judging.specs.Judge.{Judged, reads, fails, judge_solution}
 use Rattle.judging.proofs.Taken.{same-value}
 use Rattle.writing.specs.Wrote.{WroteBytes}
 use Rattle.writing.proofs.Wrote.{either}
 use Rattle.smt.specs.Sexp.{list, print}
-use Rattle.smt.specs.Term.{Var, Term, varSxs, termSx, Closed, closedBytes}
-use Rattle.smt.specs.Writer.{varsOf, termOf, solutionTerm, written}
-use Rattle.smt.specs.Operation.{bytesFinal, smtlibBy, smtlibFinal, smtlibOut}
-use Rattle.smtnames.specs.Pieces.{varsText}
+use Rattle.smt.specs.Term.{Var, Term, var_sxs, term_sx, Closed, closed_bytes}
+use Rattle.smt.specs.Writer.{vars_of, term_of, solution_term, written}
+use Rattle.smt.specs.Operation.{bytes_final, smtlib_by, smtlib_final, smtlib_out}
+use Rattle.smtnames.specs.Pieces.{vars_text}
 use Rattle.smtlib.specs.Answers.{answer_of}
 use Rattle.smtlib.specs.declared.Answer.TheVariants as said
-use Rattle.solsmt.specs.Script.{commentLine, functionLine, closedText}
+use Rattle.solsmt.specs.Script.{comment_line, function_line, closed_text}
 
 -- The bytes of a list of variables, and of a term.
-abbrev pub listBytes : Closed → List ℕ
-listBytes c = print (list (varSxs c.vars))
+abbrev pub list_bytes : Closed → List ℕ
+list_bytes c = print (list (var_sxs c.vars))
 
-abbrev pub termBytes : Closed → List ℕ
-termBytes c = print (termSx c.term)
+abbrev pub term_bytes : Closed → List ℕ
+term_bytes c = print (term_sx c.term)
 
 -- Two answers that differ.
 apart : {P : Type 0} {a b : ℕ} → said.Done a ≡ said.Refused b → P
@@ -40,94 +40,94 @@ apart e = let z : ◌≡◌ {A = ℕ} 0 1 = cc in absurd (omega arith)
 pub record Made (words text l l' : List ℕ) (n : ℕ) : Type 0 where
   pub solution : Solution
   pub end : ℕ
-  pub judged : judgeSolution (length text) words ≡ reads solution end
+  pub judged : judge_solution (length text) words ≡ reads solution end
   pub closed : Closed
-  pub is : solutionTerm text solution ≡ got closed
-  pub size : n ≡ length (closedBytes closed)
+  pub is : solution_term text solution ≡ got closed
+  pub size : n ≡ length (closed_bytes closed)
   pub room : n ≤ length l
-  pub leaves : l' ≡ over (closedBytes closed) l
+  pub leaves : l' ≡ over (closed_bytes closed) l
 
 module _ (words text l : List ℕ) where
   -- The operation is done.
-  pub made : {l' : List ℕ} {n : ℕ} → said.Done n ≡ answer_of (smtlibFinal words text l) → l' ≡ smtlibOut words text l → Made words text l l' n
-  unfolding smtlibFinal smtlibOut smtlibBy bytesFinal written outputOf pick
-  made {l'} {n} a o = by-judged (judgeSolution (length text) words) refl a o
+  pub made : {l' : List ℕ} {n : ℕ} → said.Done n ≡ answer_of (smtlib_final words text l) → l' ≡ smtlib_out words text l → Made words text l l' n
+  unfolding smtlib_final smtlib_out smtlib_by bytes_final written output_of pick
+  made {l'} {n} a o = by-judged (judge_solution (length text) words) refl a o
     where
-      by-room : (s : Solution) (at : ℕ) (c : Closed) (b : Bool) → judgeSolution (length text) words ≡ reads s at → solutionTerm text s ≡ got c → leb (length (closedBytes c)) (length l) ≡ b → said.Done n ≡ answer_of (pick b (accepts (closedBytes c) 0) (refuses (number noRoom))) → l' ≡ outputOf (λ bytes. bytes) (pick b (accepts (closedBytes c) 0) (refuses (number noRoom))) l → Made words text l l' n
+      by-room : (s : Solution) (at : ℕ) (c : Closed) (b : Bool) → judge_solution (length text) words ≡ reads s at → solution_term text s ≡ got c → leb (length (closed_bytes c)) (length l) ≡ b → said.Done n ≡ answer_of (pick b (accepts (closed_bytes c) 0) (refuses (number no_room))) → l' ≡ output_of (λ bytes. bytes) (pick b (accepts (closed_bytes c) 0) (refuses (number no_room))) l → Made words text l l' n
       by-room s at c true j t h a o =
-          let z : n ≡ length (closedBytes c) = cc in
-          record { solution = s; end = at; judged = j; closed = c; is = t; size = z; room = omega (arith, z, leb-true (length (closedBytes c)) (length l) h); leaves = o }
+          let z : n ≡ length (closed_bytes c) = cc in
+          record { solution = s; end = at; judged = j; closed = c; is = t; size = z; room = omega (arith, z, leb-true (length (closed_bytes c)) (length l) h); leaves = o }
       by-room s at c false j t h a o = apart a
 
-      by-term : (s : Solution) (at : ℕ) (x : Ans Closed) → judgeSolution (length text) words ≡ reads s at → solutionTerm text s ≡ x → said.Done n ≡ answer_of (bytesFinal l (and_then x λ c. got (closedBytes c))) → l' ≡ outputOf (λ bytes. bytes) (bytesFinal l (and_then x λ c. got (closedBytes c))) l → Made words text l l' n
+      by-term : (s : Solution) (at : ℕ) (x : Ans Closed) → judge_solution (length text) words ≡ reads s at → solution_term text s ≡ x → said.Done n ≡ answer_of (bytes_final l (and_then x λ c. got (closed_bytes c))) → l' ≡ output_of (λ bytes. bytes) (bytes_final l (and_then x λ c. got (closed_bytes c))) l → Made words text l l' n
       by-term s at (bad r) j t a o = apart a
-      by-term s at (got c) j t a o = by-room s at c (leb (length (closedBytes c)) (length l)) j t refl a o
+      by-term s at (got c) j t a o = by-room s at c (leb (length (closed_bytes c)) (length l)) j t refl a o
 
-      by-judged : (j : Judged Solution) → judgeSolution (length text) words ≡ j → said.Done n ≡ answer_of (smtlibBy text l j) → l' ≡ outputOf (λ bytes. bytes) (smtlibBy text l j) l → Made words text l l' n
+      by-judged : (j : Judged Solution) → judge_solution (length text) words ≡ j → said.Done n ≡ answer_of (smtlib_by text l j) → l' ≡ output_of (λ bytes. bytes) (smtlib_by text l j) l → Made words text l l' n
       by-judged (fails r) j a o = apart a
-      by-judged (reads s at) j a o = by-term s at (solutionTerm text s) j refl a o
+      by-judged (reads s at) j a o = by-term s at (solution_term text s) j refl a o
 
   -- The operation refuses a solution.
-  pub not_made : (s : Solution) (n : ℕ) {r : ℕ} → length l ≡ 65536 → judgeSolution (length text) words ≡ reads s n → said.Refused r ≡ answer_of (smtlibFinal words text l) → closedText (solutionTerm text s) ≡ commentLine r
-  unfolding smtlibFinal smtlibBy bytesFinal written pick closedText
-  not_made s n {r} long j a = by-term (solutionTerm text s) (rw j at a)
+  pub not_made : (s : Solution) (n : ℕ) {r : ℕ} → length l ≡ 65536 → judge_solution (length text) words ≡ reads s n → said.Refused r ≡ answer_of (smtlib_final words text l) → closed_text (solution_term text s) ≡ comment_line r
+  unfolding smtlib_final smtlib_by bytes_final written pick closed_text
+  not_made s n {r} long j a = by-term (solution_term text s) (rw j at a)
     where
-      by-room : (c : Closed) (b : Bool) → said.Refused r ≡ answer_of (pick b (accepts (closedBytes c) 0) (refuses (number noRoom))) → pick b (commentLine 0 ++ functionLine (listBytes c) (termBytes c)) (commentLine (number noRoom)) ≡ commentLine r
+      by-room : (c : Closed) (b : Bool) → said.Refused r ≡ answer_of (pick b (accepts (closed_bytes c) 0) (refuses (number no_room))) → pick b (comment_line 0 ++ function_line (list_bytes c) (term_bytes c)) (comment_line (number no_room)) ≡ comment_line r
       by-room c true a = apart (sym a)
-      by-room c false a = let z : number noRoom ≡ r = cc in ap commentLine z
+      by-room c false a = let z : number no_room ≡ r = cc in ap comment_line z
 
-      by-term : (x : Ans Closed) → said.Refused r ≡ answer_of (bytesFinal l (and_then x λ c. got (closedBytes c))) → closedText x ≡ commentLine r
-      by-term (bad e) a = let z : number e ≡ r = cc in ap commentLine z
-      by-term (got c) a = by-room c (leb (length (closedBytes c)) 65536) (rw long at a)
+      by-term : (x : Ans Closed) → said.Refused r ≡ answer_of (bytes_final l (and_then x λ c. got (closed_bytes c))) → closed_text x ≡ comment_line r
+      by-term (bad e) a = let z : number e ≡ r = cc in ap comment_line z
+      by-term (got c) a = by-room c (leb (length (closed_bytes c)) 65536) (rw long at a)
 
 -- The list of a solution's variables, where the solution can be written.
-list-text : (text : List ℕ) (s : Solution) (c : Closed) → solutionTerm text s ≡ got c → varsText text s.params ≡ got (listBytes c)
-unfolding solutionTerm varsText
-list-text text s c e = go (varsOf text s.params) (termOf text s.body) e
+list-text : (text : List ℕ) (s : Solution) (c : Closed) → solution_term text s ≡ got c → vars_text text s.params ≡ got (list_bytes c)
+unfolding solution_term vars_text
+list-text text s c e = go (vars_of text s.params) (term_of text s.body) e
   where
-    go : (x : Ans (List Var)) (y : Ans Term) → and_then x (λ vs. and_then y λ t. got (record { vars = vs; term = t })) ≡ got c → and_then x (λ vs. got (print (list (varSxs vs)))) ≡ got (listBytes c)
+    go : (x : Ans (List Var)) (y : Ans Term) → and_then x (λ vs. and_then y λ t. got (record { vars = vs; term = t })) ≡ got c → and_then x (λ vs. got (print (list (var_sxs vs)))) ≡ got (list_bytes c)
     go (bad r) y q = let z : ◌≡◌ {A = ℕ} 0 1 = cc in absurd (omega arith)
     go (got vs) (bad r) q = let z : ◌≡◌ {A = ℕ} 0 1 = cc in absurd (omega arith)
-    go (got vs) (got t) q = let z : ◌≡◌ {A = Closed} (record { vars = vs; term = t }) c = cc in ap (λ (d : Closed). got (listBytes d)) z
+    go (got vs) (got t) q = let z : ◌≡◌ {A = Closed} (record { vars = vs; term = t }) c = cc in ap (λ (d : Closed). got (list_bytes d)) z
 
 -- What is printed where the bytes fit.
-fits-text : (c : Closed) → length (closedBytes c) ≤ 65536 → closedText (got c) ≡ commentLine 0 ++ functionLine (listBytes c) (termBytes c)
-unfolding closedText pick
-fits-text c h = rw (le-leb (length (closedBytes c)) 65536 h) refl
+fits-text : (c : Closed) → length (closed_bytes c) ≤ 65536 → closed_text (got c) ≡ comment_line 0 ++ function_line (list_bytes c) (term_bytes c)
+unfolding closed_text pick
+fits-text c h = rw (le-leb (length (closed_bytes c)) 65536 h) refl
 
 -- How long the bytes are.
-pub bytes-long : (c : Closed) → length (closedBytes c) ≡ length (listBytes c) + (1 + length (termBytes c))
-unfolding closedBytes
-bytes-long c = length-append (listBytes c) (32 ∷ termBytes c) ∙ ap (λ (k : ℕ). length (listBytes c) + k) (omega arith)
+pub bytes-long : (c : Closed) → length (closed_bytes c) ≡ length (list_bytes c) + (1 + length (term_bytes c))
+unfolding closed_bytes
+bytes-long c = length-append (list_bytes c) (32 ∷ term_bytes c) ∙ ap (λ (k : ℕ). length (list_bytes c) + k) (omega arith)
 
 module _ {words text l₀ l l' : List ℕ} {k n : ℕ} (long : length l ≡ 65536) (m : Made words text l l' n)
-    (listed : (s : Solution) (i : ℕ) (xs : List ℕ) → judgeSolution (length text) words ≡ reads s i → varsText text s.params ≡ got xs → WroteBytes l₀ 0 xs l k) where
-  list_wrote : WroteBytes l₀ 0 (listBytes m.closed) l k
-  list_wrote = listed m.solution m.end (listBytes m.closed) m.judged (list-text text m.solution m.closed m.is)
+    (listed : (s : Solution) (i : ℕ) (xs : List ℕ) → judge_solution (length text) words ≡ reads s i → vars_text text s.params ≡ got xs → WroteBytes l₀ 0 xs l k) where
+  list_wrote : WroteBytes l₀ 0 (list_bytes m.closed) l k
+  list_wrote = listed m.solution m.end (list_bytes m.closed) m.judged (list-text text m.solution m.closed m.is)
 
   -- The list ends at k.
-  list-ends : k ≡ length (listBytes m.closed)
+  list-ends : k ≡ length (list_bytes m.closed)
   list-ends =
       either (length l₀) k
       (λ far. absurd (list_wrote.full far (omega (arith, list_wrote.kept, bytes-long m.closed, m.size, m.room)) (omega arith)))
       λ near. omega (arith, (list_wrote.fits near).0)
 
   -- The bytes of the solution, as the slice has them.
-  bytes-are : take n l' ≡ listBytes m.closed ++ (32 ∷ termBytes m.closed)
-  unfolding closedBytes
-  bytes-are = rw (m.leaves, over-fits (closedBytes m.closed) l (omega (arith, m.size, m.room))) (take_at (closedBytes m.closed) (drop (length (closedBytes m.closed)) l) n (sym m.size))
+  bytes_are : take n l' ≡ list_bytes m.closed ++ (32 ∷ term_bytes m.closed)
+  unfolding closed_bytes
+  bytes_are = rw (m.leaves, over-fits (closed_bytes m.closed) l (omega (arith, m.size, m.room))) (take_at (closed_bytes m.closed) (drop (length (closed_bytes m.closed)) l) n (sym m.size))
 
   -- The slice has them, and the space behind the list is one of them.
   pub made_inside : n ≤ length l'
-  made_inside = omega (arith, m.room, ap length m.leaves, over-length (closedBytes m.closed) l)
+  made_inside = omega (arith, m.room, ap length m.leaves, over-length (closed_bytes m.closed) l)
 
   pub space-inside : k < length (take n l')
-  space-inside = omega (arith, list-ends, ap length bytes-are, length-append (listBytes m.closed) (32 ∷ termBytes m.closed))
+  space-inside = omega (arith, list-ends, ap length bytes_are, length-append (list_bytes m.closed) (32 ∷ term_bytes m.closed))
 
   -- The script by the bytes before and behind that space.
-  pub made-text : (s : Solution) (i : ℕ) → judgeSolution (length text) words ≡ reads s i → commentLine 0 ++ functionLine (take k (take n l')) (drop (k + 1) (take n l')) ≡ closedText (solutionTerm text s)
+  pub made-text : (s : Solution) (i : ℕ) → judge_solution (length text) words ≡ reads s i → comment_line 0 ++ function_line (take k (take n l')) (drop (k + 1) (take n l')) ≡ closed_text (solution_term text s)
   made-text s i j =
       let same : m.solution ≡ s = same-value (sym m.judged ∙ j) in
-      let before : take k (take n l') ≡ listBytes m.closed = rw bytes-are (take_at (listBytes m.closed) (32 ∷ termBytes m.closed) k (sym list-ends)) in
-      let behind : drop (k + 1) (take n l') ≡ termBytes m.closed = rw (bytes-are, list-ends) (drop-append-add (listBytes m.closed) (32 ∷ termBytes m.closed) 1) in
-      rw (before, behind) (sym (ap (λ (t : Solution). closedText (solutionTerm text t)) (sym same) ∙ ap closedText m.is ∙ fits-text m.closed (omega (arith, m.size, m.room, long))))
+      let before : take k (take n l') ≡ list_bytes m.closed = rw bytes_are (take_at (list_bytes m.closed) (32 ∷ term_bytes m.closed) k (sym list-ends)) in
+      let behind : drop (k + 1) (take n l') ≡ term_bytes m.closed = rw (bytes_are, list-ends) (drop-append-add (list_bytes m.closed) (32 ∷ term_bytes m.closed) 1) in
+      rw (before, behind) (sym (ap (λ (t : Solution). closed_text (solution_term text t)) (sym same) ∙ ap closed_text m.is ∙ fits-text m.closed (omega (arith, m.size, m.room, long))))

@@ -10,23 +10,23 @@ use lib.ListN.{length, take, drop, length-append}
 use lib.Seq.{take_at}
 use Rattle.reading.specs.Pick.{pick}
 use Rattle.reading.specs.Bytes.{ascii}
-use Rattle.reading.specs.Answer.{number, noRoom, Ans, got, bad}
+use Rattle.reading.specs.Answer.{number, no_room, Ans, got, bad}
 use Rattle.reading.proofs.Over.{over-fits}
 use Rattle.grammar.specs.Expr.{Solution}
-use Rattle.judging.specs.Judge.{reads, judgeSolution}
+use Rattle.judging.specs.Judge.{reads, judge_solution}
 use Rattle.flattening.specs.Uncurry.{flattened}
 use Rattle.session.specs.Session.{final}
 use Rattle.replies.specs.declared.Said.{Said}
 use Rattle.replies.specs.declared.Said.TheVariants.{Accepted, Refused}
-use Rattle.replies.specs.Calls.{solutionCall}
+use Rattle.replies.specs.Calls.{solution_call}
 use Rattle.replies.proofs.Solved.{ToldSolution, solved, not-solved}
 use Rattle.writing.specs.Wrote.{WroteBytes}
 use Rattle.writing.proofs.Laid.{over-start}
 use Rattle.writing.proofs.Wrote.{either}
-use Rattle.smt.specs.Term.{Closed, closedBytes}
-use Rattle.smt.specs.Writer.{solutionTerm}
-use Rattle.solsmt.specs.Script.{commentLine, functionLine, closedText, finalText, slice, script}
-use Rattle.solsmt.proofs.Made.{listBytes, termBytes, bytes-long}
+use Rattle.smt.specs.Term.{Closed, closed_bytes}
+use Rattle.smt.specs.Writer.{solution_term}
+use Rattle.solsmt.specs.Script.{comment_line, function_line, closed_text, final_text, slice, script}
+use Rattle.solsmt.proofs.Made.{list_bytes, term_bytes, bytes-long}
 
 -- So many bytes of the output are what is printed for the text.
 abbrev pub Printed : List ℕ → List ℕ → ℕ → Type 0
@@ -41,54 +41,54 @@ from_start {xs} {out₀} {out} {r} h w =
     (omega (arith, near, w.kept), rw (f.2, over-start xs out₀, over-fits xs out₀ h) (take_at xs (drop (length xs) out₀) r (sym size)))
 
 -- How long the lines are.
-comment-long : (r : ℕ) → length (commentLine r) ≡ 5
-unfolding commentLine
+comment-long : (r : ℕ) → length (comment_line r) ≡ 5
+unfolding comment_line
 comment-long r = refl
 
-function-long : (vars term : List ℕ) → length (functionLine vars term) ≡ 29 + (length vars + length term)
-unfolding functionLine
+function-long : (vars term : List ℕ) → length (function_line vars term) ≡ 29 + (length vars + length term)
+unfolding function_line
 function-long vars term =
     omega (arith, length-append (ascii "(define-fun solution ") (vars ++ (ascii " Bool " ++ (term ++ ascii ")\n"))), length-append vars (ascii " Bool " ++ (term ++ ascii ")\n")), length-append (ascii " Bool ") (term ++ ascii ")\n"), length-append term (ascii ")\n"))
 
 -- The script of a solution has room.
-closed-short : (x : Ans Closed) → length (closedText x) ≤ 65600
-unfolding closedText pick
+closed-short : (x : Ans Closed) → length (closed_text x) ≤ 65600
+unfolding closed_text pick
 closed-short (bad r) = omega (arith, comment-long (number r))
-closed-short (got c) = go (leb (length (closedBytes c)) 65536) refl
+closed-short (got c) = go (leb (length (closed_bytes c)) 65536) refl
   where
-    go : (b : Bool) → leb (length (closedBytes c)) 65536 ≡ b → length (pick b (commentLine 0 ++ functionLine (listBytes c) (termBytes c)) (commentLine (number noRoom))) ≤ 65600
-    go true h = omega (arith, length-append (commentLine 0) (functionLine (listBytes c) (termBytes c)), comment-long 0, function-long (listBytes c) (termBytes c), bytes-long c, leb-true (length (closedBytes c)) 65536 h)
-    go false h = omega (arith, comment-long (number noRoom))
+    go : (b : Bool) → leb (length (closed_bytes c)) 65536 ≡ b → length (pick b (comment_line 0 ++ function_line (list_bytes c) (term_bytes c)) (comment_line (number no_room))) ≤ 65600
+    go true h = omega (arith, length-append (comment_line 0) (function_line (list_bytes c) (term_bytes c)), comment-long 0, function-long (list_bytes c) (term_bytes c), bytes-long c, leb-true (length (closed_bytes c)) 65536 h)
+    go false h = omega (arith, comment-long (number no_room))
 
 -- A text that is not too long is printed by what its call decides.
-by_call : (text : List ℕ) → length text ≤ 8192 → script text ≡ finalText text (final (solutionCall text slice slice slice) 0)
+by_call : (text : List ℕ) → length text ≤ 8192 → script text ≡ final_text text (final (solution_call text slice slice slice) 0)
 unfolding script pick
 by_call text h = rw (le-ltb 8192 (length text) h) refl
 
 module _ (text out₀ : List ℕ) {out : List ℕ} {r : ℕ} (room : 65600 ≤ length out₀) where
   -- A refusal is printed.
-  refusing : (n : ℕ) → WroteBytes out₀ 0 (commentLine n) out r → script text ≡ commentLine n → Printed text out r
+  refusing : (n : ℕ) → WroteBytes out₀ 0 (comment_line n) out r → script text ≡ comment_line n → Printed text out r
   refusing n w e = let l = from_start (omega (arith, comment-long n, room)) w in (l.0, l.1 ∙ sym e)
 
   -- A text that is too long.
-  pub printed-long : 8192 < length text → WroteBytes out₀ 0 (commentLine 1) out r → Printed text out r
+  pub printed-long : 8192 < length text → WroteBytes out₀ 0 (comment_line 1) out r → Printed text out r
   unfolding script pick
   printed-long h w = refusing 1 w (rw (lt-ltb 8192 (length text) h) refl)
 
   module _ {c : ℕ} {said : Said} {words : List ℕ} (t : ToldSolution text slice slice slice c said words) (h : length text ≤ 8192) where
     -- A text that is refused.
-    pub printed-refused : {n : ℕ} → said ≡ Refused n → WroteBytes out₀ 0 (commentLine n) out r → Printed text out r
-    unfolding finalText
-    printed-refused {n} e w = refusing n w (by_call text h ∙ ap (finalText text) (not-solved t e))
+    pub printed-refused : {n : ℕ} → said ≡ Refused n → WroteBytes out₀ 0 (comment_line n) out r → Printed text out r
+    unfolding final_text
+    printed-refused {n} e w = refusing n w (by_call text h ∙ ap (final_text text) (not-solved t e))
 
     -- A text that is accepted.
-    pub printed-accepted : {k j : ℕ} → said ≡ Accepted k j → ((s : Solution) (n : ℕ) → judgeSolution (length text) (take k words) ≡ reads s n → WroteBytes out₀ 0 (closedText (solutionTerm text s)) out r) → Printed text out r
-    unfolding finalText
+    pub printed-accepted : {k j : ℕ} → said ≡ Accepted k j → ((s : Solution) (n : ℕ) → judge_solution (length text) (take k words) ≡ reads s n → WroteBytes out₀ 0 (closed_text (solution_term text s)) out r) → Printed text out r
+    unfolding final_text
     printed-accepted {k} e f =
         let a = solved t e in
         let s : Solution = flattened a.before in
-        let l = from_start (omega (arith, closed-short (solutionTerm text s), room)) (f s _ (ap (judgeSolution (length text)) a.first ∙ a.back (length text) (omega arith))) in
-        (l.0, l.1 ∙ sym (by_call text h ∙ ap (finalText text) a.is))
+        let l = from_start (omega (arith, closed-short (solution_term text s), room)) (f s _ (ap (judge_solution (length text)) a.first ∙ a.back (length text) (omega arith))) in
+        (l.0, l.1 ∙ sym (by_call text h ∙ ap (final_text text) a.is))
 
 -- The words that are counted lie in the output.
 pub words_inside : {text : List ℕ} {c : ℕ} {said : Said} {words : List ℕ} → ToldSolution text slice slice slice c said words → {k j : ℕ} → said ≡ Accepted k j → k ≤ length words

@@ -2,10 +2,10 @@
 use Rattle.std.specs.Prelude.{◌≡◌, refl, List, [], ◌∷◌, map, ℕ, replicate}
 use Prim.Native.String.{String}
 use Rattle.reading.specs.Bytes.{ascii}
-use Rattle.session.specs.Compute.{readerComputes}
+use Rattle.session.specs.Compute.{reader_computes}
 use Rattle.writing.specs.Digits.{digit}
-use Rattle.smt.specs.Compute.{smtComputes}
-use Rattle.solsmt.specs.Script.{commentLine, functionLine, closedText, finalText, slice, script}
+use Rattle.smt.specs.Compute.{smt_computes}
+use Rattle.solsmt.specs.Script.{comment_line, function_line, closed_text, final_text, slice, script}
 
 -- The bytes of a text, and what is printed for it.
 pub record Row : Type 0 where
@@ -29,6 +29,6 @@ rows =
     ∷ []
 
 -- What is printed for the texts of the table is what the table says.
-pub rows-hold : map (λ r. script r.text) rows ≡ map (λ r. ascii r.lines) rows
-unfolding readerComputes smtComputes digit commentLine functionLine closedText finalText slice script
-rows-hold = refl
+pub rows_hold : map (λ r. script r.text) rows ≡ map (λ r. ascii r.lines) rows
+unfolding reader_computes smt_computes digit comment_line function_line closed_text final_text slice script
+rows_hold = refl

@@ -2,11 +2,11 @@
 ghost use Rattle.std.specs.Prelude.{◌≡◌, List, ◌++◌, ℕ, ◌+◌, ◌≤◌, ◌<◌, length, take, drop};
 ghost use Rattle.reading.specs.Answer.{got};
 ghost use Rattle.grammar.specs.Expr.{Solution};
-ghost use Rattle.judging.specs.Judge.{reads, judgeSolution};
+ghost use Rattle.judging.specs.Judge.{reads, judge_solution};
 ghost use Rattle.writing.specs.Wrote.{WroteBytes};
-ghost use Rattle.smt.specs.Writer.{solutionTerm};
-ghost use Rattle.smtnames.specs.Pieces.{varsText};
-ghost use Rattle.solsmt.specs.Script.{commentLine, functionLine, closedText, script};
+ghost use Rattle.smt.specs.Writer.{solution_term};
+ghost use Rattle.smtnames.specs.Pieces.{vars_text};
+ghost use Rattle.solsmt.specs.Script.{comment_line, function_line, closed_text, script};
 
 use nodes::kind::word_at;
 use reader::Reader;
@@ -18,7 +18,7 @@ use writing::{byte, bytes, digit};
 
 // The comment that begins a script, with the number of a refusal.
 fn comment(n: u32, out: &mut [u8]) -> usize
-    ensures { WroteBytes out.old 0 (commentLine n) out.new result }
+    ensures { WroteBytes out.old 0 (comment_line n) out.new result }
 {
     let a = bytes(b"; ", out, 0);
     let b = byte(out, a, digit(n / 16 % 16));
@@ -29,7 +29,7 @@ fn comment(n: u32, out: &mut [u8]) -> usize
 // The script of a solution, by its bytes and the place of the space behind its list of variables.
 fn function(made: &[u8], k: usize, out: &mut [u8]) -> usize
     requires { k < length made.now }
-    ensures { WroteBytes out.old 0 (commentLine 0 ++ functionLine (take k made.now) (drop (k + 1) made.now)) out.new result }
+    ensures { WroteBytes out.old 0 (comment_line 0 ++ function_line (take k made.now) (drop (k + 1) made.now)) out.new result }
 {
     let behind = k + 1;
     let a = comment(0, out);
@@ -42,7 +42,7 @@ fn function(made: &[u8], k: usize, out: &mut [u8]) -> usize
 
 // Where the list of a solution's variables ends, if it begins at the start of the output.
 fn list_end(words: &[u32], text: &[u8], out: &mut [u8]) -> usize
-    ensures { (s : Solution) (n : ℕ) (xs : List ℕ) → judgeSolution (length text.now) words.now ≡ reads s n → varsText text.now s.params ≡ got xs → WroteBytes out.old 0 xs out.new result }
+    ensures { (s : Solution) (n : ℕ) (xs : List ℕ) → judge_solution (length text.now) words.now ≡ reads s n → vars_text text.now s.params ≡ got xs → WroteBytes out.old 0 xs out.new result }
 {
     match vars(words, 1, word_at(words, 0), text, out, 0) {
         Walked::At(_, k) => k,
@@ -52,7 +52,7 @@ fn list_end(words: &[u32], text: &[u8], out: &mut [u8]) -> usize
 
 // The script of the solution that these words are.
 fn lines(words: &[u32], text: &[u8], out: &mut [u8]) -> usize
-    ensures { (s : Solution) (n : ℕ) → judgeSolution (length text.now) words.now ≡ reads s n → WroteBytes out.old 0 (closedText (solutionTerm text.now s)) out.new result }
+    ensures { (s : Solution) (n : ℕ) → judge_solution (length text.now) words.now ≡ reads s n → WroteBytes out.old 0 (closed_text (solution_term text.now s)) out.new result }
 {
     let mut made = [0u8; 65536];
     let k = list_end(words, text, &mut made);

@@ -7,19 +7,19 @@ use native.Mathlib.Omega.{arith}
 use native.Mathlib.Nat.{zero-add}
 use lib.ListN.{length}
 use borrow.Author.Tests.{ne_eqb}
-use Rattle.reading.specs.Limits.{maxLists}
+use Rattle.reading.specs.Limits.{max_lists}
 use Rattle.reading.specs.Pick.{pick}
 use Rattle.reading.specs.Bytes.{Span}
 use Rattle.reading.specs.Tree.{nesting}
 use Rattle.reading.specs.Answer.{number, Res, ok, no, chain, lifted}
-use Rattle.grammar.specs.Expr.{Expr, exprItems}
+use Rattle.grammar.specs.Expr.{Expr, expr_items}
 use Rattle.grammar.specs.Scope.{Scope, repeated, distinct}
 use Rattle.grammar.specs.ParseExpr
 use Rattle.scopes.specs.Scopes.{Opened, slots, pushed, deeper, inner}
 use Rattle.plans.specs.Plans.{Parsed, wrote, refused, Here}
 use Rattle.grammar.specs.Written.{told}
-use Rattle.grammar.specs.Item.{raisedWords}
-use Rattle.solutions.specs.PartsWords.{BodyHere, body_of, BodyDone, bodyWrote, bodyRefused}
+use Rattle.grammar.specs.Item.{raised_words}
+use Rattle.solutions.specs.PartsWords.{BodyHere, body_of, BodyDone, body_wrote, body_refused}
 use Rattle.plans.specs.declared.progress.Progress.{Progress}
 use Rattle.plans.specs.declared.progress.Progress.TheVariants as progress
 use Rattle.solutions.specs.declared.parts.Parts.TheVariants.{Done, Refused}
@@ -34,19 +34,19 @@ module _ (text : List ℕ) (names : List Span) where
   module _ (count u : ℕ) {d d' : List ℕ} {b : ℕ} {p : Progress} where
     done_refused : (x : Res Expr) {k : ℕ} → Parsed (told count x) 0 d d' b p → p ≡ progress.Refused k → BodyDone count u d d' (distinctly x) (Refused k)
     done_refused (ok e m) (wrote y) q = never y.is q
-    done_refused (no r) {k} (refused y) q = let z : k ≡ number r = cc in bodyRefused (ap Refused z)
+    done_refused (no r) {k} (refused y) q = let z : k ≡ number r = cc in body_refused (ap Refused z)
 
-    done-twice : (x : Res Expr) {w n : ℕ} → Parsed (told count x) 0 d d' b p → p ≡ progress.Done w n → repeated text names ≡ true → BodyDone count u d d' (distinctly x) (Refused 10)
+    done_twice : (x : Res Expr) {w n : ℕ} → Parsed (told count x) 0 d d' b p → p ≡ progress.Done w n → repeated text names ≡ true → BodyDone count u d d' (distinctly x) (Refused 10)
     unfolding distinct
-    done-twice (ok e m) (wrote y) q t = rw t (bodyRefused refl)
-    done-twice (no r) (refused y) q t = never q y
+    done_twice (ok e m) (wrote y) q t = rw t (body_refused refl)
+    done_twice (no r) (refused y) q t = never q y
 
     done-wrote : (x : Res Expr) {w n : ℕ} → Parsed (told count x) 0 d d' b p → p ≡ progress.Done w n → repeated text names ≡ false → BodyDone count u d d' (distinctly x) (Done u w n)
     unfolding distinct
     done-wrote (ok e m) {w} {n} (wrote y) q t =
-        let a : w ≡ length (raisedWords exprItems count e) = same-words q y.is ∙ zero-add _ in
+        let a : w ≡ length (raised_words expr_items count e) = same-words q y.is ∙ zero-add _ in
         let z : n ≡ m = same_next q y.is in
-        rw (t, a, z) (bodyWrote refl y.words)
+        rw (t, a, z) (body_wrote refl y.words)
     done-wrote (no r) (refused y) q t = never q y
 
 module _ {text ws : List ℕ} {pairs n body next : ℕ} (h : BodyHere text ws pairs n body) (ns : next ≡ n) where
@@ -68,7 +68,7 @@ module _ {text ws : List ℕ} {pairs n body next : ℕ} (h : BodyHere text ws pa
     pub body-slots : slots ≤ length es₁
     body-slots = omega (arith, ap length is, pushed-length es 0 pairs next 0)
 
-    pub body-shallow : d + nesting h.spot.tree ≤ maxLists
+    pub body-shallow : d + nesting h.spot.tree ≤ max_lists
     body-shallow = omega (arith, h.nests, deep, deeper-most es 0 pairs next 0)
 
     -- The parameters are its one scope.
@@ -85,15 +85,15 @@ module _ {text ws : List ℕ} {pairs n body next : ℕ} (h : BodyHere text ws pa
 
   module _ {count u b : ℕ} {d d' : List ℕ} {p : Progress} (y : Parsed (told count body-read) 0 d d' b p) where
     -- It is refused.
-    pub body_refused : {k : ℕ} → p ≡ progress.Refused k → BodyDone count u d d' (body_of text h.spot.tree h.params.names n) (Refused k)
+    pub body_refused_lem : {k : ℕ} → p ≡ progress.Refused k → BodyDone count u d d' (body_of text h.spot.tree h.params.names n) (Refused k)
     unfolding body_of
-    body_refused q = rw (sym ns) (done_refused text h.params.names count u body-read y q)
+    body_refused_lem q = rw (sym ns) (done_refused text h.params.names count u body-read y q)
 
     module _ {w m : ℕ} (q : p ≡ progress.Done w m) {t : Bool} (e : t ≡ repeated text h.params.names) where
       -- A name stands there twice.
       pub body_twice : t ≡ true → BodyDone count u d d' (body_of text h.spot.tree h.params.names n) (Refused 10)
       unfolding body_of
-      body_twice z = rw (sym ns) (done-twice text h.params.names count u body-read y q (sym e ∙ z))
+      body_twice z = rw (sym ns) (done_twice text h.params.names count u body-read y q (sym e ∙ z))
 
       pub body-wrote : t ≡ false → BodyDone count u d d' (body_of text h.spot.tree h.params.names n) (Done u w m)
       unfolding body_of

@@ -1,11 +1,11 @@
 -- A solution as the code reads it: its parameters are laid in the output, its body in the draft slice.
 use Rattle.std.specs.Prelude.{ℕ, ◌+◌, ◌*◌, ◌≤◌, ◌≡◌, List, [], ◌∷◌, length}
-use Rattle.reading.specs.Limits.{maxBytes, maxLists}
+use Rattle.reading.specs.Limits.{max_bytes, max_lists}
 use Rattle.reading.specs.Bytes.{Span}
-use Rattle.reading.specs.Tree.{Tree, treeWords, nesting}
+use Rattle.reading.specs.Tree.{Tree, tree_words, nesting}
 use Rattle.reading.specs.Answer.{Refusal, number, Res, ok, no, chain, lifted}
-use Rattle.grammar.specs.Item.{raisedWords}
-use Rattle.grammar.specs.Expr.{Expr, Solution, exprItems, paramItems, bodyItems}
+use Rattle.grammar.specs.Item.{raised_words}
+use Rattle.grammar.specs.Expr.{Expr, Solution, expr_items, param_items, body_items}
 use Rattle.grammar.specs.Scope.{distinct}
 use Rattle.grammar.specs.ParseExpr.{child}
 use Rattle.places.specs.Spot.{Spot}
@@ -21,9 +21,9 @@ pub record BodyHere (text ws : List ℕ) (pairs n body : ℕ) : Type 0 where
   pub params : Pairs ws pairs n
   pub there : pairs ≡ 0 → ⊥
   pub spot : Spot ws body
-  pub nests : 1 + nesting spot.tree ≤ maxLists
-  pub room : n + factor * length (treeWords spot.tree) ≤ bound
-  pub bytes : length text ≤ maxBytes
+  pub nests : 1 + nesting spot.tree ≤ max_lists
+  pub room : n + factor * length (tree_words spot.tree) ≤ bound
+  pub bytes : length text ≤ max_bytes
 
 -- The body under its parameters; 10 comes behind it.
 unfoldable pub body_of : List ℕ → Tree → List Span → ℕ → Res Expr
@@ -31,11 +31,11 @@ body_of text t names next = chain ((child text t).plainly (record { names = name
 
 -- What was made of the body: its words are laid in the draft slice, u words of the parameters being written before.
 pub data BodyDone (count u : ℕ) (d d' : List ℕ) : Res Expr → Parts → Type 0 where
-  bodyWrote : {e : Expr} {n : ℕ} {r : Parts} → r ≡ parts.Done u (length (raisedWords exprItems count e)) n → d' ≡ laid d 0 (raisedWords exprItems count e) → BodyDone count u d d' (ok e n) r
-  bodyRefused : {x : Refusal} {r : Parts} → r ≡ parts.Refused (number x) → BodyDone count u d d' (no x) r
+  body_wrote : {e : Expr} {n : ℕ} {r : Parts} → r ≡ parts.Done u (length (raised_words expr_items count e)) n → d' ≡ laid d 0 (raised_words expr_items count e) → BodyDone count u d d' (ok e n) r
+  body_refused : {x : Refusal} {r : Parts} → r ≡ parts.Refused (number x) → BodyDone count u d d' (no x) r
 
 -- What was made of the whole.
 pub data PartsDone (count : ℕ) (d d' o o' : List ℕ) : Res Solution → Parts → Type 0 where
-  partsWrote : {s : Solution} {n : ℕ} {r : Parts} → r ≡ parts.Done (length (raisedWords paramItems count s)) (length (raisedWords bodyItems count s)) n → d' ≡ laid d 0 (raisedWords bodyItems count s) → o' ≡ laid o 0 (raisedWords paramItems count s)
+  parts_wrote : {s : Solution} {n : ℕ} {r : Parts} → r ≡ parts.Done (length (raised_words param_items count s)) (length (raised_words body_items count s)) n → d' ≡ laid d 0 (raised_words body_items count s) → o' ≡ laid o 0 (raised_words param_items count s)
       → PartsDone count d d' o o' (ok s n) r
-  partsRefused : {x : Refusal} {r : Parts} → r ≡ parts.Refused (number x) → PartsDone count d d' o o' (no x) r
+  parts_refused : {x : Refusal} {r : Parts} → r ≡ parts.Refused (number x) → PartsDone count d d' o o' (no x) r

@@ -1,7 +1,7 @@
 // A solution: `(lambda (parameters) body)`. The parameters go to the output, the body to the draft slice.
 ghost use Rattle.std.specs.Prelude.{◌≡◌};
-ghost use Rattle.grammar.specs.ParseSolution.{allNames, parseSolution};
-ghost use Rattle.sorts.specs.Rows.{isGot};
+ghost use Rattle.grammar.specs.ParseSolution.{all_names, parse_solution};
+ghost use Rattle.sorts.specs.Rows.{is_got};
 ghost use Rattle.plans.specs.BinderWords.{BinderRow};
 ghost use Rattle.plans.specs.Whole.{Whole};
 ghost use Rattle.solutions.specs.PartsWords.{BodyHere, body_of, BodyDone, PartsDone};
@@ -25,7 +25,7 @@ pub enum Parts {
 // Whether n trees are pairs of a name and a sort; the sorts are not read yet.
 fn all_pairs(tree: &[u32], at: usize, n: usize) -> bool
     requires { BinderRow tree.now at n 0 }
-    ensures { (h : BinderRow tree.now at n 0) → result ≡ isGot (allNames h.items) }
+    ensures { (h : BinderRow tree.now at n 0) → result ≡ is_got (all_names h.items) }
 {
     let mut i: usize = 0;
     let mut p = at;
@@ -70,7 +70,7 @@ fn body_at(
 // The parameters' shapes, then their sorts, then the body.
 pub fn parts_at(text: &[u8], tree: &[u32], count: u64, draft: &mut [u32], out: &mut [u32]) -> Parts
     requires { Whole text.now tree.now }
-    ensures { (h : Whole text.now tree.now) → PartsDone count draft.old draft.new out.old out.new (parseSolution text.now h.tree 0) result }
+    ensures { (h : Whole text.now tree.now) → PartsDone count draft.old draft.new out.old out.new (parse_solution text.now h.tree 0) result }
 {
     let Node::List(n, first) = node_at(tree, 0) else {
         return Parts::Refused(8);

@@ -5,19 +5,19 @@ use Rattle.sortnodes.specs.declared.SortNode.{SortNode}
 use Rattle.sortnodes.specs.declared.SortNode.TheVariants as told
 
 -- A sort by the words at a place: a BitVec by its width, an Array and a Data sort by how many sorts are inside it.
-unfoldable pub appliedAt : List ℕ → ℕ → SortNode
-appliedAt ws a =
+unfoldable pub applied_at : List ℕ → ℕ → SortNode
+applied_at ws a =
     pick (eqb (get_or ws a 0) 1) (told.Array (get_or ws (a + 1) 0))
     (pick (eqb (get_or ws a 0) 2) (told.Data (get_or ws (a + 1) 0) (get_or ws (a + 2) 0) (get_or ws (a + 3) 0)) told.Other)
 
-unfoldable pub sortNodeAt : List ℕ → ℕ → SortNode
-sortNodeAt ws at =
+unfoldable pub sort_node_at : List ℕ → ℕ → SortNode
+sort_node_at ws at =
     pick (eqb (get_or ws at 0) 1) told.Int
     (pick (eqb (get_or ws at 0) 2) told.Bool
     (pick (eqb (get_or ws at 0) 3) told.Real
     (pick (eqb (get_or ws at 0) 4) told.Str
     (pick (eqb (get_or ws at 0) 5) (pick (eqb (get_or ws (at + 1) 0) 6) (told.BitVec (get_or ws (at + 2) 0)) told.Other)
-    (pick (eqb (get_or ws at 0) 10) (appliedAt ws (at + 1)) told.Other)))))
+    (pick (eqb (get_or ws at 0) 10) (applied_at ws (at + 1)) told.Other)))))
 
 -- How many words a sort takes before the sorts inside it, and how many these are.
 abbrev pub size_of : SortNode → ℕ
@@ -30,12 +30,12 @@ size_of (told.Array n) = 3
 size_of (told.Data start len n) = 5
 size_of told.Other = 1
 
-abbrev pub insideOf : SortNode → ℕ
-insideOf told.Int = 0
-insideOf told.Bool = 0
-insideOf told.Real = 0
-insideOf told.Str = 0
-insideOf (told.BitVec width) = 0
-insideOf (told.Array n) = n
-insideOf (told.Data start len n) = n
-insideOf told.Other = 0
+abbrev pub inside_of : SortNode → ℕ
+inside_of told.Int = 0
+inside_of told.Bool = 0
+inside_of told.Real = 0
+inside_of told.Str = 0
+inside_of (told.BitVec width) = 0
+inside_of (told.Array n) = n
+inside_of (told.Data start len n) = n
+inside_of told.Other = 0

@@ -1,6 +1,6 @@
 // A sort of SMT-LIB as it is told: its kind and its fields by the words at a place, how many words it takes and how many sorts are inside it.
 ghost use Rattle.std.specs.Prelude.{◌≡◌, ◌≤◌, length};
-ghost use Rattle.sortnodes.specs.Told.{appliedAt, sortNodeAt, size_of, insideOf};
+ghost use Rattle.sortnodes.specs.Told.{applied_at, sort_node_at, size_of, inside_of};
 
 use nodes::kind::word_at;
 use words::sort_kinds::{APP, BIT_VEC, BOOL, DATA, INT, MAP, REAL, SIZE, STR};
@@ -22,7 +22,7 @@ pub enum SortNode {
 // A constructor applied to sorts, by its words from a place on.
 fn applied(words: &[u32], at: usize) -> SortNode
     requires { at ≤ length words.now }
-    ensures { result ≡ appliedAt words.now at }
+    ensures { result ≡ applied_at words.now at }
 {
     let c = word_at(words, at);
     if c == MAP {
@@ -40,7 +40,7 @@ fn applied(words: &[u32], at: usize) -> SortNode
 
 // The sort at a place.
 pub fn sort_at(words: &[u32], at: usize) -> SortNode
-    ensures { result ≡ sortNodeAt words.now at }
+    ensures { result ≡ sort_node_at words.now at }
 {
     if words.len() <= at {
         return SortNode::Other;
@@ -88,7 +88,7 @@ pub fn size(node: SortNode) -> usize
 
 // How many sorts are inside it.
 pub fn count(node: SortNode) -> u32
-    ensures { result ≡ insideOf node }
+    ensures { result ≡ inside_of node }
 {
     match node {
         SortNode::Int => 0,

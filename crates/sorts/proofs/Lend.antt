@@ -6,7 +6,7 @@ use native.Mathlib.Omega.{arith}
 use lib.ListN.{length, take, drop, length-drop, drop_of_length-le}
 use lib.Seq.{sets, take_all}
 use Rattle.reading.specs.Answer.{over}
-use Rattle.reading.proofs.Over.{over-append, over-more}
+use Rattle.reading.proofs.Over.{over_append, over-more}
 use Rattle.words.proofs.Clip.{take_min, drop_min}
 
 -- The rest of m was lent from w on, or from its end, and b was laid over it.
@@ -18,7 +18,7 @@ lent-rest b m ys w f q r =
 
 -- The words a were laid over o, which gave m. The rest of m was lent from behind them, or from its end, and b was laid over it: a and b are laid over o.
 pub lent : (a b o m ys : List ℕ) (f : ℕ) → m ≡ over a o → f ≡ min (length a) (length m) → ys ≡ over b (take (length m - f) (drop f m)) → take f m ++ (ys ++ drop (length m - f) (drop f m)) ≡ over (a ++ b) o
-lent a b o m ys f p q r = lent-rest b m ys (length a) f q r ∙ rw p (sym (over-append a b o))
+lent a b o m ys f p q r = lent-rest b m ys (length a) f q r ∙ rw p (sym (over_append a b o))
 
 -- Words that are stored one after the other from the start.
 pub over-stored : (ws o : List ℕ) → sets o 0 ws ≡ over ws o

@@ -1,6 +1,6 @@
 -- What a function over the words of trees asks of them, and what it leaves in its output.
 use Rattle.std.specs.Prelude.{ℕ, ◌^◌, ◌<◌, ◌≡◌, List, length}
-use Rattle.reading.specs.Tree.{Tree, Trees, list, trees, treeWords, treesWords}
+use Rattle.reading.specs.Tree.{Tree, Trees, list, trees, tree_words, trees_words}
 use Rattle.reading.specs.Answer.{Refusal, number, Ans, got, bad, over}
 use Rattle.words.specs.declared.Answer.{Answer}
 use Rattle.words.specs.declared.Answer.TheVariants.{Done, Refused}
@@ -8,25 +8,25 @@ use Rattle.words.specs.declared.Answer.TheVariants.{Done, Refused}
 -- The words of one tree. There are so few that no sum of words made from them overflows.
 pub record IsTree (ws : List ℕ) : Type 0 where
   pub tree : Tree
-  pub words : ws ≡ treeWords tree
+  pub words : ws ≡ tree_words tree
   pub small : length ws < 2 ^ 32
 
 -- The words of a list.
 pub record IsList (ws : List ℕ) : Type 0 where
   pub items : Trees
-  pub words : ws ≡ treeWords (list items)
+  pub words : ws ≡ tree_words (list items)
   pub small : length ws < 2 ^ 32
 
 -- The words of trees, one after the other.
 pub record IsTrees (ws : List ℕ) : Type 0 where
   pub items : Trees
-  pub words : ws ≡ treesWords items
+  pub words : ws ≡ trees_words items
   pub small : length ws < 2 ^ 32
 
 -- The words of three trees.
 pub record IsThree (ws : List ℕ) : Type 0 where
   pub items : Trees
-  pub words : ws ≡ treesWords items
+  pub words : ws ≡ trees_words items
   pub three : trees items ≡ 3
   pub small : length ws < 2 ^ 32
 

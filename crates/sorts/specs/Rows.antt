@@ -2,9 +2,9 @@
 use Rattle.std.specs.Prelude.{ℕ, zero, suc, Bool, true, false, List, [], ◌∷◌, ◌++◌}
 use Rattle.reading.specs.Tree.{Trees, tnil, tcons, trees}
 use Rattle.reading.specs.Answer.{number, Ans, got, bad, and_then, malformed}
-use Rattle.grammar.specs.Sort.{Sorts, snil, scons, ctorWords, sortWords}
-use Rattle.grammar.specs.Names.{SortForm, func, function, bitVec, applied}
-use Rattle.grammar.specs.ParseSort.{inSymbol, size_of, sortForm}
+use Rattle.grammar.specs.Sort.{Sorts, snil, scons, ctor_words, sort_words}
+use Rattle.grammar.specs.Names.{SortForm, func, function, bit_vec, applied}
+use Rattle.grammar.specs.ParseSort.{in_symbol, size_of, sort_form}
 use Rattle.words.specs.declared.Answer.{Answer}
 use Rattle.words.specs.declared.Answer.TheVariants.{Done, Refused}
 
@@ -14,27 +14,27 @@ mark zero = []
 mark (suc m) = 8 ∷ []
 
 -- The words of sorts, the first m of which are inputs of functions.
-unfoldable pub rowWords : ℕ → Sorts → List ℕ
-rowWords m snil = []
-rowWords zero (scons s ss) = sortWords s ++ rowWords zero ss
-rowWords (suc m) (scons s ss) = 8 ∷ sortWords s ++ rowWords m ss
+unfoldable pub row_words : ℕ → Sorts → List ℕ
+row_words m snil = []
+row_words zero (scons s ss) = sort_words s ++ row_words zero ss
+row_words (suc m) (scons s ss) = 8 ∷ sort_words s ++ row_words m ss
 
 -- What stands before the n sorts of a list sort.
-abbrev pub rowHead : SortForm → ℕ → List ℕ
-rowHead func n = []
-rowHead function n = 8 ∷ []
-rowHead bitVec n = 5 ∷ []
-rowHead (applied c) n = 10 ∷ ctorWords c ++ (n ∷ [])
+abbrev pub row_head : SortForm → ℕ → List ℕ
+row_head func n = []
+row_head function n = 8 ∷ []
+row_head bit_vec n = 5 ∷ []
+row_head (applied c) n = 10 ∷ ctor_words c ++ (n ∷ [])
 
 -- The words of n Abs, the first with index i.
-unfoldable pub absWords : ℕ → ℕ → List ℕ
-absWords i zero = []
-absWords i (suc n) = 9 ∷ i ∷ absWords (suc i) n
+unfoldable pub abs_words : ℕ → ℕ → List ℕ
+abs_words i zero = []
+abs_words i (suc n) = 9 ∷ i ∷ abs_words (suc i) n
 
 -- There is an answer.
-abbrev pub isGot : {A : Type 0} → Ans A → Bool
-isGot (got a) = true
-isGot (bad r) = false
+abbrev pub is_got : {A : Type 0} → Ans A → Bool
+is_got (got a) = true
+is_got (bad r) = false
 
 -- The answer by a judgement of the sorts that were read.
 abbrev pub ended : Bool → ℕ → Answer
@@ -43,18 +43,18 @@ ended false n = Refused (number malformed)
 
 module _ (text : List ℕ) where
   -- How a list is read, by its first item.
-  unfoldable pub listForm : Trees → Ans SortForm
-  listForm tnil = bad malformed
-  listForm (tcons t ts) = and_then (inSymbol t) λ s. got (sortForm text s (trees ts))
+  unfoldable pub list_form : Trees → Ans SortForm
+  list_form tnil = bad malformed
+  list_form (tcons t ts) = and_then (in_symbol t) λ s. got (sort_form text s (trees ts))
 
   -- The first tree is a size.
-  unfoldable pub isSize : Trees → Bool
-  isSize tnil = false
-  isSize (tcons t ts) = isGot (size_of text t)
+  unfoldable pub is_size : Trees → Bool
+  is_size tnil = false
+  is_size (tcons t ts) = is_got (size_of text t)
 
   -- The trees are right for the form: that of a bit vector is a size.
   unfoldable pub judged : SortForm → Trees → Bool
   judged func ts = true
   judged function ts = true
-  judged bitVec ts = isSize ts
+  judged bit_vec ts = is_size ts
   judged (applied c) ts = true

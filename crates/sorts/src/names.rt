@@ -1,11 +1,11 @@
 // The names of sorts.
 ghost use Rattle.std.specs.Prelude.{◌≡◌};
 ghost use Rattle.reading.specs.Bytes.{Span, lookup};
-ghost use Rattle.reading.specs.Answer.{got, orBad, malformed};
-ghost use Rattle.lexing.specs.Quads.{asWord64};
-ghost use Rattle.grammar.specs.Names.{plainSorts, oneSort, twoSorts, threeItems};
-ghost use Rattle.grammar.specs.ParseSort.{sizeNamed, indexNamed, orApplied, sortForm};
-ghost use Rattle.sorts.specs.SortNames.{plainIn, formIn, width_in};
+ghost use Rattle.reading.specs.Answer.{got, or_bad, malformed};
+ghost use Rattle.lexing.specs.Quads.{as_word64};
+ghost use Rattle.grammar.specs.Names.{plain_sorts, one_sort, two_sorts, three_items};
+ghost use Rattle.grammar.specs.ParseSort.{size_named, index_named, or_applied, sort_form};
+ghost use Rattle.sorts.specs.SortNames.{plain_in, form_in, width_in};
 
 use lexing::byte::{begins_with, same};
 use lexing::number::{Word32, Word64, u32_of, u64_of};
@@ -41,7 +41,7 @@ pub enum ListForm {
 
 // The sort that a name is by itself.
 pub fn plain_sort(name: &[u8]) -> Plain
-    ensures { plainIn result ≡ lookup plainSorts name.now }
+    ensures { plain_in result ≡ lookup plain_sorts name.now }
 {
     if same(name, b"Int") {
         return Plain::Int;
@@ -72,7 +72,7 @@ pub fn plain_sort(name: &[u8]) -> Plain
 
 // The width of a name that is `Size` and a number.
 pub fn size_named(name: &[u8]) -> Word32
-    ensures { orBad malformed (width_in result) ≡ sizeNamed name.now }
+    ensures { or_bad malformed (width_in result) ≡ size_named name.now }
 {
     if !begins_with(b"Size", name) {
         return Word32::No;
@@ -82,7 +82,7 @@ pub fn size_named(name: &[u8]) -> Word32
 
 // The index of a name that is `@(`, a number and `)`.
 pub fn index_named(name: &[u8]) -> Word64
-    ensures { result ≡ asWord64 (indexNamed name.now) }
+    ensures { result ≡ as_word64 (index_named name.now) }
 {
     if !begins_with(b"@(", name) {
         return Word64::No;
@@ -96,7 +96,7 @@ pub fn index_named(name: &[u8]) -> Word64
 
 // How a list is read, by its first name and how many items stand behind it.
 pub fn sort_form(text: &[u8], start: u32, len: u32, n: u32) -> ListForm
-    ensures { formIn result ≡ got (sortForm text.now (record { start = start; len = len }) n) }
+    ensures { form_in result ≡ got (sort_form text.now (record { start = start; len = len }) n) }
 {
     let name = bytes_at(text, start, len);
     if n == 1 {
@@ -113,7 +113,7 @@ pub fn sort_form(text: &[u8], start: u32, len: u32, n: u32) -> ListForm
 
 // The same with one item.
 fn one_sort(name: &[u8], start: u32, len: u32) -> ListForm
-    ensures { formIn result ≡ got (orApplied (record { start = start; len = len }) (lookup oneSort name.now)) }
+    ensures { form_in result ≡ got (or_applied (record { start = start; len = len }) (lookup one_sort name.now)) }
 {
     if same(name, b"Set_Set") {
         return ListForm::Row(Row::Set);
@@ -126,7 +126,7 @@ fn one_sort(name: &[u8], start: u32, len: u32) -> ListForm
 
 // With two items.
 fn two_sorts(name: &[u8], start: u32, len: u32) -> ListForm
-    ensures { formIn result ≡ got (orApplied (record { start = start; len = len }) (lookup twoSorts name.now)) }
+    ensures { form_in result ≡ got (or_applied (record { start = start; len = len }) (lookup two_sorts name.now)) }
 {
     if same(name, b"function") {
         return ListForm::Row(Row::Function);
@@ -142,7 +142,7 @@ fn two_sorts(name: &[u8], start: u32, len: u32) -> ListForm
 
 // With three items.
 fn three_items(name: &[u8], start: u32, len: u32) -> ListForm
-    ensures { formIn result ≡ got (orApplied (record { start = start; len = len }) (lookup threeItems name.now)) }
+    ensures { form_in result ≡ got (or_applied (record { start = start; len = len }) (lookup three_items name.now)) }
 {
     if same(name, b"func") {
         return ListForm::Func;

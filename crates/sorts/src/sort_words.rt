@@ -1,11 +1,11 @@
 // The words of sorts, written from the start of an output. What does not fit is dropped.
 ghost use Rattle.std.specs.Prelude.{◌≡◌, [], ◌∷◌, ◌+◌, ◌^◌, ◌≤◌, ◌<◌, length};
 ghost use Rattle.std.proofs.lemmas.List.Edits.{sets};
-ghost use Rattle.reading.specs.Limits.{maxFunc};
+ghost use Rattle.reading.specs.Limits.{max_func};
 ghost use Rattle.reading.specs.Answer.{over};
 ghost use Rattle.grammar.specs.Sort.{two};
-ghost use Rattle.sorts.specs.SortNames.{rowForm};
-ghost use Rattle.sorts.specs.Rows.{mark, absWords, rowHead};
+ghost use Rattle.sorts.specs.SortNames.{row_form};
+ghost use Rattle.sorts.specs.Rows.{mark, abs_words, row_head};
 
 use crate::names::Row;
 use words::number::{high, low};
@@ -63,7 +63,7 @@ fn put_ctor(out: &mut [u32], ctor: u32, n: u32) -> usize
 
 // What stands before the n sorts of a list sort, and how many words that is.
 pub fn put_row(out: &mut [u32], row: Row, n: u32) -> usize
-    ensures { (result ≡ length (rowHead (rowForm row) n)) × (out.new ≡ over (rowHead (rowForm row) n) out.old) }
+    ensures { (result ≡ length (row_head (row_form row) n)) × (out.new ≡ over (row_head (row_form row) n) out.old) }
 {
     match row {
         Row::Function => put_one(out, FUNC),
@@ -76,8 +76,8 @@ pub fn put_row(out: &mut [u32], row: Row, n: u32) -> usize
 
 // Abs 0 to Abs n - 1.
 pub fn put_abs(out: &mut [u32], n: usize)
-    requires { n ≤ maxFunc }
-    ensures { out.new ≡ over (absWords 0 n) out.old }
+    requires { n ≤ max_func }
+    ensures { out.new ≡ over (abs_words 0 n) out.old }
 {
     let mut i: usize = 0;
     let mut index: u32 = 0;

@@ -3,12 +3,12 @@
 ghost use Rattle.std.specs.Prelude.{◌≡◌};
 ghost use Rattle.reading.specs.Bytes.{Span, nothing};
 ghost use Rattle.reading.specs.Number.{Wide};
-ghost use Rattle.reading.specs.Tree.{Tree, Trees, list, trees, treeWords, treesWords};
-ghost use Rattle.grammar.specs.Sort.{sortWords};
-ghost use Rattle.grammar.specs.ParseSort.{otherSort, symbolSort, funcNumber, eachSort, funcSort, views, parseSort};
-ghost use Rattle.sorts.specs.SortNames.{formIn, rowForm, arityIn};
+ghost use Rattle.reading.specs.Tree.{Tree, Trees, list, trees, tree_words, trees_words};
+ghost use Rattle.grammar.specs.Sort.{sort_words};
+ghost use Rattle.grammar.specs.ParseSort.{other_sort, symbol_sort, func_number, each_sort, func_sort, views, parse_sort};
+ghost use Rattle.sorts.specs.SortNames.{form_in, row_form, arity_in};
 ghost use Rattle.sorts.specs.Outcome.{IsTree, IsList, IsTrees, IsThree, Outcome};
-ghost use Rattle.sorts.specs.Rows.{rowWords, listForm, isSize, judged, ended};
+ghost use Rattle.sorts.specs.Rows.{row_words, list_form, is_size, judged, ended};
 
 use crate::names::{ListForm, Plain, Row, index_named, plain_sort, size_named, sort_form};
 use crate::sort_words::{put_abs, put_data, put_mark, put_one, put_row, put_size, put_var};
@@ -31,7 +31,7 @@ enum Arity {
 
 // A symbol that is no plain sort.
 fn other_sort(name: &[u8], start: u32, len: u32, out: &mut [u32]) -> Answer
-    ensures { Outcome sortWords (otherSort name.now (record { start = start; len = len }) nothing) out.old out.new result }
+    ensures { Outcome sort_words (other_sort name.now (record { start = start; len = len }) nothing) out.old out.new result }
 {
     if begins_with(b"Size", name) {
         return match size_named(name) {
@@ -47,7 +47,7 @@ fn other_sort(name: &[u8], start: u32, len: u32, out: &mut [u32]) -> Answer
 
 // The sort that a symbol is.
 fn symbol_sort(text: &[u8], start: u32, len: u32, out: &mut [u32]) -> Answer
-    ensures { Outcome sortWords (symbolSort text.now (record { start = start; len = len })) out.old out.new result }
+    ensures { Outcome sort_words (symbol_sort text.now (record { start = start; len = len })) out.old out.new result }
 {
     let name = bytes_at(text, start, len);
     match plain_sort(name) {
@@ -62,7 +62,7 @@ fn symbol_sort(text: &[u8], start: u32, len: u32, out: &mut [u32]) -> Answer
 // How a list is read.
 fn list_form(text: &[u8], tree: &[u32]) -> ListForm
     requires { IsList tree.now }
-    ensures { (ts : Trees) → tree.now ≡ treeWords (list ts) → formIn result ≡ listForm text.now ts }
+    ensures { (ts : Trees) → tree.now ≡ tree_words (list ts) → form_in result ≡ list_form text.now ts }
 {
     let n = tree[1];
     if n == 0 {
@@ -76,7 +76,7 @@ fn list_form(text: &[u8], tree: &[u32]) -> ListForm
 
 // Whether the first tree is a size.
 fn is_size(text: &[u8], items: &[u32]) -> bool
-    ensures { (ts : Trees) → items.now ≡ treesWords ts → result ≡ isSize text.now ts }
+    ensures { (ts : Trees) → items.now ≡ trees_words ts → result ≡ is_size text.now ts }
 {
     if items.len() < 3 {
         return false;
@@ -93,7 +93,7 @@ fn is_size(text: &[u8], items: &[u32]) -> bool
 
 // The answer for a list sort once its sorts are read: a bit vector's is to be a size.
 fn row_end(text: &[u8], items: &[u32], row: Row, words: usize) -> Answer
-    ensures { (ts : Trees) → items.now ≡ treesWords ts → result ≡ ended (judged text.now (rowForm row) ts) words }
+    ensures { (ts : Trees) → items.now ≡ trees_words ts → result ≡ ended (judged text.now (row_form row) ts) words }
 {
     match row {
         Row::BitVec => {
@@ -111,7 +111,7 @@ fn row_end(text: &[u8], items: &[u32], row: Row, words: usize) -> Answer
 
 // The four words of an integer as the number of a `func`.
 fn func_number(a: u32, b: u32, c: u32, d: u32) -> Arity
-    ensures { arityIn result ≡ funcNumber (record { a = a; b = b; c = c; d = d }) }
+    ensures { arity_in result ≡ func_number (record { a = a; b = b; c = c; d = d }) }
 {
     if b != 0 {
         return Arity::Out;
@@ -132,7 +132,7 @@ fn func_number(a: u32, b: u32, c: u32, d: u32) -> Arity
 #[cycle(each_sort_func_sort_list_sort_sort)]
 pub fn sort(text: &[u8], tree: &[u32], out: &mut [u32]) -> Answer
     requires { IsTree tree.now }
-    ensures { (t : Tree) → tree.now ≡ treeWords t → Outcome sortWords (parseSort text.now t) out.old out.new result }
+    ensures { (t : Tree) → tree.now ≡ tree_words t → Outcome sort_words (parse_sort text.now t) out.old out.new result }
 {
     let kind = tree[0];
     if kind == SYMBOL {
@@ -148,7 +148,7 @@ pub fn sort(text: &[u8], tree: &[u32], out: &mut [u32]) -> Answer
 #[cycle(each_sort_func_sort_list_sort_sort)]
 fn list_sort(text: &[u8], tree: &[u32], out: &mut [u32]) -> Answer
     requires { IsList tree.now }
-    ensures { (ts : Trees) → tree.now ≡ treeWords (list ts) → Outcome sortWords (parseSort text.now (list ts)) out.old out.new result }
+    ensures { (ts : Trees) → tree.now ≡ tree_words (list ts) → Outcome sort_words (parse_sort text.now (list ts)) out.old out.new result }
 {
     match list_form(text, tree) {
         ListForm::Bad => Answer::Refused(8),
@@ -169,7 +169,7 @@ fn list_sort(text: &[u8], tree: &[u32], out: &mut [u32]) -> Answer
 #[cycle(each_sort_func_sort_list_sort_sort)]
 fn func_sort(text: &[u8], items: &[u32], out: &mut [u32]) -> Answer
     requires { IsThree items.now }
-    ensures { (ts : Trees) → items.now ≡ treesWords ts → trees ts ≡ 3 → Outcome sortWords (funcSort (views text.now ts)) out.old out.new result }
+    ensures { (ts : Trees) → items.now ≡ trees_words ts → trees ts ≡ 3 → Outcome sort_words (func_sort (views text.now ts)) out.old out.new result }
 {
     if items[0] != INTEGER {
         return Answer::Refused(8);
@@ -194,7 +194,7 @@ fn func_sort(text: &[u8], items: &[u32], out: &mut [u32]) -> Answer
 #[cycle(each_sort_func_sort_list_sort_sort)]
 fn each_sort(text: &[u8], items: &[u32], m: u32, out: &mut [u32]) -> Answer
     requires { IsTrees items.now }
-    ensures { (ts : Trees) → items.now ≡ treesWords ts → Outcome (rowWords m) (eachSort (views text.now ts)) out.old out.new result }
+    ensures { (ts : Trees) → items.now ≡ trees_words ts → Outcome (row_words m) (each_sort (views text.now ts)) out.old out.new result }
 {
     let mut at: usize = 0;
     let mut w: usize = 0;

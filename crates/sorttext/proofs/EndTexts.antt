@@ -12,8 +12,8 @@ use Rattle.reading.proofs.Picks.{pick_true, pick-false}
 use Rattle.grammar.specs.Numbers.{hit}
 use Rattle.smtlevels.specs.Open.{total, ending, settled}
 use Rattle.smtlevels.proofs.Open.{hit-yes, hit-no, past-total, past-here, past-there}
-use Rattle.sortnodes.specs.Told.{sortNodeAt, size_of, insideOf}
-use Rattle.sorttext.specs.SortWalk.{Step, into, past, Walk, here, more, endText}
+use Rattle.sortnodes.specs.Told.{sort_node_at, size_of, inside_of}
+use Rattle.sorttext.specs.SortWalk.{Step, into, past, Walk, here, more, end_text}
 use Rattle.smtlevels.specs.Levels.{Known, below}
 use Rattle.sortnodes.specs.declared.SortNode.{SortNode}
 use Rattle.sortnodes.specs.declared.SortNode.TheVariants as told
@@ -41,8 +41,8 @@ size_few told.Other = omega arith
 
 -- A walk goes on.
 step-on : {ws : List ℕ} {a b : ℕ} {cs ds : List ℕ} → Step ws a cs b ds → a < b
-step-on {ws} {a} (into i e f) = omega (arith, size-some (sortNodeAt ws a))
-step-on {ws} {a} (past i e f) = omega (arith, size-some (sortNodeAt ws a))
+step-on {ws} {a} (into i e f) = omega (arith, size-some (sort_node_at ws a))
+step-on {ws} {a} (past i e f) = omega (arith, size-some (sort_node_at ws a))
 
 walk-on : {ws : List ℕ} {a b : ℕ} {cs ds : List ℕ} → Walk ws a cs b ds → a ≤ b
 walk-on here = omega arith
@@ -57,9 +57,9 @@ pub record Toward (ws : List ℕ) (at left : ℕ) (es : List ℕ) (a pending k :
   pub holds : Known bases held (below left levels)
   pub few : pending ≤ length ws
 
-pub toward-start : {ws : List ℕ} {from at left : ℕ} {es : List ℕ} {bases : List ℕ} → Walk ws from [] at es → Toward ws at left es from 0 0 bases 0
+pub toward_start : {ws : List ℕ} {from at left : ℕ} {es : List ℕ} {bases : List ℕ} → Walk ws from [] at es → Toward ws at left es from 0 0 bases 0
 unfolding total ending
-toward-start w = record { levels = []; walk = w; sum = refl; known = refl; holds = tt; few = omega arith }
+toward_start w = record { levels = []; walk = w; sum = refl; known = refl; holds = tt; few = omega arith }
 
 -- At the end.
 module _ {ws : List ℕ} {at left : ℕ} {es : List ℕ} {a pending k : ℕ} {bases : List ℕ} {held : ℕ} (t : Toward ws at left es a pending k bases held) (h : at ≤ a) where
@@ -70,11 +70,11 @@ module _ {ws : List ℕ} {at left : ℕ} {es : List ℕ} {a pending k : ℕ} {ba
       go here h = refl
       go (more s w) h = absurd (omega (arith, step-on s, walk-on w, h))
 
-  pub toward-end : k ≡ ending left es
-  toward-end = t.known ∙ ap (ending left) arrived
+  pub toward_end : k ≡ ending left es
+  toward_end = t.known ∙ ap (ending left) arrived
 
-  pub toward-held : Known bases held (below left es)
-  toward-held = rw arrived at t.holds
+  pub toward_held : Known bases held (below left es)
+  toward_held = rw arrived at t.holds
 
 -- Before it: the place is inside the words, and there is a next one.
 first_step : {P : Type 0} {ws : List ℕ} {a b : ℕ} {cs ds : List ℕ} → Walk ws a cs b ds → a < b → ((m : ℕ) (es : List ℕ) → Step ws a cs m es → Walk ws m es b ds → P) → P
@@ -85,12 +85,12 @@ step-inside : {ws : List ℕ} {a b : ℕ} {cs ds : List ℕ} → Step ws a cs b 
 step-inside (into i e f) = i
 step-inside (past i e f) = i
 
-pub toward-inside : {ws : List ℕ} {at left : ℕ} {es : List ℕ} {a pending k : ℕ} {bases : List ℕ} {held : ℕ} → Toward ws at left es a pending k bases held → a < at → a < length ws
-toward-inside t h = first_step t.walk h λ m es s w. step-inside s
+pub toward_inside : {ws : List ℕ} {at left : ℕ} {es : List ℕ} {a pending k : ℕ} {bases : List ℕ} {held : ℕ} → Toward ws at left es a pending k bases held → a < at → a < length ws
+toward_inside t h = first_step t.walk h λ m es s w. step-inside s
 
 -- Into a sort.
-into_next : {ws : List ℕ} {at left : ℕ} {es : List ℕ} {a b pending k : ℕ} {cs ds : List ℕ} → Step ws a cs b ds → Walk ws b ds at es → pending ≡ total cs → k ≡ ending left cs → (insideOf (sortNodeAt ws a) ≡ 0 → ⊥) → {p' k' : ℕ} → p' ≡ pending + insideOf (sortNodeAt ws a) - 1 → k' ≡ pick (eqb pending left) (k + 1) k
-    → {bases : List ℕ} {held : ℕ} → ((c : ℕ) → Known bases held (below left (c ∷ cs))) → Toward ws at left es (a + size_of (sortNodeAt ws a)) p' k' bases held
+into_next : {ws : List ℕ} {at left : ℕ} {es : List ℕ} {a b pending k : ℕ} {cs ds : List ℕ} → Step ws a cs b ds → Walk ws b ds at es → pending ≡ total cs → k ≡ ending left cs → (inside_of (sort_node_at ws a) ≡ 0 → ⊥) → {p' k' : ℕ} → p' ≡ pending + inside_of (sort_node_at ws a) - 1 → k' ≡ pick (eqb pending left) (k + 1) k
+    → {bases : List ℕ} {held : ℕ} → ((c : ℕ) → Known bases held (below left (c ∷ cs))) → Toward ws at left es (a + size_of (sort_node_at ws a)) p' k' bases held
 unfolding total ending pick
 into_next {left = left} {pending = pending} {k = k} (into {m = m} {cs = cs} i e f) w p q z {k' = k'} g h o =
     record {
@@ -116,8 +116,8 @@ past-known left pending c cs ds {k} {k'} e p q h = go (eqb pending left) refl h
     go true u v = v ∙ sym (past-here cs e (sym p ∙ eqb-true pending left u))
     go false u v = v ∙ q ∙ sym (past-there cs e (λ o. eqb-false pending left u (p ∙ o)))
 
-past_next : {ws : List ℕ} {at left : ℕ} {es : List ℕ} {a b pending k : ℕ} {cs ds : List ℕ} → Step ws a cs b ds → Walk ws b ds at es → pending ≡ total cs → k ≡ ending left cs → pending ≤ length ws → insideOf (sortNodeAt ws a) ≡ 0 → {p' k' : ℕ} → p' ≡ pending - 1 → k' ≡ pick (eqb pending left) 0 k
-    → {bases : List ℕ} {held : ℕ} → ((c : ℕ) (ds : List ℕ) → settled cs ≡ suc c ∷ ds → Known bases held (below left (c ∷ ds))) → Toward ws at left es (a + size_of (sortNodeAt ws a)) p' k' bases held
+past_next : {ws : List ℕ} {at left : ℕ} {es : List ℕ} {a b pending k : ℕ} {cs ds : List ℕ} → Step ws a cs b ds → Walk ws b ds at es → pending ≡ total cs → k ≡ ending left cs → pending ≤ length ws → inside_of (sort_node_at ws a) ≡ 0 → {p' k' : ℕ} → p' ≡ pending - 1 → k' ≡ pick (eqb pending left) 0 k
+    → {bases : List ℕ} {held : ℕ} → ((c : ℕ) (ds : List ℕ) → settled cs ≡ suc c ∷ ds → Known bases held (below left (c ∷ ds))) → Toward ws at left es (a + size_of (sort_node_at ws a)) p' k' bases held
 unfolding total
 past_next (into i e f) w p q r z g h o = absurd (omega (arith, z, e))
 past_next {left = left} {pending = pending} (past {c = c} {cs = cs} {ds = ds} i e f) w p q r z g h o =
@@ -130,45 +130,45 @@ past_next {left = left} {pending = pending} (past {c = c} {cs = cs} {ds = ds} i 
       few = omega (arith, r, g);
     }
 
-past-some : {ws : List ℕ} {a b : ℕ} {cs ds : List ℕ} → Step ws a cs b ds → insideOf (sortNodeAt ws a) ≡ 0 → 0 < total cs
+past-some : {ws : List ℕ} {a b : ℕ} {cs ds : List ℕ} → Step ws a cs b ds → inside_of (sort_node_at ws a) ≡ 0 → 0 < total cs
 past-some (into i e f) z = absurd (omega (arith, z, e))
 past-some (past {cs = cs} i e f) z = omega (arith, past-total cs f)
 
 -- The same of what is told of a sort.
-module _ {ws : List ℕ} {at left : ℕ} {es : List ℕ} {a pending k : ℕ} {bases : List ℕ} {held : ℕ} (t : Toward ws at left es a pending k bases held) (h : a < at) {x : SortNode} (e : x ≡ sortNodeAt ws a) {n : ℕ} (f : n ≡ insideOf x) where
-  pub toward-into : (n ≡ 0 → ⊥) → {z p' k' : ℕ} → z ≡ size_of x → p' ≡ pending + n - 1 → k' ≡ pick (eqb pending left) (k + 1) k
+module _ {ws : List ℕ} {at left : ℕ} {es : List ℕ} {a pending k : ℕ} {bases : List ℕ} {held : ℕ} (t : Toward ws at left es a pending k bases held) (h : a < at) {x : SortNode} (e : x ≡ sort_node_at ws a) {n : ℕ} (f : n ≡ inside_of x) where
+  pub toward_into : (n ≡ 0 → ⊥) → {z p' k' : ℕ} → z ≡ size_of x → p' ≡ pending + n - 1 → k' ≡ pick (eqb pending left) (k + 1) k
       → {bases' : List ℕ} {held' : ℕ} → ((c : ℕ) (cs : List ℕ) → pending ≡ total cs → Known bases held (below left cs) → Known bases' held' (below left (c ∷ cs))) → Toward ws at left es (a + z) p' k' bases' held'
-  toward-into some {z} {p'} {k'} y g q o =
-      let i : n ≡ insideOf (sortNodeAt ws a) = f ∙ ap insideOf e in
-      let j : z ≡ size_of (sortNodeAt ws a) = y ∙ ap size_of e in
+  toward_into some {z} {p'} {k'} y g q o =
+      let i : n ≡ inside_of (sort_node_at ws a) = f ∙ ap inside_of e in
+      let j : z ≡ size_of (sort_node_at ws a) = y ∙ ap size_of e in
       rw j (first_step t.walk h λ m ds s w. into_next s w t.sum t.known (λ o. some (i ∙ o)) (rw i at g) q (λ c. o c _ t.sum t.holds))
 
-  pub toward-past : n ≡ 0 → {z p' k' : ℕ} → z ≡ size_of x → p' ≡ pending - 1 → k' ≡ pick (eqb pending left) 0 k
+  pub toward_past : n ≡ 0 → {z p' k' : ℕ} → z ≡ size_of x → p' ≡ pending - 1 → k' ≡ pick (eqb pending left) 0 k
       → {bases' : List ℕ} {held' : ℕ} → ((c : ℕ) (cs ds : List ℕ) → settled cs ≡ suc c ∷ ds → pending ≡ total cs → Known bases held (below left cs) → Known bases' held' (below left (c ∷ ds))) → Toward ws at left es (a + z) p' k' bases' held'
-  toward-past none {z} {p'} {k'} y g q o =
-      let i : insideOf (sortNodeAt ws a) ≡ 0 = sym (ap insideOf e) ∙ sym f ∙ none in
-      let j : z ≡ size_of (sortNodeAt ws a) = y ∙ ap size_of e in
+  toward_past none {z} {p'} {k'} y g q o =
+      let i : inside_of (sort_node_at ws a) ≡ 0 = sym (ap inside_of e) ∙ sym f ∙ none in
+      let j : z ≡ size_of (sort_node_at ws a) = y ∙ ap size_of e in
       rw j (first_step t.walk h λ m ds s w. past_next s w t.sum t.known t.few i g q (λ c ds e. o c _ ds e t.sum t.holds))
 
-  pub toward-some : n ≡ 0 → 0 < pending
-  toward-some none =
-      let i : insideOf (sortNodeAt ws a) ≡ 0 = sym (ap insideOf e) ∙ sym f ∙ none in
+  pub toward_some : n ≡ 0 → 0 < pending
+  toward_some none =
+      let i : inside_of (sort_node_at ws a) ≡ 0 = sym (ap inside_of e) ∙ sym f ∙ none in
       first_step t.walk h λ m ds s w. omega (arith, past-some s i, t.sum)
 
 -- The same by other names.
-pub toward-as : {ws : List ℕ} {at left : ℕ} {es : List ℕ} {a pending k : ℕ} {bases bases' : List ℕ} {held held' : ℕ} → bases' ≡ bases → held' ≡ held → Toward ws at left es a pending k bases held → Toward ws at left es a pending k bases' held'
-toward-as e f t = rw (e, f) t
+pub toward_as : {ws : List ℕ} {at left : ℕ} {es : List ℕ} {a pending k : ℕ} {bases bases' : List ℕ} {held held' : ℕ} → bases' ≡ bases → held' ≡ held → Toward ws at left es a pending k bases held → Toward ws at left es a pending k bases' held'
+toward_as e f t = rw (e, f) t
 
 -- What is written behind a sort, with nothing to come or with more.
 module _ (cs : List ℕ) {k left : ℕ} (e : k ≡ ending left cs) (f : left ≡ total cs) where
-  pub end-last : left ≡ 0 → replicate k 41 ≡ endText cs
-  unfolding endText
+  pub end-last : left ≡ 0 → replicate k 41 ≡ end_text cs
+  unfolding end_text
   end-last h =
       let z : eqb (total cs) 0 ≡ true = eq-eqb (total cs) 0 (sym f ∙ h) in
       rw (e, f) (sym (append-nil _) ∙ ap (λ t. replicate (ending (total cs) cs) 41 ++ t) (pick_true _ z refl))
 
-  pub end_more : (left ≡ 0 → ⊥) → replicate k 41 ++ (32 ∷ []) ≡ endText cs
-  unfolding endText
+  pub end_more : (left ≡ 0 → ⊥) → replicate k 41 ++ (32 ∷ []) ≡ end_text cs
+  unfolding end_text
   end_more h =
       let z : eqb (total cs) 0 ≡ false = ne_eqb (total cs) 0 (λ o. h (f ∙ o)) in
       rw (e, f) (ap (λ t. replicate (ending (total cs) cs) 41 ++ t) (pick-false _ z refl))

@@ -6,24 +6,24 @@ use native.Mathlib.Omega.{arith}
 use lib.ListN.{length, length-append}
 use Rattle.reading.specs.Answer.{Ans, got}
 use Rattle.reading.proofs.Placed.{at-inside, at_right}
-use Rattle.grammar.specs.Sort.{Sort, Sorts, sorts, sortWords, sortsWords}
-use Rattle.judging.specs.Judge.{reads, sortAt}
+use Rattle.grammar.specs.Sort.{Sort, Sorts, sorts, sort_words, sorts_words}
+use Rattle.judging.specs.Judge.{reads, sort_at}
 use Rattle.judging.specs.Spelled.{Spelled}
 use Rattle.judging.proofs.Spell.{Low}
 use Rattle.writing.specs.Wrote.{WroteBytes}
-use Rattle.smtnames.specs.Pieces.{joined, sortText}
-use Rattle.sortnodes.specs.Told.{sortNodeAt, size_of, insideOf}
-use Rattle.smtsorts.specs.SortNode.{openText}
+use Rattle.smtnames.specs.Pieces.{joined, sort_text}
+use Rattle.sortnodes.specs.Told.{sort_node_at, size_of, inside_of}
+use Rattle.smtsorts.specs.SortNode.{open_text}
 use Rattle.smtlevels.specs.Open.{total, settled}
-use Rattle.sorttext.specs.SortWalk.{endText, Step, into, past, Walk, here, more}
+use Rattle.sorttext.specs.SortWalk.{end_text, Step, into, past, Walk, here, more}
 use Rattle.smtlevels.specs.Levels.{Known}
 use Rattle.sortnodes.specs.declared.SortNode.{SortNode}
-use Rattle.smtnames.proofs.Joined.{joined-assoc, joined-none, joined_end}
-use Rattle.smtnames.proofs.Tells.{Put, put, Gone, put-none, put-seq, put_as, put-bad, gone-behind, gone-first, gone-as}
+use Rattle.smtnames.proofs.Joined.{joined_assoc, joined-none, joined_end}
+use Rattle.smtnames.proofs.Tells.{Put, put, Gone, put-none, put_seq, put_as, put-bad, gone-behind, gone-first, gone_as}
 use Rattle.sorttext.proofs.WordsRead.{sort-spelled}
-use Rattle.sorttext.proofs.SortTexts.{spacedText}
-use Rattle.sorttext.proofs.SortViews.{sortTold, View, refusing, leaf, inner, view, words-some, sort-told}
-use Rattle.sorttext.proofs.SortStack.{levels, stack_words, restText, stack-few, Behind, ends, goes, behind}
+use Rattle.sorttext.proofs.SortTexts.{spaced_text}
+use Rattle.sorttext.proofs.SortViews.{sort_told, View, refusing, leaf, inner, view, words-some, sort-told}
+use Rattle.sorttext.proofs.SortStack.{levels, stack_words, rest_text, stack_few, Behind, ends, goes, behind}
 use Rattle.smtlevels.proofs.Open.{past-total}
 use Rattle.smtlevels.proofs.Levels.{known_as}
 
@@ -34,60 +34,60 @@ walk_step (more r w) s = more r (walk_step w s)
 
 -- What is left to be done for a sort s₀ that ends at n: nothing, or the sort at hand and what is to come behind it.
 pub data State (text ws : List ℕ) (at n : ℕ) (s₀ : Sort) (l₀ : List ℕ) (place : ℕ) (l : List ℕ) (a p left : ℕ) (bases : List ℕ) (known : ℕ) : Type 0 where
-  over : left ≡ 0 → a ≡ n → Put (sortText text s₀) l₀ place l p → State text ws at n s₀ l₀ place l a p left bases known
-  amid : (front : Ans (List ℕ)) (s : Sort) (st : List Sorts) → left ≡ suc (total (levels st)) → Spelled ws a n (sortWords s ++ stack_words st) → Walk ws at [] a (levels st) → Known bases known (levels st) → sortText text s₀ ≡ joined front (joined (sortText text s) (restText text st))
+  over : left ≡ 0 → a ≡ n → Put (sort_text text s₀) l₀ place l p → State text ws at n s₀ l₀ place l a p left bases known
+  amid : (front : Ans (List ℕ)) (s : Sort) (st : List Sorts) → left ≡ suc (total (levels st)) → Spelled ws a n (sort_words s ++ stack_words st) → Walk ws at [] a (levels st) → Known bases known (levels st) → sort_text text s₀ ≡ joined front (joined (sort_text text s) (rest_text text st))
       → Put front l₀ place l p → State text ws at n s₀ l₀ place l a p left bases known
 
-pub state-start : (text : List ℕ) (limit : ℕ) (ws : List ℕ) (at : ℕ) (l : List ℕ) (place : ℕ) (bases : List ℕ) {s : Sort} {n : ℕ} → Low ws → sortAt limit ws at ≡ reads s n → State text ws at n s l place l at place 1 bases 0
-unfolding levels stack_words restText total
-state-start text limit ws at l place bases {s} low e =
-    amid (got []) s [] refl (rw (append-nil (sortWords s)) (sort-spelled limit ws at low e)) here tt (sym (joined-none _ ∙ joined_end _)) (put-none l place)
+pub state_start : (text : List ℕ) (limit : ℕ) (ws : List ℕ) (at : ℕ) (l : List ℕ) (place : ℕ) (bases : List ℕ) {s : Sort} {n : ℕ} → Low ws → sort_at limit ws at ≡ reads s n → State text ws at n s l place l at place 1 bases 0
+unfolding levels stack_words rest_text total
+state_start text limit ws at l place bases {s} low e =
+    amid (got []) s [] refl (rw (append-nil (sort_words s)) (sort-spelled limit ws at low e)) here tt (sym (joined-none _ ∙ joined_end _)) (put-none l place)
 
 -- The refusal of the bytes before the sorts inside a sort is the sort's.
-view-gone : {text : List ℕ} {s : Sort} {l l' : List ℕ} {k : ℕ} → View text s → Gone (openText text (sortTold s)) l l' k → Gone (sortText text s) l l' k
-view-gone {text} (refusing e t) g = gone-as (e ∙ sym (ap (openText text) t)) g
-view-gone (leaf e z w) g = gone-as e g
-view-gone (inner t ts front e z w f) g = gone-as e (gone-first _ g)
+view-gone : {text : List ℕ} {s : Sort} {l l' : List ℕ} {k : ℕ} → View text s → Gone (open_text text (sort_told s)) l l' k → Gone (sort_text text s) l l' k
+view-gone {text} (refusing e t) g = gone_as (e ∙ sym (ap (open_text text) t)) g
+view-gone (leaf e z w) g = gone_as e g
+view-gone (inner t ts front e z w f) g = gone_as e (gone-first _ g)
 
 -- The words of the sort at hand.
-hand-inside : {ws : List ℕ} {a n : ℕ} (s : Sort) (ys : List ℕ) → Spelled ws a n (sortWords s ++ ys) → a + (1 + length ys) ≤ length ws
-hand-inside s ys h = omega (arith, at-inside h.stands, words-some s, length-append (sortWords s) ys)
+hand_inside : {ws : List ℕ} {a n : ℕ} (s : Sort) (ys : List ℕ) → Spelled ws a n (sort_words s ++ ys) → a + (1 + length ys) ≤ length ws
+hand_inside s ys h = omega (arith, at-inside h.stands, words-some s, length-append (sort_words s) ys)
 
-spelled-right : {ws : List ℕ} {a n : ℕ} (xs ys : List ℕ) → Spelled ws a n (xs ++ ys) → Spelled ws (a + length xs) n ys
-spelled-right xs ys h = record { stands = at_right xs ys h.stands; ends = omega (arith, h.ends, length-append xs ys) }
+spelled_right : {ws : List ℕ} {a n : ℕ} (xs ys : List ℕ) → Spelled ws a n (xs ++ ys) → Spelled ws (a + length xs) n ys
+spelled_right xs ys h = record { stands = at_right xs ys h.stands; ends = omega (arith, h.ends, length-append xs ys) }
 
 spelled_as : {ws : List ℕ} {n i j : ℕ} {ys : List ℕ} (a : ℕ) → i ≡ j → Spelled ws (a + i) n ys → Spelled ws (a + j) n ys
 spelled_as a e h = rw e at h
 
-inner-words : {ws : List ℕ} {a n : ℕ} (s t : Sort) (ts : Sorts) (st : List Sorts) (xs : List ℕ) → sortWords s ≡ xs ++ (sortWords t ++ sortsWords ts) → Spelled ws a n (sortWords s ++ stack_words st) → Spelled ws a n (xs ++ (sortWords t ++ stack_words (ts ∷ st)))
+inner-words : {ws : List ℕ} {a n : ℕ} (s t : Sort) (ts : Sorts) (st : List Sorts) (xs : List ℕ) → sort_words s ≡ xs ++ (sort_words t ++ sorts_words ts) → Spelled ws a n (sort_words s ++ stack_words st) → Spelled ws a n (xs ++ (sort_words t ++ stack_words (ts ∷ st)))
 unfolding stack_words
 inner-words {ws} {a} {n} s t ts st xs e h =
-    rw (ap (λ l. l ++ stack_words st) e ∙ append_assoc xs (sortWords t ++ sortsWords ts) (stack_words st) ∙ ap (λ l. xs ++ l) (append_assoc (sortWords t) (sortsWords ts) (stack_words st))) at h
+    rw (ap (λ l. l ++ stack_words st) e ∙ append_assoc xs (sort_words t ++ sorts_words ts) (stack_words st) ∙ ap (λ l. xs ++ l) (append_assoc (sort_words t) (sorts_words ts) (stack_words st))) at h
 
 module _ {text ws : List ℕ} {at n : ℕ} {s₀ : Sort} {l₀ : List ℕ} {place : ℕ} {l : List ℕ} {a p left : ℕ} {bases : List ℕ} {known : ℕ} where
-  pub state-inside : State text ws at n s₀ l₀ place l a p left bases known → 0 < left → a < length ws
-  state-inside (over z e w) h = absurd (omega (arith, z, h))
-  state-inside (amid front s st z h w b e f) k = omega (arith, hand-inside s (stack_words st) h)
+  pub state_inside : State text ws at n s₀ l₀ place l a p left bases known → 0 < left → a < length ws
+  state_inside (over z e w) h = absurd (omega (arith, z, h))
+  state_inside (amid front s st z h w b e f) k = omega (arith, hand_inside s (stack_words st) h)
 
-  pub state-few : State text ws at n s₀ l₀ place l a p left bases known → 0 < left → left ≤ length ws
-  state-few (over z e w) h = absurd (omega (arith, z, h))
-  state-few (amid front s st z h w b e f) k = omega (arith, z, hand-inside s (stack_words st) h, stack-few st)
+  pub state_few : State text ws at n s₀ l₀ place l a p left bases known → 0 < left → left ≤ length ws
+  state_few (over z e w) h = absurd (omega (arith, z, h))
+  state_few (amid front s st z h w b e f) k = omega (arith, z, hand_inside s (stack_words st) h, stack_few st)
 
   -- It is over.
-  pub state-end : State text ws at n s₀ l₀ place l a p left bases known → left ≤ 0 → a ≡ n
-  state-end (over z e w) h = e
-  state-end (amid front s st z h w b e f) k = absurd (omega (arith, z, k))
+  pub state_end : State text ws at n s₀ l₀ place l a p left bases known → left ≤ 0 → a ≡ n
+  state_end (over z e w) h = e
+  state_end (amid front s st z h w b e f) k = absurd (omega (arith, z, k))
 
-  pub state-put : State text ws at n s₀ l₀ place l a p left bases known → left ≤ 0 → Put (sortText text s₀) l₀ place l p
-  state-put (over z e w) h = w
-  state-put (amid front s st z h w b e f) k = absurd (omega (arith, z, k))
+  pub state_put : State text ws at n s₀ l₀ place l a p left bases known → left ≤ 0 → Put (sort_text text s₀) l₀ place l p
+  state_put (over z e w) h = w
+  state_put (amid front s st z h w b e f) k = absurd (omega (arith, z, k))
 
   -- A refusal.
-  pub state-gone : {x : SortNode} {l' : List ℕ} {k : ℕ} → State text ws at n s₀ l₀ place l a p left bases known → 0 < left → x ≡ sortNodeAt ws a → Gone (openText text x) l l' k → Gone (sortText text s₀) l₀ l' k
-  state-gone (over z e w) h q g = absurd (omega (arith, z, h))
-  state-gone (amid front s st z h w b e f) k q g =
+  pub state_gone : {x : SortNode} {l' : List ℕ} {k : ℕ} → State text ws at n s₀ l₀ place l a p left bases known → 0 < left → x ≡ sort_node_at ws a → Gone (open_text text x) l l' k → Gone (sort_text text s₀) l₀ l' k
+  state_gone (over z e w) h q g = absurd (omega (arith, z, h))
+  state_gone (amid front s st z h w b e f) k q g =
       let t = q ∙ sort-told (stack_words st) s h.stands in
-      gone-as e (gone-behind f (gone-first _ (view-gone (view text s) (gone-as (ap (openText text) (sym t)) g))))
+      gone_as e (gone-behind f (gone-first _ (view-gone (view text s) (gone_as (ap (open_text text) (sym t)) g))))
 
 -- Past a sort without sorts inside it.
 leaf-total : (ss : Sorts) (st : List Sorts) → suc (sorts ss) + total (levels st) ≡ suc (total (levels (ss ∷ st)))
@@ -95,64 +95,64 @@ unfolding levels total
 leaf-total ss st = omega arith
 
 module _ {text ws : List ℕ} {at n : ℕ} {s₀ : Sort} {l₀ : List ℕ} {place : ℕ} where
-  leaf-next : {l l' : List ℕ} {a p p' left z : ℕ} {bases : List ℕ} {known : ℕ} (front : Ans (List ℕ)) (s : Sort) (st : List Sorts) → a < length ws → insideOf (sortNodeAt ws a) ≡ 0 → z ≡ size_of (sortNodeAt ws a) → left ≡ total (levels st) → Spelled ws (a + z) n (stack_words st) → Walk ws at [] a (levels st) → Known bases known (settled (levels st))
-      → sortText text s₀ ≡ joined front (joined (sortText text s) (restText text st)) → Put (joined front (sortText text s)) l₀ place l p → WroteBytes l p (endText (levels st)) l' p' → Behind text st → State text ws at n s₀ l₀ place l' (a + z) p' left bases known
+  leaf-next : {l l' : List ℕ} {a p p' left z : ℕ} {bases : List ℕ} {known : ℕ} (front : Ans (List ℕ)) (s : Sort) (st : List Sorts) → a < length ws → inside_of (sort_node_at ws a) ≡ 0 → z ≡ size_of (sort_node_at ws a) → left ≡ total (levels st) → Spelled ws (a + z) n (stack_words st) → Walk ws at [] a (levels st) → Known bases known (settled (levels st))
+      → sort_text text s₀ ≡ joined front (joined (sort_text text s) (rest_text text st)) → Put (joined front (sort_text text s)) l₀ place l p → WroteBytes l p (end_text (levels st)) l' p' → Behind text st → State text ws at n s₀ l₀ place l' (a + z) p' left bases known
   unfolding levels
   leaf-next front s st i o z u h w b e f v (ends t y q) =
-      over (u ∙ t) (sym (h.ends ∙ rw y (omega arith))) (put_as (e ∙ ap (λ r. joined front (joined (sortText text s) r)) q ∙ sym (joined-assoc front (sortText text s) _)) (put-seq f (put v)))
+      over (u ∙ t) (sym (h.ends ∙ rw y (omega arith))) (put_as (e ∙ ap (λ r. joined front (joined (sort_text text s) r)) q ∙ sym (joined_assoc front (sort_text text s) _)) (put_seq f (put v)))
   leaf-next {bases = bases} {known = known} front s st i o z u h w b e f v (goes s' ss st' t y q) =
-      amid (joined (joined front (sortText text s)) (got (endText (levels st)))) s' (ss ∷ st')
+      amid (joined (joined front (sort_text text s)) (got (end_text (levels st)))) s' (ss ∷ st')
       (u ∙ past-total (levels st) t ∙ leaf-total ss st')
       (rw y at h)
       (rw z (walk_step w (past i o t)))
       (known_as bases known (suc (sorts ss)) (sorts ss) (levels st') (rw t at b))
-      (e ∙ ap (λ r. joined front (joined (sortText text s) r)) q ∙ sym (joined-assoc front (sortText text s) _) ∙ sym (joined-assoc (joined front (sortText text s)) (got (endText (levels st))) _))
-      (put-seq f (put v))
+      (e ∙ ap (λ r. joined front (joined (sort_text text s) r)) q ∙ sym (joined_assoc front (sort_text text s) _) ∙ sym (joined_assoc (joined front (sort_text text s)) (got (end_text (levels st))) _))
+      (put_seq f (put v))
 
   -- Into a sort.
-  inner-next : {l : List ℕ} {a p left z : ℕ} {bases : List ℕ} {known : ℕ} (front : Ans (List ℕ)) (s : Sort) (st : List Sorts) (t : Sort) (ts : Sorts) → a < length ws → insideOf (sortNodeAt ws a) ≡ suc (sorts ts) → z ≡ size_of (sortNodeAt ws a) → left ≡ suc (sorts ts) + total (levels st) → Spelled ws (a + z) n (sortWords t ++ stack_words (ts ∷ st))
-      → Walk ws at [] a (levels st) → Known bases known (sorts ts ∷ levels st) → sortText text s₀ ≡ joined front (joined (sortText text s) (restText text st)) → sortText text s ≡ joined (openText text (sortTold s)) (joined (sortText text t) (joined (spacedText text ts) (got (41 ∷ []))))
-      → Put (joined front (openText text (sortTold s))) l₀ place l p → State text ws at n s₀ l₀ place l (a + z) p left bases known
-  unfolding levels total restText
+  inner-next : {l : List ℕ} {a p left z : ℕ} {bases : List ℕ} {known : ℕ} (front : Ans (List ℕ)) (s : Sort) (st : List Sorts) (t : Sort) (ts : Sorts) → a < length ws → inside_of (sort_node_at ws a) ≡ suc (sorts ts) → z ≡ size_of (sort_node_at ws a) → left ≡ suc (sorts ts) + total (levels st) → Spelled ws (a + z) n (sort_words t ++ stack_words (ts ∷ st))
+      → Walk ws at [] a (levels st) → Known bases known (sorts ts ∷ levels st) → sort_text text s₀ ≡ joined front (joined (sort_text text s) (rest_text text st)) → sort_text text s ≡ joined (open_text text (sort_told s)) (joined (sort_text text t) (joined (spaced_text text ts) (got (41 ∷ []))))
+      → Put (joined front (open_text text (sort_told s))) l₀ place l p → State text ws at n s₀ l₀ place l (a + z) p left bases known
+  unfolding levels total rest_text
   inner-next front s st t ts i o z u h w b e g f =
-      amid (joined front (openText text (sortTold s))) t (ts ∷ st)
+      amid (joined front (open_text text (sort_told s))) t (ts ∷ st)
       (omega (arith, u))
       h
-      (rw z (walk_step w (into i o (omega (arith, stack-few (ts ∷ st), hand-inside t (stack_words (ts ∷ st)) h)))))
+      (rw z (walk_step w (into i o (omega (arith, stack_few (ts ∷ st), hand_inside t (stack_words (ts ∷ st)) h)))))
       b
-      (e ∙ ap (λ r. joined front (joined r (restText text st))) g ∙ simp joined-assoc)
+      (e ∙ ap (λ r. joined front (joined r (rest_text text st))) g ∙ simp joined_assoc)
       f
 
 -- The step of the loop, by what is told of the sort at hand.
 module _ {text ws : List ℕ} {at n : ℕ} {s₀ : Sort} {l₀ : List ℕ} {place : ℕ} {l l₁ : List ℕ} {a p q left m z : ℕ} {x : SortNode} {bases bases' : List ℕ} {known known' : ℕ} where
-  pub state-past : {l₂ : List ℕ} {p' : ℕ} → State text ws at n s₀ l₀ place l a p left bases known → 0 < left → x ≡ sortNodeAt ws a → Put (openText text x) l p l₁ q → m ≡ insideOf x → m ≡ 0 → z ≡ size_of x
-      → ((cs : List ℕ) → Walk ws at [] a cs → left - 1 ≡ total cs → Known bases known cs → WroteBytes l₁ q (endText cs) l₂ p')
+  pub state_past : {l₂ : List ℕ} {p' : ℕ} → State text ws at n s₀ l₀ place l a p left bases known → 0 < left → x ≡ sort_node_at ws a → Put (open_text text x) l p l₁ q → m ≡ inside_of x → m ≡ 0 → z ≡ size_of x
+      → ((cs : List ℕ) → Walk ws at [] a cs → left - 1 ≡ total cs → Known bases known cs → WroteBytes l₁ q (end_text cs) l₂ p')
       → ((cs : List ℕ) → Walk ws at [] a cs → left - 1 ≡ total cs → Known bases known cs → Known bases' known' (settled cs)) → State text ws at n s₀ l₀ place l₂ (a + z) p' (left - 1 + m) bases' known'
-  state-past (over y e w) h d f i o u v b = absurd (omega (arith, y, h))
-  state-past {l₂ = l₂} {p' = p'} (amid front s st y h w j e g) k d f i o u v b = go (view text s)
+  state_past (over y e w) h d f i o u v b = absurd (omega (arith, y, h))
+  state_past {l₂ = l₂} {p' = p'} (amid front s st y h w j e g) k d f i o u v b = go (view text s)
     where
-      told : x ≡ sortTold s
+      told : x ≡ sort_told s
       told = d ∙ sort-told (stack_words st) s h.stands
 
       go : View text s → State text ws at n s₀ l₀ place l₂ (a + z) p' (left - 1 + m) bases' known'
-      go (refusing r t) = put-bad f (ap (openText text) (told ∙ t))
-      go (leaf c t r) = leaf-next front s st (omega (arith, hand-inside s (stack_words st) h)) (sym (ap insideOf d) ∙ sym i ∙ o) (u ∙ ap size_of d) (omega (arith, y, o)) (spelled_as a (r ∙ sym (u ∙ ap size_of told)) (spelled-right (sortWords s) (stack_words st) h)) w (b (levels st) w (omega (arith, y)) j) e (put-seq g (put_as (c ∙ ap (openText text) (sym told)) f)) (v (levels st) w (omega (arith, y)) j) (behind text st)
-      go (inner t ts xs c n r v) = absurd (omega (arith, i, o, ap insideOf told, n))
+      go (refusing r t) = put-bad f (ap (open_text text) (told ∙ t))
+      go (leaf c t r) = leaf-next front s st (omega (arith, hand_inside s (stack_words st) h)) (sym (ap inside_of d) ∙ sym i ∙ o) (u ∙ ap size_of d) (omega (arith, y, o)) (spelled_as a (r ∙ sym (u ∙ ap size_of told)) (spelled_right (sort_words s) (stack_words st) h)) w (b (levels st) w (omega (arith, y)) j) e (put_seq g (put_as (c ∙ ap (open_text text) (sym told)) f)) (v (levels st) w (omega (arith, y)) j) (behind text st)
+      go (inner t ts xs c n r v) = absurd (omega (arith, i, o, ap inside_of told, n))
 
-  pub state-into : State text ws at n s₀ l₀ place l a p left bases known → 0 < left → x ≡ sortNodeAt ws a → Put (openText text x) l p l₁ q → m ≡ insideOf x → (m ≡ 0 → ⊥) → z ≡ size_of x
+  pub state_into : State text ws at n s₀ l₀ place l a p left bases known → 0 < left → x ≡ sort_node_at ws a → Put (open_text text x) l p l₁ q → m ≡ inside_of x → (m ≡ 0 → ⊥) → z ≡ size_of x
       → ((c : ℕ) (cs : List ℕ) → left - 1 ≡ total cs → Known bases known cs → Known bases' known' (c ∷ cs)) → State text ws at n s₀ l₀ place l₁ (a + z) q (left - 1 + m) bases' known'
-  state-into (over y e w) h d f i o u b = absurd (omega (arith, y, h))
-  state-into (amid front s st y h w kn e g) k d f i o u b = go (view text s)
+  state_into (over y e w) h d f i o u b = absurd (omega (arith, y, h))
+  state_into (amid front s st y h w kn e g) k d f i o u b = go (view text s)
     where
-      told : x ≡ sortTold s
+      told : x ≡ sort_told s
       told = d ∙ sort-told (stack_words st) s h.stands
 
       go : View text s → State text ws at n s₀ l₀ place l₁ (a + z) q (left - 1 + m) bases' known'
-      go (refusing r t) = put-bad f (ap (openText text) (told ∙ t))
-      go (leaf c t r) = absurd (o (i ∙ ap insideOf told ∙ t))
+      go (refusing r t) = put-bad f (ap (open_text text) (told ∙ t))
+      go (leaf c t r) = absurd (o (i ∙ ap inside_of told ∙ t))
       go (inner t ts xs v j r c) =
-          inner-next front s st t ts (omega (arith, hand-inside s (stack_words st) h)) (sym (ap insideOf d) ∙ ap insideOf told ∙ j) (u ∙ ap size_of d) (omega (arith, y, i, ap insideOf told, j)) (spelled_as a (c ∙ sym (u ∙ ap size_of told)) (spelled-right xs _ (inner-words s t ts st xs r h))) w (b (sorts ts) (levels st) (omega (arith, y)) kn) e v (put-seq g (put_as (ap (openText text) (sym told)) f))
+          inner-next front s st t ts (omega (arith, hand_inside s (stack_words st) h)) (sym (ap inside_of d) ∙ ap inside_of told ∙ j) (u ∙ ap size_of d) (omega (arith, y, i, ap inside_of told, j)) (spelled_as a (c ∙ sym (u ∙ ap size_of told)) (spelled_right xs _ (inner-words s t ts st xs r h))) w (b (sorts ts) (levels st) (omega (arith, y)) kn) e v (put_seq g (put_as (ap (open_text text) (sym told)) f))
 
 -- The same by other names.
-pub state-as : {text ws : List ℕ} {at n : ℕ} {s₀ : Sort} {l₀ : List ℕ} {place : ℕ} {l l' : List ℕ} {a p p' left : ℕ} {bases bases' : List ℕ} {known known' : ℕ} → l' ≡ l → p' ≡ p → bases' ≡ bases → known' ≡ known → State text ws at n s₀ l₀ place l a p left bases known → State text ws at n s₀ l₀ place l' a p' left bases' known'
-state-as e f g h t = rw (e, f, g, h) t
+pub state_as : {text ws : List ℕ} {at n : ℕ} {s₀ : Sort} {l₀ : List ℕ} {place : ℕ} {l l' : List ℕ} {a p p' left : ℕ} {bases bases' : List ℕ} {known known' : ℕ} → l' ≡ l → p' ≡ p → bases' ≡ bases → known' ≡ known → State text ws at n s₀ l₀ place l a p left bases known → State text ws at n s₀ l₀ place l' a p' left bases' known'
+state_as e f g h t = rw (e, f, g, h) t

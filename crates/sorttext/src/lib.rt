@@ -2,11 +2,11 @@
 // sorts nest without limit.
 ghost use Rattle.std.specs.Prelude.{◌≡◌, List, [], ◌∷◌, ℕ, replicate};
 ghost use Rattle.grammar.specs.Sort.{Sort};
-ghost use Rattle.judging.specs.Judge.{reads, sortAt};
+ghost use Rattle.judging.specs.Judge.{reads, sort_at};
 ghost use Rattle.writing.specs.Wrote.{WroteBytes};
-ghost use Rattle.smtnames.specs.Pieces.{sortText};
+ghost use Rattle.smtnames.specs.Pieces.{sort_text};
 ghost use Rattle.smtlevels.specs.Open.{total, ending, settled};
-ghost use Rattle.sorttext.specs.SortWalk.{Walk, endText};
+ghost use Rattle.sorttext.specs.SortWalk.{Walk, end_text};
 ghost use Rattle.smtlevels.specs.Levels.{Within, Known};
 ghost use Rattle.smtnames.specs.Written.{TellsPart};
 
@@ -110,7 +110,7 @@ fn closed(k: u64, out: &mut [u8], place: usize) -> usize
 
 // What stands behind a sort that has none inside it: so many lists end, and so many sorts are to come.
 fn ended(k: u64, left: u64, out: &mut [u8], place: usize) -> usize
-    ensures { (cs : List ℕ) → k ≡ ending left cs → left ≡ total cs → WroteBytes out.old place (endText cs) out.new result }
+    ensures { (cs : List ℕ) → k ≡ ending left cs → left ≡ total cs → WroteBytes out.old place (end_text cs) out.new result }
 {
     let p = closed(k, out, place);
     if left == 0 {
@@ -121,7 +121,7 @@ fn ended(k: u64, left: u64, out: &mut [u8], place: usize) -> usize
 
 // The sort at a place, which was judged.
 pub fn sort(words: &[u32], at: usize, text: &[u8], out: &mut [u8], place: usize) -> Walked
-    ensures { (limit : ℕ) (s : Sort) (n : ℕ) → sortAt limit words.now at ≡ reads s n → TellsPart n (sortText text.now s) out.old place out.new result }
+    ensures { (limit : ℕ) (s : Sort) (n : ℕ) → sort_at limit words.now at ≡ reads s n → TellsPart n (sort_text text.now s) out.old place out.new result }
 {
     let mut a = at;
     let mut p = place;

@@ -6,48 +6,48 @@ use Rattle.sortwords.specs.declared.Inside.{Inside}
 use Rattle.sortwords.specs.declared.Inside.TheVariants as inside
 
 -- A word of any value, then so many sorts.
-unfoldable pub oneField : ℕ → FromWords ℕ
-oneField n = do
+unfoldable pub one_field : ℕ → FromWords ℕ
+one_field n = do
   i ← word
   ret n
 
 module _ (limit : ℕ) where
   -- A constructor: Set, Map, or Data and its name.
-  unfoldable pub ctorAt : FromWords Ctor
-  ctorAt = do
+  unfoldable pub ctor_at : FromWords Ctor
+  ctor_at = do
     k ← word
     choose 0 (ctors limit) k
 
   -- A constructor and the number of its sorts.
-  unfoldable pub appFields : FromWords ℕ
-  appFields = do
-    c ← ctorAt
+  unfoldable pub app_fields : FromWords ℕ
+  app_fields = do
+    c ← ctor_at
     n ← word
     ret n
 
   -- The fields from kind 1 on.
-  unfoldable pub sortFields : List (FromWords ℕ)
-  sortFields =
+  unfoldable pub sort_fields : List (FromWords ℕ)
+  sort_fields =
       ret 0
       ∷ ret 0
       ∷ ret 0
       ∷ ret 0
       ∷ ret 1
-      ∷ oneField 0
+      ∷ one_field 0
       ∷ (do
         i ← two_words
         ret 0)
       ∷ ret 2
-      ∷ oneField 1
-      ∷ appFields
+      ∷ one_field 1
+      ∷ app_fields
       ∷ []
 
-  unfoldable pub sortHead : FromWords ℕ
-  sortHead = do
+  unfoldable pub sort_head : FromWords ℕ
+  sort_head = do
     k ← word
-    choose 1 sortFields k
+    choose 1 sort_fields k
 
 -- The place behind the fields and how many sorts follow, or the refusal.
-abbrev pub insideOf : Judged ℕ → Inside
-insideOf (reads n at) = inside.Next at n
-insideOf (fails r) = inside.No r
+abbrev pub inside_of : Judged ℕ → Inside
+inside_of (reads n at) = inside.Next at n
+inside_of (fails r) = inside.No r

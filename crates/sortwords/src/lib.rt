@@ -1,7 +1,7 @@
 // Words judged as sorts and binders: where they end that begin at a place, or the refusal of words that are none.
 ghost use Rattle.std.specs.Prelude.{◌≡◌, ◌<◌, ◌^◌};
-ghost use Rattle.judging.specs.Judge.{two_words, spanWithin, sortAt, bindersAt};
-ghost use Rattle.sortwords.specs.SortFields.{oneField, ctorAt, appFields, sortHead, insideOf};
+ghost use Rattle.judging.specs.Judge.{two_words, span_within, sort_at, binders_at};
+ghost use Rattle.sortwords.specs.SortFields.{one_field, ctor_at, app_fields, sort_head, inside_of};
 ghost use Rattle.judging.specs.Ends.{end_of};
 
 use judging::End;
@@ -31,7 +31,7 @@ pub fn two_end(words: &[u32], at: usize) -> End
 
 // A span, which ends at most at the limit.
 pub fn span_end(words: &[u32], at: usize, limit: u64) -> End
-    ensures { result ≡ end_of (spanWithin limit words.now at) }
+    ensures { result ≡ end_of (span_within limit words.now at) }
 {
     if words.len() <= at {
         return End::No(14);
@@ -49,7 +49,7 @@ pub fn span_end(words: &[u32], at: usize, limit: u64) -> End
 
 // A constructor.
 fn ctor_end(words: &[u32], at: usize, limit: u64) -> End
-    ensures { result ≡ end_of (ctorAt limit words.now at) }
+    ensures { result ≡ end_of (ctor_at limit words.now at) }
 {
     if words.len() <= at {
         return End::No(14);
@@ -65,7 +65,7 @@ fn ctor_end(words: &[u32], at: usize, limit: u64) -> End
 
 // A constructor and the number of its sorts.
 fn app_fields(words: &[u32], at: usize, limit: u64) -> Inside
-    ensures { result ≡ insideOf (appFields limit words.now at) }
+    ensures { result ≡ inside_of (app_fields limit words.now at) }
 {
     match ctor_end(words, at, limit) {
         End::At(a) => {
@@ -80,7 +80,7 @@ fn app_fields(words: &[u32], at: usize, limit: u64) -> Inside
 
 // A word of any value, then so many sorts.
 fn one_field(words: &[u32], at: usize, n: u32) -> Inside
-    ensures { result ≡ insideOf (oneField n words.now at) }
+    ensures { result ≡ inside_of (one_field n words.now at) }
 {
     if words.len() <= at {
         return Inside::No(14);
@@ -90,7 +90,7 @@ fn one_field(words: &[u32], at: usize, n: u32) -> Inside
 
 // The kind and the fields of the sort at a place.
 fn sort_head(words: &[u32], at: usize, limit: u64) -> Inside
-    ensures { result ≡ insideOf (sortHead limit words.now at) }
+    ensures { result ≡ inside_of (sort_head limit words.now at) }
 {
     if words.len() <= at {
         return Inside::No(14);
@@ -114,7 +114,7 @@ fn sort_head(words: &[u32], at: usize, limit: u64) -> Inside
 // The sort at a place. Sorts nest without limit: the loop counts the sorts that are still to come, and ends where there are more of them
 // than words, since each sort takes at least one.
 pub fn sort_end(words: &[u32], at: usize, limit: u64) -> End
-    ensures { result ≡ end_of (sortAt limit words.now at) }
+    ensures { result ≡ end_of (sort_at limit words.now at) }
 {
     let mut a = at;
     let mut left = words.len() as u64;
@@ -139,7 +139,7 @@ pub fn sort_end(words: &[u32], at: usize, limit: u64) -> End
 
 // So many binders: of each a number and a sort.
 pub fn binders_end(words: &[u32], at: usize, n: u32, limit: u64) -> End
-    ensures { result ≡ end_of (bindersAt limit n words.now at) }
+    ensures { result ≡ end_of (binders_at limit n words.now at) }
 {
     let mut a = at;
     let mut left = n;

@@ -3,6 +3,6 @@ use Rattle.reading.specs.Answer.{Said, accepted, refused}
 use Rattle.text.specs.declared.Answer.{Answer}
 use Rattle.text.specs.declared.Answer.TheVariants.{Accepted, Refused}
 
-abbrev pub asAnswer : Said → Answer
-asAnswer (accepted a b) = Accepted a b
-asAnswer (refused n) = Refused n
+abbrev pub as_answer : Said → Answer
+as_answer (accepted a b) = Accepted a b
+as_answer (refused n) = Refused n

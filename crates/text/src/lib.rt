@@ -1,8 +1,8 @@
 // The text reader: S-expressions in bytes to the words of their trees. The definitions are in crates/reading/specs: Tree.antt says which words
 // a tree has, Reading.antt what is read, and every refusal.
 ghost use Rattle.std.specs.Prelude.{true, false, ◌≡◌};
-ghost use Rattle.reading.specs.Reading.{readSaid, readOut};
-ghost use Rattle.text.specs.Answers.{asAnswer};
+ghost use Rattle.reading.specs.Reading.{read_said, read_out};
+ghost use Rattle.text.specs.Answers.{as_answer};
 
 mod operation;
 mod scan;
@@ -21,8 +21,8 @@ pub enum Answer {
 // Reads the first expression of a text, and reports how many words it has and the byte behind it. Its
 // words are written from the start of the output, and nothing behind them; a refusal zeroes the output.
 pub fn read_one(text: &[u8], out: &mut [u32]) -> Answer
-    ensures answer { result ≡ asAnswer (readSaid false text.now out.old) }
-    ensures output { out.new ≡ readOut false text.now out.old }
+    ensures answer { result ≡ as_answer (read_said false text.now out.old) }
+    ensures output { out.new ≡ read_out false text.now out.old }
 {
     run(text, out, false)
 }
@@ -30,8 +30,8 @@ pub fn read_one(text: &[u8], out: &mut [u32]) -> Answer
 // Reads all expressions of a text, and reports how many there are and how many words they have. The
 // output is left as by `read_one`.
 pub fn read_all(text: &[u8], out: &mut [u32]) -> Answer
-    ensures answer { result ≡ asAnswer (readSaid true text.now out.old) }
-    ensures output { out.new ≡ readOut true text.now out.old }
+    ensures answer { result ≡ as_answer (read_said true text.now out.old) }
+    ensures output { out.new ≡ read_out true text.now out.old }
 {
     run(text, out, true)
 }

@@ -1,7 +1,7 @@
 // Read one and read all are one operation.
 ghost use Rattle.std.specs.Prelude.{◌≡◌};
-ghost use Rattle.reading.specs.Reading.{readSaid, readOut};
-ghost use Rattle.text.specs.Answers.{asAnswer};
+ghost use Rattle.reading.specs.Reading.{read_said, read_out};
+ghost use Rattle.text.specs.Answers.{as_answer};
 ghost use Rattle.text.specs.Scanned.{Attempted};
 
 use crate::Answer;
@@ -36,8 +36,8 @@ fn attempt(text: &[u8], out: &mut [u32], all: bool) -> Answer
 
 // The operation: every refusal clears the output here.
 pub fn run(text: &[u8], out: &mut [u32], all: bool) -> Answer
-    ensures answer { result ≡ asAnswer (readSaid all text.now out.old) }
-    ensures output { out.new ≡ readOut all text.now out.old }
+    ensures answer { result ≡ as_answer (read_said all text.now out.old) }
+    ensures output { out.new ≡ read_out all text.now out.old }
 {
     match attempt(text, out, all) {
         Answer::Accepted(a, b) => Answer::Accepted(a, b),

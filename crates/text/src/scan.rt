@@ -1,8 +1,8 @@
 // The loop over a text: token by token, with the lists that are open in two arrays.
 ghost use Rattle.std.specs.Prelude.{◌≡◌, ◌^◌, ◌≤◌, ◌<◌, [], ◌∷◌, length};
 ghost use Rattle.std.proofs.lemmas.List.Edits.{sets};
-ghost use Rattle.reading.specs.Limits.{maxBytes};
-ghost use Rattle.reading.specs.Reading.{mayFollow};
+ghost use Rattle.reading.specs.Limits.{max_bytes};
+ghost use Rattle.reading.specs.Reading.{may_follow};
 ghost use Rattle.text.specs.Scanned.{Scanned};
 
 use lexing::tokens::{Token, put_words, token_at};
@@ -19,7 +19,7 @@ pub enum Outcome {
 
 // Whether an expression may follow one inside so many lists.
 fn may_follow(all: bool, depth: usize) -> bool
-    ensures { result ≡ mayFollow all depth }
+    ensures { result ≡ may_follow all depth }
 {
     if depth == 0 { all } else { true }
 }
@@ -35,7 +35,7 @@ fn put_list(out: &mut [u32], at: usize, children: usize, words: usize)
 // Finds one expression, or all of them, and writes their words. Inside d lists, counts[d] expressions
 // were read so far, and the innermost list begins at word offs[d - 1]; it gets its numbers at its `)`.
 pub fn scan(text: &[u8], out: &mut [u32], all: bool) -> Outcome
-    requires { length text.now ≤ maxBytes }
+    requires { length text.now ≤ max_bytes }
     ensures { Scanned all text.now out.old out.new result }
 {
     let mut at: usize = 0;

@@ -1,11 +1,11 @@
 -- The answers of request C-14 about `inf`, `infinity` and `nan` that are easily read otherwise, each with the smallest input that shows it, and a
 -- claim about all.
 use Rattle.std.specs.Prelude.{◌≡◌, refl, List, [], ◌∷◌}
-use Rattle.session.specs.Session.{readOne, read_all, sort, expression, bind, solution}
+use Rattle.session.specs.Session.{read_one, read_all, sort, expression, bind, solution}
 use Rattle.vectors.specs.Shown.{refusal, words, Asked, asked, tells, told}
 
-abbrev pub infAndNan : List Asked
-infAndNan =
+abbrev pub inf_and_nan : List Asked
+inf_and_nan =
     -- the sign belongs to the name, there is no Neg, and case counts
     asked expression "inf" (words (37 ∷ 0 ∷ 3 ∷ []))
     ∷ asked expression "-inf" (words (37 ∷ 0 ∷ 4 ∷ []))
@@ -15,17 +15,17 @@ infAndNan =
     ∷ asked expression "(exists ((inf Int)) -inf)" (words (51 ∷ 1 ∷ 0 ∷ 0 ∷ 1 ∷ 37 ∷ 20 ∷ 4 ∷ []))
     ∷ asked expression "(exists ((inf Int)) Inf)" (words (51 ∷ 1 ∷ 0 ∷ 0 ∷ 1 ∷ 37 ∷ 20 ∷ 3 ∷ []))
     -- in trees a symbol of the same length
-    ∷ asked readOne "-nan" (words (16 ∷ 0 ∷ 4 ∷ []))
-    ∷ asked readOne "nan" (words (16 ∷ 0 ∷ 3 ∷ []))
-    ∷ asked readOne "+INF" (words (16 ∷ 0 ∷ 4 ∷ []))
-    ∷ asked readOne "Infinity" (words (16 ∷ 0 ∷ 8 ∷ []))
+    ∷ asked read_one "-nan" (words (16 ∷ 0 ∷ 4 ∷ []))
+    ∷ asked read_one "nan" (words (16 ∷ 0 ∷ 3 ∷ []))
+    ∷ asked read_one "+INF" (words (16 ∷ 0 ∷ 4 ∷ []))
+    ∷ asked read_one "Infinity" (words (16 ∷ 0 ∷ 8 ∷ []))
     ∷ asked read_all "inf nan" (words (16 ∷ 0 ∷ 3 ∷ 16 ∷ 4 ∷ 3 ∷ []))
     -- one sign and the letters, and nothing more; such words with something more were symbols before
-    ∷ asked readOne "--inf" (words (16 ∷ 0 ∷ 5 ∷ []))
-    ∷ asked readOne "inf0" (words (16 ∷ 0 ∷ 4 ∷ []))
-    ∷ asked readOne "nan." (words (16 ∷ 0 ∷ 4 ∷ []))
+    ∷ asked read_one "--inf" (words (16 ∷ 0 ∷ 5 ∷ []))
+    ∷ asked read_one "inf0" (words (16 ∷ 0 ∷ 4 ∷ []))
+    ∷ asked read_one "nan." (words (16 ∷ 0 ∷ 4 ∷ []))
     -- what has a digit stays a decimal, and 9 as an expression
-    ∷ asked readOne "1e5" (words (19 ∷ 0 ∷ 3 ∷ []))
+    ∷ asked read_one "1e5" (words (19 ∷ 0 ∷ 3 ∷ []))
     ∷ asked expression "1e5" (refusal 9)
     ∷ asked expression ".5" (refusal 9)
     ∷ asked expression "1." (refusal 9)
@@ -64,6 +64,6 @@ infAndNan =
     ∷ asked expression "(lit \"#b1\" (nan Size1))" (words (35 ∷ 1 ∷ 0 ∷ 0 ∷ 0 ∷ 1 ∷ []))
     ∷ []
 
-pub inf-and-nan-hold : tells infAndNan ≡ told infAndNan
+pub inf_and_nan_hold : tells inf_and_nan ≡ told inf_and_nan
 unfolding tells
-inf-and-nan-hold = refl
+inf_and_nan_hold = refl

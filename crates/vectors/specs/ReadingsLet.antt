@@ -3,7 +3,7 @@
 use Rattle.std.specs.Prelude.{ℕ, zero, suc, ◌-◌, ◌^◌, ◌≡◌, refl, List, [], ◌∷◌, ◌++◌, replicate}
 use Rattle.reading.specs.Bytes.{ascii}
 use Rattle.session.specs.Session.{expression, bind, solution}
-use Rattle.vectors.specs.Shown.{refusal, words, Row, row, in_turn, callOn, Asked, asks, asked, lending, tells, told, expected, Flat, flat, flattensTo, flatAnswers}
+use Rattle.vectors.specs.Shown.{refusal, words, Row, row, in_turn, call_on, Asked, asks, asked, lending, tells, told, expected, Flat, flat, flattens_to, flat_answers}
 use Rattle.vectors.specs.Bounds.{again}
 
 abbrev pub lets : List Asked
@@ -44,39 +44,39 @@ lets =
     ∷ asked bind "((x Int) (and (let (x 1) x) ($k x)))" (words (2 ∷ 1 ∷ 1 ∷ 2 ∷ 65 ∷ 52 ∷ 0 ∷ 0 ∷ 32 ∷ 1 ∷ 0 ∷ 0 ∷ 0 ∷ 36 ∷ 0 ∷ 0 ∷ 64 ∷ 29 ∷ 2 ∷ 1 ∷ 37 ∷ 32 ∷ 1 ∷ []))
     ∷ []
 
-pub lets-hold : tells lets ≡ told lets
+pub lets_hold : tells lets ≡ told lets
 unfolding tells
-lets-hold = refl
+lets_hold = refl
 
 -- So many lets of 1 inside one another, numbered from k on.
-abbrev pub letsFrom : ℕ → ℕ → List ℕ
-letsFrom k zero = []
-letsFrom k (suc n) = 52 ∷ k ∷ 0 ∷ 32 ∷ 1 ∷ 0 ∷ 0 ∷ 0 ∷ letsFrom (suc k) n
+abbrev pub lets_from : ℕ → ℕ → List ℕ
+lets_from k zero = []
+lets_from k (suc n) = 52 ∷ k ∷ 0 ∷ 32 ∷ 1 ∷ 0 ∷ 0 ∷ 0 ∷ lets_from (suc k) n
 
 -- A let's number among the limits.
-abbrev pub letBounds : List Asked
-letBounds =
+abbrev pub let_bounds : List Asked
+let_bounds =
     -- every let takes one number, used or not; 8 to 12 come before 13, 7 behind it
-    asks (2 ^ 64 - 2) (callOn expression (ascii "(let (x 1) 2)")) (words (52 ∷ 4294967294 ∷ 4294967295 ∷ 32 ∷ 1 ∷ 0 ∷ 0 ∷ 0 ∷ 32 ∷ 2 ∷ 0 ∷ 0 ∷ 0 ∷ []))
-    ∷ asks (2 ^ 64 - 1) (callOn expression (ascii "(let (x 1) x)")) (refusal 13)
+    asks (2 ^ 64 - 2) (call_on expression (ascii "(let (x 1) 2)")) (words (52 ∷ 4294967294 ∷ 4294967295 ∷ 32 ∷ 1 ∷ 0 ∷ 0 ∷ 0 ∷ 32 ∷ 2 ∷ 0 ∷ 0 ∷ 0 ∷ []))
+    ∷ asks (2 ^ 64 - 1) (call_on expression (ascii "(let (x 1) x)")) (refusal 13)
     ∷ asks (2 ^ 64 - 1) (lending 64 0 0 expression (ascii "(let (x 1) x)")) (refusal 13)
-    ∷ asks (2 ^ 64 - 1) (callOn expression (ascii "(let (x 1) ())")) (refusal 8)
+    ∷ asks (2 ^ 64 - 1) (call_on expression (ascii "(let (x 1) ())")) (refusal 8)
     ∷ asks (2 ^ 64 - 2) (lending 64 0 10 expression (ascii "(let (x 1) x)")) (refusal 7)
-    ∷ asks (2 ^ 64 - 2) (callOn solution (ascii "(lambda ((x Int)) (let (x 1) x))")) (refusal 13)
+    ∷ asks (2 ^ 64 - 2) (call_on solution (ascii "(lambda ((x Int)) (let (x 1) x))")) (refusal 13)
     -- a pair is a list inside its own list: 63 lets stand inside one another in an expression, 62 in a solution
-    ∷ asks 0 (lending 2048 0 1024 expression (again 63 (ascii "(let (x 1)") ++ ascii "x" ++ replicate 63 41)) (words (letsFrom 0 63 ++ (36 ∷ 62 ∷ 0 ∷ [])))
+    ∷ asks 0 (lending 2048 0 1024 expression (again 63 (ascii "(let (x 1)") ++ ascii "x" ++ replicate 63 41)) (words (lets_from 0 63 ++ (36 ∷ 62 ∷ 0 ∷ [])))
     ∷ asks 0 (lending 2048 0 1024 expression (again 64 (ascii "(let (x 1)") ++ ascii "x" ++ replicate 64 41)) (refusal 6)
-    ∷ asks 0 (lending 2048 1024 1024 solution (ascii "(f ((x Int))" ++ (again 62 (ascii "(let (x 1)") ++ ascii "x" ++ replicate 63 41))) (words (1 ∷ 0 ∷ 0 ∷ 1 ∷ (letsFrom 1 62 ++ (36 ∷ 62 ∷ 0 ∷ []))))
+    ∷ asks 0 (lending 2048 1024 1024 solution (ascii "(f ((x Int))" ++ (again 62 (ascii "(let (x 1)") ++ ascii "x" ++ replicate 63 41))) (words (1 ∷ 0 ∷ 0 ∷ 1 ∷ (lets_from 1 62 ++ (36 ∷ 62 ∷ 0 ∷ []))))
     ∷ asks 0 (lending 2048 1024 1024 solution (ascii "(f ((x Int))" ++ (again 63 (ascii "(let (x 1)") ++ ascii "x" ++ replicate 64 41))) (refusal 6)
     ∷ []
 
-pub let-bounds-hold : tells letBounds ≡ told letBounds
+pub let_bounds_hold : tells let_bounds ≡ told let_bounds
 unfolding tells
-let-bounds-hold = refl
+let_bounds_hold = refl
 
 -- One after the other on one reader: what an answer binds is counted, lets among it, and a refused let leaves nothing behind.
-abbrev pub letsInTurn : List Row
-letsInTurn =
+abbrev pub lets_in_turn : List Row
+lets_in_turn =
     row expression "(let (x 1) x)" (words (52 ∷ 0 ∷ 0 ∷ 32 ∷ 1 ∷ 0 ∷ 0 ∷ 0 ∷ 36 ∷ 0 ∷ 0 ∷ []))
     ∷ row expression "(let (y 1) ())" (refusal 8)
     ∷ row expression "y" (words (37 ∷ 0 ∷ 1 ∷ []))
@@ -85,13 +85,13 @@ letsInTurn =
     ∷ row expression "(exists ((x Int)) x)" (words (51 ∷ 1 ∷ 4 ∷ 0 ∷ 1 ∷ 36 ∷ 4 ∷ 0 ∷ []))
     ∷ []
 
-pub lets-in-turn-hold : in_turn letsInTurn 0 ≡ expected letsInTurn
+pub lets_in_turn_hold : in_turn lets_in_turn 0 ≡ expected lets_in_turn
 unfolding in_turn
-lets-in-turn-hold = refl
+lets_in_turn_hold = refl
 
 -- Flattening: two free words and two children; a let as head stops a chain; 48 is taken as before, and 53 is no kind.
-abbrev pub letsFlattened : List Flat
-letsFlattened =
+abbrev pub lets_flattened : List Flat
+lets_flattened =
     flat (38 ∷ 0 ∷ 1 ∷ 37 ∷ 1 ∷ 1 ∷ 52 ∷ 0 ∷ 0 ∷ 37 ∷ 2 ∷ 1 ∷ 38 ∷ 0 ∷ 1 ∷ 37 ∷ 3 ∷ 1 ∷ 37 ∷ 4 ∷ 1 ∷ [])
     (words (38 ∷ 0 ∷ 1 ∷ 37 ∷ 1 ∷ 1 ∷ 52 ∷ 0 ∷ 0 ∷ 37 ∷ 2 ∷ 1 ∷ 38 ∷ 0 ∷ 1 ∷ 37 ∷ 3 ∷ 1 ∷ 37 ∷ 4 ∷ 1 ∷ []))
     ∷ flat (52 ∷ 4294967295 ∷ 4294967295 ∷ 38 ∷ 0 ∷ 0 ∷ 38 ∷ 0 ∷ 0 ∷ 33 ∷ 0 ∷ 33 ∷ 1 ∷ []) (words (52 ∷ 4294967295 ∷ 4294967295 ∷ 38 ∷ 0 ∷ 0 ∷ 33 ∷ 0 ∷ 33 ∷ 1 ∷ []))
@@ -101,6 +101,6 @@ letsFlattened =
     ∷ flat (53 ∷ 0 ∷ 0 ∷ 0 ∷ 33 ∷ 1 ∷ []) (refusal 14)
     ∷ []
 
-pub lets-flattened-hold : flattensTo letsFlattened ≡ flatAnswers letsFlattened
-unfolding flattensTo
-lets-flattened-hold = refl
+pub lets_flattened_hold : flattens_to lets_flattened ≡ flat_answers lets_flattened
+unfolding flattens_to
+lets_flattened_hold = refl

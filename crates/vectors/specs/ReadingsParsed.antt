@@ -3,11 +3,11 @@ use Rattle.std.specs.Prelude.{ℕ, ◌-◌, ◌≡◌, refl, List, [], ◌∷◌
 use Prim.Native.String.{String}
 use Rattle.reading.specs.Bytes.{ascii}
 use Rattle.session.specs.Session.{sort, expression, bind, solution}
-use Rattle.vectors.specs.Shown.{refusal, words, Asked, asks, asked, lending, tells, told, Flat, flat, flatInto, flattensTo, flatAnswers}
+use Rattle.vectors.specs.Shown.{refusal, words, Asked, asks, asked, lending, tells, told, Flat, flat, flat_into, flattens_to, flat_answers}
 
 -- Sorts.
-abbrev pub sortsRead : List Asked
-sortsRead =
+abbrev pub sorts_read : List Asked
+sorts_read =
     -- `Size` counts as an atom only, and needs a width of 32 bits
     asked sort "Size" (refusal 8)
     ∷ asked sort "Sizex" (refusal 8)
@@ -61,9 +61,9 @@ sortsRead =
     ∷ asked sort "(List Int int Bool bool Real real Str str)" (words (10 ∷ 2 ∷ 1 ∷ 4 ∷ 8 ∷ 1 ∷ 1 ∷ 2 ∷ 2 ∷ 3 ∷ 3 ∷ 4 ∷ 4 ∷ []))
     ∷ []
 
-pub sorts-hold : tells sortsRead ≡ told sortsRead
+pub sorts_hold : tells sorts_read ≡ told sorts_read
 unfolding tells
-sorts-hold = refl
+sorts_hold = refl
 
 -- Expressions.
 abbrev pub expressions : List Asked
@@ -148,70 +148,70 @@ expressions =
     ∷ asked expression "(<=> a b)" (words (46 ∷ 37 ∷ 5 ∷ 1 ∷ 37 ∷ 7 ∷ 1 ∷ []))
     ∷ []
 
-pub expressions-hold : tells expressions ≡ told expressions
+pub expressions_hold : tells expressions ≡ told expressions
 unfolding tells
-expressions-hold = refl
+expressions_hold = refl
 
 -- A theory function by its name and its number.
-abbrev pub theoryName : String → ℕ → Asked
-theoryName name k = asked expression name (words (49 ∷ k ∷ []))
+abbrev pub theory_name : String → ℕ → Asked
+theory_name name k = asked expression name (words (49 ∷ k ∷ []))
 
 -- 44 names of 42 theory functions.
-abbrev pub theoryNames : List Asked
-theoryNames =
-    theoryName "strLen" 0
-    ∷ theoryName "int_to_bv8" 1
-    ∷ theoryName "bv8_to_int" 2
-    ∷ theoryName "int_to_bv32" 3
-    ∷ theoryName "bv32_to_int" 4
-    ∷ theoryName "int_to_bv64" 5
-    ∷ theoryName "bv64_to_int" 6
-    ∷ theoryName "int_to_bv128" 7
-    ∷ theoryName "bv128_to_int" 8
-    ∷ theoryName "bvule" 9
-    ∷ theoryName "bvsle" 10
-    ∷ theoryName "bvuge" 11
-    ∷ theoryName "bvsge" 12
-    ∷ theoryName "bvugt" 13
-    ∷ theoryName "bvsgt" 14
-    ∷ theoryName "bvult" 15
-    ∷ theoryName "bvslt" 16
-    ∷ theoryName "bvudiv" 17
-    ∷ theoryName "bvsdiv" 18
-    ∷ theoryName "bvurem" 19
-    ∷ theoryName "bvsrem" 20
-    ∷ theoryName "bvlshr" 21
-    ∷ theoryName "bvashr" 22
-    ∷ theoryName "bvand" 23
-    ∷ theoryName "bvor" 24
-    ∷ theoryName "bvxor" 25
-    ∷ theoryName "bvnot" 26
-    ∷ theoryName "bvadd" 27
-    ∷ theoryName "bvneg" 28
-    ∷ theoryName "bvsub" 29
-    ∷ theoryName "bvmul" 30
-    ∷ theoryName "bvshl" 31
-    ∷ theoryName "Set_empty" 32
-    ∷ theoryName "Set_sng" 33
-    ∷ theoryName "Set_cup" 34
-    ∷ theoryName "Set_cap" 35
-    ∷ theoryName "Set_dif" 36
-    ∷ theoryName "Set_mem" 37
-    ∷ theoryName "Set_sub" 38
-    ∷ theoryName "Map_default" 39
-    ∷ theoryName "Map_select" 40
-    ∷ theoryName "arr_select_m" 40
-    ∷ theoryName "Map_store" 41
-    ∷ theoryName "arr_store_m" 41
+abbrev pub theory_names : List Asked
+theory_names =
+    theory_name "strLen" 0
+    ∷ theory_name "int_to_bv8" 1
+    ∷ theory_name "bv8_to_int" 2
+    ∷ theory_name "int_to_bv32" 3
+    ∷ theory_name "bv32_to_int" 4
+    ∷ theory_name "int_to_bv64" 5
+    ∷ theory_name "bv64_to_int" 6
+    ∷ theory_name "int_to_bv128" 7
+    ∷ theory_name "bv128_to_int" 8
+    ∷ theory_name "bvule" 9
+    ∷ theory_name "bvsle" 10
+    ∷ theory_name "bvuge" 11
+    ∷ theory_name "bvsge" 12
+    ∷ theory_name "bvugt" 13
+    ∷ theory_name "bvsgt" 14
+    ∷ theory_name "bvult" 15
+    ∷ theory_name "bvslt" 16
+    ∷ theory_name "bvudiv" 17
+    ∷ theory_name "bvsdiv" 18
+    ∷ theory_name "bvurem" 19
+    ∷ theory_name "bvsrem" 20
+    ∷ theory_name "bvlshr" 21
+    ∷ theory_name "bvashr" 22
+    ∷ theory_name "bvand" 23
+    ∷ theory_name "bvor" 24
+    ∷ theory_name "bvxor" 25
+    ∷ theory_name "bvnot" 26
+    ∷ theory_name "bvadd" 27
+    ∷ theory_name "bvneg" 28
+    ∷ theory_name "bvsub" 29
+    ∷ theory_name "bvmul" 30
+    ∷ theory_name "bvshl" 31
+    ∷ theory_name "Set_empty" 32
+    ∷ theory_name "Set_sng" 33
+    ∷ theory_name "Set_cup" 34
+    ∷ theory_name "Set_cap" 35
+    ∷ theory_name "Set_dif" 36
+    ∷ theory_name "Set_mem" 37
+    ∷ theory_name "Set_sub" 38
+    ∷ theory_name "Map_default" 39
+    ∷ theory_name "Map_select" 40
+    ∷ theory_name "arr_select_m" 40
+    ∷ theory_name "Map_store" 41
+    ∷ theory_name "arr_store_m" 41
     ∷ []
 
-pub theory-names-hold : tells theoryNames ≡ told theoryNames
+pub theory_names_hold : tells theory_names ≡ told theory_names
 unfolding tells
-theory-names-hold = refl
+theory_names_hold = refl
 
 -- Binds and solutions.
-abbrev pub bindsAndSolutions : List Asked
-bindsAndSolutions =
+abbrev pub binds_and_solutions : List Asked
+binds_and_solutions =
     -- `and` joins predicates, but a list of one is seen through to a variable
     asked bind "((x Int) (and))" (words (2 ∷ 1 ∷ 1 ∷ 0 ∷ []))
     ∷ asked bind "((x Int) ((and)))" (words (2 ∷ 1 ∷ 1 ∷ 1 ∷ 65 ∷ 37 ∷ 11 ∷ 3 ∷ []))
@@ -242,25 +242,25 @@ bindsAndSolutions =
     ∷ asked solution "(lambda ((\"x\" Int)) x)" (refusal 8)
     ∷ []
 
-pub binds-and-solutions-hold : tells bindsAndSolutions ≡ told bindsAndSolutions
+pub binds_and_solutions_hold : tells binds_and_solutions ≡ told binds_and_solutions
 unfolding tells
-binds-and-solutions-hold = refl
+binds_and_solutions_hold = refl
 
 -- Flattening words.
 abbrev pub flattening : List Flat
 flattening =
     -- an unknown kind or the end of the words is 14; then 6; then the fields
-    flatInto 129 (replicate 127 39 ++ (33 ∷ 1 ∷ [])) (words (replicate 127 39 ++ (33 ∷ 1 ∷ [])))
-    ∷ flatInto 129 (replicate 128 39 ++ (33 ∷ 1 ∷ [])) (refusal 6)
-    ∷ flatInto 129 (replicate 128 39 ++ (33 ∷ [])) (refusal 6)
-    ∷ flatInto 129 (replicate 128 39 ++ (31 ∷ [])) (refusal 14)
-    ∷ flatInto 129 (replicate 128 39 ++ (53 ∷ [])) (refusal 14)
-    ∷ flatInto 129 (replicate 128 39) (refusal 14)
+    flat_into 129 (replicate 127 39 ++ (33 ∷ 1 ∷ [])) (words (replicate 127 39 ++ (33 ∷ 1 ∷ [])))
+    ∷ flat_into 129 (replicate 128 39 ++ (33 ∷ 1 ∷ [])) (refusal 6)
+    ∷ flat_into 129 (replicate 128 39 ++ (33 ∷ [])) (refusal 6)
+    ∷ flat_into 129 (replicate 128 39 ++ (31 ∷ [])) (refusal 14)
+    ∷ flat_into 129 (replicate 128 39 ++ (53 ∷ [])) (refusal 14)
+    ∷ flat_into 129 (replicate 128 39) (refusal 14)
     -- a count is not compared with the words that are left
     ∷ flat ((42 ∷ 4294967295 ∷ []) ++ replicate 127 39 ++ (33 ∷ 1 ∷ [])) (refusal 6)
     ∷ flat (42 ∷ 4294967295 ∷ 33 ∷ 1 ∷ []) (refusal 14)
     -- sorts nest without limit
-    ∷ flatInto 256 ((38 ∷ 1 ∷ 0 ∷ []) ++ replicate 200 5 ++ (1 ∷ 33 ∷ 1 ∷ [])) (words ((38 ∷ 1 ∷ 0 ∷ []) ++ replicate 200 5 ++ (1 ∷ 33 ∷ 1 ∷ [])))
+    ∷ flat_into 256 ((38 ∷ 1 ∷ 0 ∷ []) ++ replicate 200 5 ++ (1 ∷ 33 ∷ 1 ∷ [])) (words ((38 ∷ 1 ∷ 0 ∷ []) ++ replicate 200 5 ++ (1 ∷ 33 ∷ 1 ∷ [])))
     -- booleans, flags and codes are judged
     ∷ flat (33 ∷ 2 ∷ []) (refusal 14)
     ∷ flat (38 ∷ 2 ∷ 0 ∷ 33 ∷ 1 ∷ []) (refusal 14)
@@ -292,6 +292,6 @@ flattening =
     ∷ flat (38 ∷ 0 ∷ 1 ∷ 33 ∷ 0 ∷ 38 ∷ 1 ∷ 1 ∷ 33 ∷ 1 ∷ 1 ∷ 37 ∷ 0 ∷ 1 ∷ []) (words (38 ∷ 0 ∷ 2 ∷ 33 ∷ 1 ∷ 33 ∷ 0 ∷ 37 ∷ 0 ∷ 1 ∷ []))
     ∷ []
 
-pub flattening-holds : flattensTo flattening ≡ flatAnswers flattening
-unfolding flattensTo
+pub flattening-holds : flattens_to flattening ≡ flat_answers flattening
+unfolding flattens_to
 flattening-holds = refl

@@ -4,9 +4,9 @@ use Rattle.std.specs.Prelude.{ℕ, ◌≡◌, refl, List, [], ◌∷◌, map, re
 use Prim.Native.String.{String}
 use Rattle.reading.specs.Bytes.{ascii}
 use Rattle.reading.specs.Answer.{Said, accepted, refused}
-use Rattle.flattening.specs.Operations.{flattenSaid, flattenOut}
-use Rattle.session.specs.Session.{Op, readOne, read_all, sort, expression, bind, solution, Call, Outcome, outcome}
-use Rattle.session.specs.Compute.{readerComputes}
+use Rattle.flattening.specs.Operations.{flatten_said, flatten_out}
+use Rattle.session.specs.Session.{Op, read_one, read_all, sort, expression, bind, solution, Call, Outcome, outcome}
+use Rattle.session.specs.Compute.{reader_computes}
 
 -- So many sevens, and so many zeros.
 abbrev pub sevens : ℕ → List ℕ
@@ -33,8 +33,8 @@ row call left = record { call = call; left = left }
 
 abbrev pub rows : List Row
 rows =
-    row (lends 0 0 4 readOne "a b") (leaves (accepted 3 1) 5 [] [] (16 ∷ 0 ∷ 1 ∷ 7 ∷ []))
-    ∷ row (lends 0 0 4 readOne ")") (leaves (refused 4) 5 [] [] (blank 4))
+    row (lends 0 0 4 read_one "a b") (leaves (accepted 3 1) 5 [] [] (16 ∷ 0 ∷ 1 ∷ 7 ∷ []))
+    ∷ row (lends 0 0 4 read_one ")") (leaves (refused 4) 5 [] [] (blank 4))
     ∷ row (lends 0 0 7 read_all "a b") (leaves (accepted 2 6) 5 [] [] (16 ∷ 0 ∷ 1 ∷ 16 ∷ 2 ∷ 1 ∷ 7 ∷ []))
     ∷ row (lends 0 0 5 read_all "a b") (leaves (refused 7) 5 [] [] (blank 5))
     ∷ row (lends 4 0 3 sort "Int") (leaves (accepted 1 0) 5 (blank 4) [] (1 ∷ 7 ∷ 7 ∷ []))
@@ -48,13 +48,13 @@ rows =
     ∷ row (lends 64 9 15 solution "(lambda ((x Int)) (< x 5))") (leaves (refused 7) 5 (blank 64) (blank 9) (blank 15))
     ∷ []
 
-unfoldable pub leftBy : List Row → List Outcome
-unfolding readerComputes
-leftBy l = map (λ r. outcome r.call 5) l
+unfoldable pub left_by : List Row → List Outcome
+unfolding reader_computes
+left_by l = map (λ r. outcome r.call 5) l
 
-pub slices-hold : leftBy rows ≡ map (λ r. r.left) rows
-unfolding leftBy
-slices-hold = refl
+pub slices_hold : left_by rows ≡ map (λ r. r.left) rows
+unfolding left_by
+slices_hold = refl
 
 -- Words to flatten, what is said, and the output afterwards.
 pub record FlatRow : Type 0 where
@@ -63,24 +63,24 @@ pub record FlatRow : Type 0 where
   pub said : Said
   pub left : List ℕ
 
-abbrev pub flatRow : List ℕ → ℕ → Said → List ℕ → FlatRow
-flatRow input out said left = record { input = input; out = out; said = said; left = left }
+abbrev pub flat_row : List ℕ → ℕ → Said → List ℕ → FlatRow
+flat_row input out said left = record { input = input; out = out; said = said; left = left }
 
 -- `(f a) b` becomes `f a b`; words that end early.
-abbrev pub flatRows : List FlatRow
-flatRows =
-    flatRow (38 ∷ 0 ∷ 1 ∷ 37 ∷ 4 ∷ 1 ∷ 38 ∷ 0 ∷ 1 ∷ 37 ∷ 2 ∷ 1 ∷ 37 ∷ 0 ∷ 1 ∷ []) 13 (accepted 12 0) (38 ∷ 0 ∷ 2 ∷ 37 ∷ 2 ∷ 1 ∷ 37 ∷ 4 ∷ 1 ∷ 37 ∷ 0 ∷ 1 ∷ 7 ∷ [])
-    ∷ flatRow (38 ∷ 0 ∷ 1 ∷ 37 ∷ 4 ∷ 1 ∷ []) 4 (refused 14) (blank 4)
+abbrev pub flat_rows : List FlatRow
+flat_rows =
+    flat_row (38 ∷ 0 ∷ 1 ∷ 37 ∷ 4 ∷ 1 ∷ 38 ∷ 0 ∷ 1 ∷ 37 ∷ 2 ∷ 1 ∷ 37 ∷ 0 ∷ 1 ∷ []) 13 (accepted 12 0) (38 ∷ 0 ∷ 2 ∷ 37 ∷ 2 ∷ 1 ∷ 37 ∷ 4 ∷ 1 ∷ 37 ∷ 0 ∷ 1 ∷ 7 ∷ [])
+    ∷ flat_row (38 ∷ 0 ∷ 1 ∷ 37 ∷ 4 ∷ 1 ∷ []) 4 (refused 14) (blank 4)
     ∷ []
 
 pub record FlatLeft : Type 0 where
   pub said : Said
   pub out : List ℕ
 
-unfoldable pub flatLeft : List FlatRow → List FlatLeft
-unfolding readerComputes
-flatLeft l = map (λ r. record { said = flattenSaid r.input (sevens r.out); out = flattenOut r.input (sevens r.out) }) l
+unfoldable pub flat_left : List FlatRow → List FlatLeft
+unfolding reader_computes
+flat_left l = map (λ r. record { said = flatten_said r.input (sevens r.out); out = flatten_out r.input (sevens r.out) }) l
 
-pub flat-slices-hold : flatLeft flatRows ≡ map (λ r. record { said = r.said; out = r.left }) flatRows
-unfolding flatLeft
-flat-slices-hold = refl
+pub flat_slices_hold : flat_left flat_rows ≡ map (λ r. record { said = r.said; out = r.left }) flat_rows
+unfolding flat_left
+flat_slices_hold = refl

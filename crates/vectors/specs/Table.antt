@@ -1,16 +1,16 @@
 -- The bench table of document 01, with the literal of request C-13 and the `nan` of request C-14: every row that is marked P, a row for the let of
 -- request C-17, and one claim about all of them.
 use Rattle.std.specs.Prelude.{◌≡◌, refl, List, [], ◌∷◌}
-use Rattle.session.specs.Session.{readOne, expression, sort, solution}
+use Rattle.session.specs.Session.{read_one, expression, sort, solution}
 use Rattle.vectors.specs.Shown.{Row, row, refusal, words, answers, expected}
 
 abbrev pub table : List Row
 table =
-    row readOne "" (refusal 3)
-    ∷ row readOne ")" (refusal 4)
-    ∷ row readOne "-" (words (16 ∷ 0 ∷ 1 ∷ []))
-    ∷ row readOne "+5" (words (18 ∷ 5 ∷ 0 ∷ 0 ∷ 0 ∷ []))
-    ∷ row readOne "(a)" (words (21 ∷ 1 ∷ 3 ∷ 16 ∷ 1 ∷ 1 ∷ []))
+    row read_one "" (refusal 3)
+    ∷ row read_one ")" (refusal 4)
+    ∷ row read_one "-" (words (16 ∷ 0 ∷ 1 ∷ []))
+    ∷ row read_one "+5" (words (18 ∷ 5 ∷ 0 ∷ 0 ∷ 0 ∷ []))
+    ∷ row read_one "(a)" (words (21 ∷ 1 ∷ 3 ∷ 16 ∷ 1 ∷ 1 ∷ []))
     ∷ row expression "(and)" (words (42 ∷ 0 ∷ []))
     ∷ row expression "(or (and) true)" (words (43 ∷ 2 ∷ 37 ∷ 5 ∷ 3 ∷ 33 ∷ 1 ∷ []))
     ∷ row expression "nan" (words (37 ∷ 0 ∷ 3 ∷ []))

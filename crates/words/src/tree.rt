@@ -1,6 +1,6 @@
 // The words of trees.
 ghost use Rattle.std.specs.Prelude.{◌≡◌, List, ◌++◌, ℕ, length};
-ghost use Rattle.reading.specs.Tree.{Tree, treeWords};
+ghost use Rattle.reading.specs.Tree.{Tree, tree_words};
 ghost use Rattle.words.specs.Begins.{Begins};
 
 use crate::number::word_to_length;
@@ -9,7 +9,7 @@ use crate::tree_kinds::{BOOLEAN, INTEGER, LIST};
 // How many words the first tree has.
 pub fn node_words(items: &[u32]) -> usize
     requires { Begins items.now }
-    ensures { (t : Tree) (rest : List ℕ) → items.now ≡ treeWords t ++ rest → result ≡ length (treeWords t) }
+    ensures { (t : Tree) (rest : List ℕ) → items.now ≡ tree_words t ++ rest → result ≡ length (tree_words t) }
 {
     let kind = items[0];
     if kind == LIST {

@@ -46,11 +46,11 @@ decimal-more {n} {t} {d} s h =
     ∙ rw (v, w) refl
 
 -- The tenth is less, and has one digit less.
-pub tenth-less : {n t d : ℕ} → Tenths n t d → 10 ≤ n → t < n
-tenth-less s h = omega (arith, s.sum, h)
+pub tenth_less : {n t d : ℕ} → Tenths n t d → 10 ≤ n → t < n
+tenth_less s h = omega (arith, s.sum, h)
 
-pub tenth-long : {n t d : ℕ} → Tenths n t d → 10 ≤ n → length (decimal n) ≡ length (decimal t) + 1
-tenth-long {t = t} {d = d} s h = ap length (decimal-more s h) ∙ length-append (decimal t) ((48 + d) ∷ [])
+pub tenth_long : {n t d : ℕ} → Tenths n t d → 10 ≤ n → length (decimal n) ≡ length (decimal t) + 1
+tenth_long {t = t} {d = d} s h = ap length (decimal-more s h) ∙ length-append (decimal t) ((48 + d) ∷ [])
 
 -- The tenth and the last digit, as they are computed.
 tenths : (n : ℕ) → Tenths n (n / 10) (n % 10)
@@ -61,10 +61,10 @@ pub decimal-some : (n : ℕ) → 0 < length (decimal n)
 decimal-some n =
     either n 10
     (λ s. omega (arith, ap length (decimal-one n s)))
-    λ b. omega (arith, tenth-long (tenths n) b)
+    λ b. omega (arith, tenth_long (tenths n) b)
 
 pub decimal-two : (n : ℕ) → 10 ≤ n → 1 < length (decimal n)
-decimal-two n h = omega (arith, tenth-long (tenths n) h, decimal-some (n / 10))
+decimal-two n h = omega (arith, tenth_long (tenths n) h, decimal-some (n / 10))
 
 pub decimal-few : (n : ℕ) → length (decimal n) ≡ 1 → n < 10
 decimal-few n e =
@@ -80,4 +80,4 @@ decimal-most zero n h = omega (arith, ap length (decimal-one n h))
 decimal-most (suc k) n h =
     either n 10
     (λ s. omega (arith, ap length (decimal-one n s)))
-    λ b. omega (arith, tenth-long (tenths n) b, decimal-most k (n / 10) (omega (arith, h)))
+    λ b. omega (arith, tenth_long (tenths n) b, decimal-most k (n / 10) (omega (arith, h)))

@@ -9,11 +9,11 @@ use Rattle.reading.specs.Answer.{over}
 use Rattle.writing.specs.Laid.{laid}
 
 -- Words laid behind words.
-pub laid-append : (a b o : List ℕ) (w : ℕ) → laid o w (a ++ b) ≡ laid (laid o w a) (w + length a) b
+pub laid_append : (a b o : List ℕ) (w : ℕ) → laid o w (a ++ b) ≡ laid (laid o w a) (w + length a) b
 unfolding laid
-laid-append [] b o w = rw (add-zero w)
-laid-append (x ∷ a) b o w =
-    laid-append a b (set o w x) (w + 1) ∙ ap (λ (k : ℕ). laid (laid (set o w x) (w + 1) a) k b) (omega arith)
+laid_append [] b o w = rw (add-zero w)
+laid_append (x ∷ a) b o w =
+    laid_append a b (set o w x) (w + 1) ∙ ap (λ (k : ℕ). laid (laid (set o w x) (w + 1) a) k b) (omega arith)
 
 -- The output keeps its length.
 pub length-laid : (ws o : List ℕ) (w : ℕ) → length (laid o w ws) ≡ length o
@@ -53,10 +53,10 @@ laid-early [] ws l i u h = refl
 laid-early (v ∷ vs) ws l i u h = ap (λ m. laid m (i + 1) vs) (set-laid ws l i u v (omega arith)) ∙ laid-early vs ws (set l i v) (i + 1) u (omega arith)
 
 -- No output stays one, and a word in front stays in front.
-laid-empty : (ws : List ℕ) (w : ℕ) → laid [] w ws ≡ []
+laid_empty : (ws : List ℕ) (w : ℕ) → laid [] w ws ≡ []
 unfolding laid
-laid-empty [] w = refl
-laid-empty (x ∷ ws) w = laid-empty ws (w + 1)
+laid_empty [] w = refl
+laid_empty (x ∷ ws) w = laid_empty ws (w + 1)
 
 laid-later : (ws o : List ℕ) (x w : ℕ) → laid (x ∷ o) (suc w) ws ≡ x ∷ laid o w ws
 unfolding laid
@@ -70,8 +70,8 @@ pub laid-over : (ws o : List ℕ) (w : ℕ) → take w o ++ over ws (drop w o) �
 unfolding laid over
 laid-over [] [] zero = refl
 laid-over [] [] (suc w) = refl
-laid-over (a ∷ ws) [] zero = sym (laid-empty ws 1)
-laid-over (a ∷ ws) [] (suc w) = sym (laid-empty ws (suc w + 1))
+laid-over (a ∷ ws) [] zero = sym (laid_empty ws 1)
+laid-over (a ∷ ws) [] (suc w) = sym (laid_empty ws (suc w + 1))
 laid-over [] (x ∷ o) zero = refl
 laid-over (a ∷ ws) (x ∷ o) zero = ap (λ (l : List ℕ). a ∷ l) (laid-over ws o zero) ∙ sym (laid-later ws o a 0)
 laid-over ws (x ∷ o) (suc w) = ap (λ (l : List ℕ). x ∷ l) (laid-over ws o w) ∙ sym (laid-later ws o x w)

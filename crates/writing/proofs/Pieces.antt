@@ -11,9 +11,9 @@ use Rattle.writing.specs.Laid.{laid}
 use Rattle.writing.specs.Wrote.{Wrote}
 use Rattle.writing.specs.Digits.{decimal}
 use Rattle.writing.specs.Quads.{Tenths}
-use Rattle.writing.proofs.Laid.{laid-append, set-behind}
+use Rattle.writing.proofs.Laid.{laid_append, set-behind}
 use Rattle.writing.proofs.Wrote.{wrote-all}
-use Rattle.writing.proofs.Decimals.{decimal-one, decimal-more, tenth-long, decimal-some, decimal-two, decimal-few, decimal-many}
+use Rattle.writing.proofs.Decimals.{decimal-one, decimal-more, tenth_long, decimal-some, decimal-two, decimal-few, decimal-many}
 
 -- ---- copying
 
@@ -23,13 +23,13 @@ pub record Copied (from l₀ : List ℕ) (place : ℕ) (l : List ℕ) (i : ℕ) 
   pub upto : i ≤ length from
   pub rest : laid l (place + i) (drop i from) ≡ laid l₀ place from
 
-pub copy-none : (from l : List ℕ) (place : ℕ) → Copied from l place l 0
-copy-none from l place = record { kept = refl; upto = omega arith; rest = rw (add-zero place) refl }
+pub copy_none : (from l : List ℕ) (place : ℕ) → Copied from l place l 0
+copy_none from l place = record { kept = refl; upto = omega arith; rest = rw (add-zero place) refl }
 
 module _ {from l₀ : List ℕ} {place : ℕ} {l : List ℕ} {i : ℕ} (c : Copied from l₀ place l i) where
-  pub copy-next : i < length from → Copied from l₀ place (set l (place + i) (get_or from i 0)) (i + 1)
+  pub copy_next : i < length from → Copied from l₀ place (set l (place + i) (get_or from i 0)) (i + 1)
   unfolding laid
-  copy-next h =
+  copy_next h =
       let e : i + 1 ≡ suc i = omega arith in
       let p : place + (i + 1) ≡ place + i + 1 = omega arith in
       record {
@@ -38,9 +38,9 @@ module _ {from l₀ : List ℕ} {place : ℕ} {l : List ℕ} {i : ℕ} (c : Copi
         rest = rw (p, e) (ap (laid l (place + i)) (sym (drop-cons from i 0 h)) ∙ c.rest);
       }
 
-  pub copy-all : length from ≤ i → place + length from ≤ length l₀ → Wrote l₀ place from 0 l (place + i)
+  pub copy_all : length from ≤ i → place + length from ≤ length l₀ → Wrote l₀ place from 0 l (place + i)
   unfolding laid
-  copy-all h k =
+  copy_all h k =
       wrote-all (omega (arith, h, c.upto)) k (ap (laid l (place + i)) (sym (drop_of_length-le from {i = i} h)) ∙ c.rest)
 
 -- ---- counting digits
@@ -54,7 +54,7 @@ count-one n = record { sum = omega arith }
 
 module _ {n m i : ℕ} (c : Counted n m i) where
   pub count_next : {t d : ℕ} → Tenths m t d → 10 ≤ m → Counted n t (i + 1)
-  count_next s h = record { sum = omega (arith, c.sum, tenth-long s h) }
+  count_next s h = record { sum = omega (arith, c.sum, tenth_long s h) }
 
   pub count-all : m < 10 → i ≡ length (decimal n)
   count-all h = omega (arith, c.sum, ap length (decimal-one m h))
@@ -78,14 +78,14 @@ module _ {n : ℕ} {l₀ : List ℕ} {place : ℕ} {l : List ℕ} {m i : ℕ} (c
   unfolding laid
   end-next {t} {d} s h =
       let b : 10 ≤ m = decimal-many m i c.many h in
-      let k : length (decimal t) ≡ i = omega (arith, c.many, tenth-long s b) in
+      let k : length (decimal t) ≡ i = omega (arith, c.many, tenth_long s b) in
       record {
         kept = length-set l (place + i) (48 + d) ∙ c.kept;
         many = omega (arith, k, h);
         rest =
             sym (set-behind (decimal t) l place (place + i) (48 + d) (omega (arith, k)))
             ∙ ap (λ (j : ℕ). set (laid l place (decimal t)) (place + j) (48 + d)) (sym k)
-            ∙ sym (laid-append (decimal t) ((48 + d) ∷ []) l place)
+            ∙ sym (laid_append (decimal t) ((48 + d) ∷ []) l place)
             ∙ ap (laid l place) (sym (decimal-more s b))
             ∙ c.rest;
       }

@@ -19,16 +19,16 @@ below : (n a b : ℕ) → n < a → a ≤ b → n < b
 below n a b h k = omega (arith, h, k)
 
 -- A number of four words is below 2^128, and has at most 39 digits.
-pub quad-below : (w : Wide) → w.a < 2 ^ 32 → w.b < 2 ^ 32 → w.c < 2 ^ 32 → w.d < 2 ^ 32 → value_of w < 2 ^ 128
+pub quad_below : (w : Wide) → w.a < 2 ^ 32 → w.b < 2 ^ 32 → w.c < 2 ^ 32 → w.d < 2 ^ 32 → value_of w < 2 ^ 128
 unfolding value_of
-quad-below w ha hb hc hd =
+quad_below w ha hb hc hd =
     let c : w.c + 2 ^ 32 * w.d < 2 ^ 64 = wider w.c w.d (2 ^ 32) hc hd in
     let b : w.b + 2 ^ 32 * (w.c + 2 ^ 32 * w.d) < 2 ^ 96 = wider w.b _ (2 ^ 64) hb c in
     wider w.a _ (2 ^ 96) ha b
 
-pub quad-long : (w : Wide) → w.a < 2 ^ 32 → w.b < 2 ^ 32 → w.c < 2 ^ 32 → w.d < 2 ^ 32 → length (decimal (value_of w)) ≤ 39
-quad-long w ha hb hc hd =
-    decimal-most 38 (value_of w) (below (value_of w) (2 ^ 128) (10 ^ 39) (quad-below w ha hb hc hd) (leb-true (2 ^ 128) (10 ^ 39) refl))
+pub quad_long : (w : Wide) → w.a < 2 ^ 32 → w.b < 2 ^ 32 → w.c < 2 ^ 32 → w.d < 2 ^ 32 → length (decimal (value_of w)) ≤ 39
+quad_long w ha hb hc hd =
+    decimal-most 38 (value_of w) (below (value_of w) (2 ^ 128) (10 ^ 39) (quad_below w ha hb hc hd) (leb-true (2 ^ 128) (10 ^ 39) refl))
 
 -- A word that is not the lowest is not 0, or they all are.
 module _ (w : Wide) where
@@ -61,14 +61,14 @@ module _ (w : Wide) where
   digit-more h = sym (le-ltb (value_of w) 10 (omega (arith, ltb-false (value_of w) (2 ^ 32) h)))
 
   -- The tenth of a number of one word.
-  pub tenth-low : ltb (value_of w) (2 ^ 32) ≡ true → Tenths (value_of w) (value_of (record { a = w.a / 10; b = 0; c = 0; d = 0 })) (w.a % 10)
+  pub tenth_low : ltb (value_of w) (2 ^ 32) ≡ true → Tenths (value_of w) (value_of (record { a = w.a / 10; b = 0; c = 0; d = 0 })) (w.a % 10)
   unfolding value_of
-  tenth-low h = record { sum = omega (arith, lowest (ltb-true (value_of w) (2 ^ 32) h)); digit = omega arith }
+  tenth_low h = record { sum = omega (arith, lowest (ltb-true (value_of w) (2 ^ 32) h)); digit = omega arith }
 
   -- The tenth of a number, word by word: what is left of a word stands in front of the next one.
-  pub tenth-words : (t : Wide) (x y z last : ℕ) → t.d * 10 + x ≡ 0 * 2 ^ 32 + w.d → t.c * 10 + y ≡ x * 2 ^ 32 + w.c → t.b * 10 + z ≡ y * 2 ^ 32 + w.b → t.a * 10 + last ≡ z * 2 ^ 32 + w.a → last < 10 → Tenths (value_of w) (value_of t) last
+  pub tenth_words : (t : Wide) (x y z last : ℕ) → t.d * 10 + x ≡ 0 * 2 ^ 32 + w.d → t.c * 10 + y ≡ x * 2 ^ 32 + w.c → t.b * 10 + z ≡ y * 2 ^ 32 + w.b → t.a * 10 + last ≡ z * 2 ^ 32 + w.a → last < 10 → Tenths (value_of w) (value_of t) last
   unfolding value_of
-  tenth-words t x y z last hd hc hb ha h = record { sum = omega (arith, hd, hc, hb, ha); digit = h }
+  tenth_words t x y z last hd hc hb ha h = record { sum = omega (arith, hd, hc, hb, ha); digit = h }
 
 -- A word alone.
 pub word_value : (n : ℕ) → value_of (record { a = n; b = 0; c = 0; d = 0 }) ≡ n

@@ -8,8 +8,8 @@ use lib.Dec.{ltb}
 use lib.ListN.{length, set, length-set, length-append}
 use borrow.Author.Tests.{ltb-true, ltb-false}
 use Rattle.writing.specs.Laid.{laid}
-use Rattle.writing.specs.Wrote.{mostCount, Wrote, WroteBytes}
-use Rattle.writing.proofs.Laid.{laid-append, length-laid}
+use Rattle.writing.specs.Wrote.{most_count, Wrote, WroteBytes}
+use Rattle.writing.proofs.Laid.{laid_append, length-laid}
 
 -- Below a bound, or not.
 pub either : {P : Type 0} (a b : ℕ) → (a < b → P) → (b ≤ a → P) → P
@@ -31,23 +31,23 @@ wrote-laid l xs =
     record { kept = length-laid xs l 0; fits = λ h. (omega arith, omega arith, refl); full = λ h k _. omega (arith, h, k) }
 
 -- Words behind words.
-pub wrote-seq : (xs ys : List ℕ) {l l₁ l₂ : List ℕ} {place p q a b : ℕ} → Wrote l place xs a l₁ p → Wrote l₁ p ys b l₂ q → Wrote l place (xs ++ ys) (max a b) l₂ q
-wrote-seq xs ys {l} {l₁} {l₂} {place} {p} {q} {a} {b} w v =
+pub wrote_seq : (xs ys : List ℕ) {l l₁ l₂ : List ℕ} {place p q a b : ℕ} → Wrote l place xs a l₁ p → Wrote l₁ p ys b l₂ q → Wrote l place (xs ++ ys) (max a b) l₂ q
+wrote_seq xs ys {l} {l₁} {l₂} {place} {p} {q} {a} {b} w v =
     record { kept = v.kept ∙ w.kept; fits = fitted; full = filled }
   where
     long : length (xs ++ ys) ≡ length xs + length ys
     long = length-append xs ys
 
-    fitted : q ≤ length l → (q ≡ place + length (xs ++ ys)) × (max a b < mostCount) × (l₂ ≡ laid l place (xs ++ ys))
+    fitted : q ≤ length l → (q ≡ place + length (xs ++ ys)) × (max a b < most_count) × (l₂ ≡ laid l place (xs ++ ys))
     fitted h =
-        let y : (q ≡ p + length ys) × (b < mostCount) × (l₂ ≡ laid l₁ p ys) = v.fits (omega (arith, h, w.kept)) in
-        let x : (p ≡ place + length xs) × (a < mostCount) × (l₁ ≡ laid l place xs) = w.fits (omega (arith, h, y.0)) in (
+        let y : (q ≡ p + length ys) × (b < most_count) × (l₂ ≡ laid l₁ p ys) = v.fits (omega (arith, h, w.kept)) in
+        let x : (p ≡ place + length xs) × (a < most_count) × (l₁ ≡ laid l place xs) = w.fits (omega (arith, h, y.0)) in (
           omega (arith, x.0, y.0, long),
           omega (arith, x.1, y.1),
-          y.2 ∙ ap (λ m. laid m p ys) x.2 ∙ ap (λ (k : ℕ). laid (laid l place xs) k ys) x.0 ∙ sym (laid-append xs ys l place),
+          y.2 ∙ ap (λ m. laid m p ys) x.2 ∙ ap (λ (k : ℕ). laid (laid l place xs) k ys) x.0 ∙ sym (laid_append xs ys l place),
         )
 
-    filled : length l < q → place + length (xs ++ ys) ≤ length l → max a b < mostCount → ⊥
+    filled : length l < q → place + length (xs ++ ys) ≤ length l → max a b < most_count → ⊥
     filled h k m =
         either (length l) p
         (λ far. w.full far (omega (arith, k, long)) (omega (arith, m)))
@@ -55,10 +55,10 @@ wrote-seq xs ys {l} {l₁} {l₂} {place} {p} {q} {a} {b} w v =
 
 -- Bytes behind bytes.
 pub wrote_then : {l l₁ l₂ xs ys : List ℕ} {place p q : ℕ} → WroteBytes l place xs l₁ p → WroteBytes l₁ p ys l₂ q → WroteBytes l place (xs ++ ys) l₂ q
-wrote_then {xs = xs} {ys = ys} w v = wrote-seq xs ys w v
+wrote_then {xs = xs} {ys = ys} w v = wrote_seq xs ys w v
 
 -- A smaller count than one that takes more than a word changes nothing.
-pub wrote-more : (n : ℕ) {l l' xs : List ℕ} {place m r : ℕ} → n < mostCount → Wrote l place xs m l' r → Wrote l place xs (max n m) l' r
+pub wrote-more : (n : ℕ) {l l' xs : List ℕ} {place m r : ℕ} → n < most_count → Wrote l place xs m l' r → Wrote l place xs (max n m) l' r
 wrote-more n {m = m} small w =
     record {
       kept = w.kept;

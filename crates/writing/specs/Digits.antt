@@ -7,12 +7,12 @@ unfoldable pub digit : ℕ → ℕ
 digit d = pick (ltb d 10) (48 + d) (87 + d)
 
 -- The last two hexadecimal digits of a number.
-abbrev pub twoDigits : ℕ → List ℕ
-twoDigits n = digit (n / 16 % 16) ∷ digit (n % 16) ∷ []
+abbrev pub two_digits : ℕ → List ℕ
+two_digits n = digit (n / 16 % 16) ∷ digit (n % 16) ∷ []
 
 -- The eight hexadecimal digits of a word.
-abbrev pub eightDigits : ℕ → List ℕ
-eightDigits w =
+abbrev pub eight_digits : ℕ → List ℕ
+eight_digits w =
     digit (w / 16 ^ 7 % 16)
     ∷ digit (w / 16 ^ 6 % 16)
     ∷ digit (w / 16 ^ 5 % 16)

@@ -1,5 +1,5 @@
 use mathlib.Core.Path.{sym, ap}
-use Rattle.boundary.specs.Heard.{writtenSaid}
+use Rattle.boundary.specs.Heard.{written_said}
 use borrow.Author.Rules.{rules}
 use Rattle.boundary.proofs.written.Statement.{statement}
 use Rattle.boundary.proofs.written.Tie as tie
@@ -11,10 +11,10 @@ enum-known-answer-2 : tie.Need-enum-known-answer-2
 enum-known-answer-2 c = search rules
 
 returns : tie.Need-returns
-returns c = sym (ap writtenSaid c.before.answer.given.1)
+returns c = sym (ap written_said c.before.answer.given.1)
 
 returns-2 : tie.Need-returns-2
-returns-2 c = sym (ap writtenSaid c.before.answer2.given.1)
+returns-2 c = sym (ap written_said c.before.answer2.given.1)
 
 pub written-spec : {M : Type 1} → statement M
 written-spec = tie.close (tie.spec enum-known-answer enum-known-answer-2 returns returns-2)

@@ -1,5 +1,5 @@
 use mathlib.Core.Path.{refl}
-use Rattle.reading.proofs.Picks.{pick-lt, pick-ge}
+use Rattle.reading.proofs.Picks.{pick_lt, pick_ge}
 use borrow.Author.Rules.{rules}
 use Rattle.compared.proofs.expected.Statement.{statement}
 use Rattle.compared.proofs.expected.Tie as tie
@@ -11,13 +11,13 @@ shared-slice-read-result : tie.Need-shared-slice-read-result
 shared-slice-read-result c = search rules
 
 returns : tie.Need-returns
-returns c = pick-lt _ c.before.if1.true refl
+returns c = pick_lt _ c.before.if1.true refl
 
 pattern-requires : tie.Need-pattern-requires
 pattern-requires c κs = tt
 
 returns-2 : tie.Need-returns-2
-returns-2 c = pick-ge _ c.before.if1.false c.pattern.ensures
+returns-2 c = pick_ge _ c.before.if1.false c.pattern.ensures
 
 pub expected-spec : {M : Type 1} → statement M
 expected-spec =

@@ -2,7 +2,7 @@ use Prim.Native.Nat.{◌-◌}
 use native.Mathlib.Omega.{arith}
 use borrow.Author.Rules.{rules}
 use lib.ListN.{length}
-use Rattle.compared.proofs.Comparing.{Filling, filling-all, filling-more, filling-none}
+use Rattle.compared.proofs.Comparing.{Filling, filling_all, filling_more, filling_none}
 use Rattle.compared.proofs.fill.Statement.{statement}
 use Rattle.compared.proofs.fill.Tie as tie
 
@@ -13,7 +13,7 @@ abbrev decreases-loop : tie.decreases-loop
 decreases-loop words₀ i₀ words i = length words₀ - i
 
 loop-holds : tie.Need-loop-init invariant-loop decreases-loop
-loop-holds c = filling-all _
+loop-holds c = filling_all _
 
 pattern-requires : tie.Need-pattern-requires invariant-loop decreases-loop
 pattern-requires c κs = tt
@@ -31,13 +31,13 @@ loop-less : tie.Need-loop-smaller invariant-loop decreases-loop
 loop-less c = omega arith
 
 loop-again : tie.Need-loop-preserved invariant-loop decreases-loop
-loop-again c = filling-more c.before.before.loop.invariant c.before.loop-test.true c.pattern.ensures
+loop-again c = filling_more c.before.before.loop.invariant c.before.loop-test.true c.pattern.ensures
 
 same_length : tie.Need-same-length invariant-loop decreases-loop
 same_length c = c.before.loop.invariant.kept
 
 returns : tie.Need-returns invariant-loop decreases-loop
-returns c = filling-none c.before.loop.invariant c.loop-test.false
+returns c = filling_none c.before.loop.invariant c.loop-test.false
 
 pub fill_spec : {M : Type 1} → statement M
 fill_spec =

@@ -19,7 +19,7 @@ returns : tie.Need-returns
 returns c =
     let a = c.before.before.before.before.before.before.before.before.args in
     let e = c.before.before.before.before.flatten.ensures in
-    flat-reply a.words-in.now a.out.now _ _ _ _ c.numbers.ensures c.before.sized.ensures e.0 e.1
+    flat-reply a.words_in_lem.now a.out.now _ _ _ _ c.numbers.ensures c.before.sized.ensures e.0 e.1
 
 pub pinhkray-flatten-spec : {M : Type 1} → statement M
 pinhkray-flatten-spec =

@@ -1,5 +1,5 @@
 use mathlib.Core.Path.{refl, sym, ◌∙◌}
-use Rattle.flatten.proofs.Decided.{flatten-no, flatten_done, flatten-full}
+use Rattle.flatten.proofs.Decided.{flatten_no, flatten_done, flatten_full}
 use borrow.Author.Rules.{rules}
 use Rattle.flatten.proofs.attempt.Statement.{statement}
 use Rattle.flatten.proofs.attempt.Tie as tie
@@ -20,10 +20,10 @@ same_length : tie.Need-same-length
 same_length c = search rules
 
 returns : tie.Need-returns
-returns c = flatten-full _ _ (sym c.before.before.before.before.before.before.enum_told.given.1 ∙ c.before.before.before.before.before.before.before.before.judge.ensures) c.before.before.before.before.flat.ensures refl c.if1.true
+returns c = flatten_full _ _ (sym c.before.before.before.before.before.before.enum_told.given.1 ∙ c.before.before.before.before.before.before.before.before.judge.ensures) c.before.before.before.before.flat.ensures refl c.if1.true
 
 returns-2 : tie.Need-returns-2
-returns-2 c = flatten-no _ _ (sym c.before.r.given.1 ∙ c.before.before.before.judge.ensures)
+returns-2 c = flatten_no _ _ (sym c.before.r.given.1 ∙ c.before.before.before.judge.ensures)
 
 same-length-2 : tie.Need-same-length-2
 same-length-2 c = search rules

@@ -1,5 +1,5 @@
 use Rattle.parse.proofs.Answered.{kept, cleared}
-use Rattle.flattening.specs.Operations.{flattenOut}
+use Rattle.flattening.specs.Operations.{flatten_out}
 use borrow.Author.Rules.{rules}
 use Rattle.flatten.proofs.flatten.Statement.{statement}
 use Rattle.flatten.proofs.flatten.Tie as tie
@@ -20,14 +20,14 @@ same_length : tie.Need-same-length
 same_length c = search rules
 
 returns : tie.Need-returns
-unfolding flattenOut
+unfolding flatten_out
 returns c = kept c.before.before.before.before.before.attempt.ensures c.before.n.given.1
 
 same-length-2 : tie.Need-same-length-2
 same-length-2 c = search rules
 
 returns-2 : tie.Need-returns-2
-unfolding flattenOut
+unfolding flatten_out
 returns-2 c = cleared c.before.before.before.before.before.before.before.before.before.attempt.ensures c.before.before.before.before.before.r.given.1 c.before.before.before.before.before.before.before.before.before.attempt.auto.1.0 c.before.before.clear.ensures
 
 pub flatten-spec : {M : Type 1} → statement M

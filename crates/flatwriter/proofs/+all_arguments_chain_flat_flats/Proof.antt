@@ -4,9 +4,9 @@ use native.Mathlib.Omega.{arith}
 use lib.ListN.{length}
 use Rattle.grammar.specs.Expr.{Exprs}
 use Rattle.judging.specs.Judge.{reads}
-use Rattle.flattening.specs.Operations.{noText}
+use Rattle.flattening.specs.Operations.{no_text}
 use Rattle.judge.proofs.ReadExpr.{siblings}
-use Rattle.flatwriter.proofs.WriteSteps.{LeftExprs, exprs-all, exprs-next, exprs-none, flat-no-room, flat-no-header, flat-operands, flat-arguments, arguments-joined, chain-no-room, chain-no-header, chain-lone, chain-on}
+use Rattle.flatwriter.proofs.WriteSteps.{LeftExprs, exprs-all, exprs-next, exprs-none, flat-no-room, flat-no-header, flat-operands, flat-arguments, arguments-joined, chain-no-room, chain-no-header, chain_lone, chain-on}
 use Prim.Native.Nat.{ℕ, ◌<◌, ◌+◌, ◌*◌}
 use borrow.Fn.Kinds.{In}
 use borrow.Fn.PlainCycle.{Measures, is, falls, and}
@@ -154,7 +154,7 @@ chain-lone-requires-3 t c κs = search rules
 chain-returns-2 : (t : ℕ) → chain-lts.Need-returns-2 (chain-claims t) (chain-at t) chain.Post
 chain-returns-2 t c =
     let e = c.lone2.ensures in
-    ((omega (arith, e.1), omega (arith, e.2)), chain-lone _ _ _ _ _ c.before.before.before.before.if1.false (sym c.before.enum_told.given.1 ∙ c.before.before.before.head.ensures) e.0 e.1 e.2 e.3)
+    ((omega (arith, e.1), omega (arith, e.2)), chain_lone _ _ _ _ _ c.before.before.before.before.if1.false (sym c.before.enum_told.given.1 ∙ c.before.before.before.head.ensures) e.0 e.1 e.2 e.3)
 
 chain-same-length : (t : ℕ) → chain-lts.Need-same-length (chain-claims t) (chain-at t) chain.Post
 chain-same-length t c = search rules
@@ -225,7 +225,7 @@ flat-returns-4 : (t : ℕ) → flat-lts.Need-returns-4 (flat-claims t) (flat-at 
 flat-returns-4 t c = flat-no-header _ _ _ _ _ c.before.before.before.if1.false (sym c.enum_told.given.1 ∙ c.before.before.head.ensures)
 
 abbrev flats-Inv-loop : flats-lts.invariant-loop
-flats-Inv-loop words at n room out₀ place a₀ p₀ i₀ out a p i = (length out ≡ length out₀) × ((es : Exprs) (m : ℕ) → siblings noText room n words at ≡ reads es m → LeftExprs words room i a p out out₀ place es m)
+flats-Inv-loop words at n room out₀ place a₀ p₀ i₀ out a p i = (length out ≡ length out₀) × ((es : Exprs) (m : ℕ) → siblings no_text room n words at ≡ reads es m → LeftExprs words room i a p out out₀ place es m)
 
 abbrev flats-μ-loop : flats-lts.decreases-loop
 flats-μ-loop words at n room out₀ place a₀ p₀ i₀ out a p i = i

@@ -1,4 +1,4 @@
-use Rattle.heads.proofs.ReadHead.{arguments-in, arguments-half, arguments-no, arguments-out}
+use Rattle.heads.proofs.ReadHead.{arguments_in, arguments-half, arguments-no, arguments-out}
 use borrow.Author.Rules.{rules}
 use Rattle.heads.proofs.arguments.Statement.{statement}
 use Rattle.heads.proofs.arguments.Tie as tie
@@ -22,7 +22,7 @@ shared-slice-read-t17 : tie.Need-shared-slice-read-t17
 shared-slice-read-t17 c = search rules
 
 returns : tie.Need-returns
-returns c = arguments-in _ _ c.before.before.before.before.if1.true c.before.before.if2.true c.before.if3.true
+returns c = arguments_in _ _ c.before.before.before.before.if1.true c.before.before.if2.true c.before.if3.true
 
 returns-2 : tie.Need-returns-2
 returns-2 c = arguments-half _ _ c.before.before.before.if1.true c.before.if2.true c.if3.false

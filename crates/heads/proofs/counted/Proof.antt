@@ -1,4 +1,4 @@
-use Rattle.heads.proofs.ReadHead.{counted-in, counted-out}
+use Rattle.heads.proofs.ReadHead.{counted_in, counted-out}
 use borrow.Author.Rules.{rules}
 use Rattle.heads.proofs.counted.Statement.{statement}
 use Rattle.heads.proofs.counted.Tie as tie
@@ -13,7 +13,7 @@ shared-slice-read-t8 : tie.Need-shared-slice-read-t8
 shared-slice-read-t8 c = search rules
 
 returns : tie.Need-returns
-returns c = counted-in _ _ c.before.if1.true
+returns c = counted_in _ _ c.before.if1.true
 
 returns-2 : tie.Need-returns-2
 returns-2 c = counted-out _ _ c.if1.false

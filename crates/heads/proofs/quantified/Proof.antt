@@ -1,4 +1,4 @@
-use Rattle.heads.proofs.ReadHead.{quantified-in, quantified-out}
+use Rattle.heads.proofs.ReadHead.{quantified_in, quantified-out}
 use borrow.Author.Rules.{rules}
 use Rattle.heads.proofs.quantified.Statement.{statement}
 use Rattle.heads.proofs.quantified.Tie as tie
@@ -19,7 +19,7 @@ operands-requires : tie.Need-operands-requires
 operands-requires c κs = search rules
 
 returns : tie.Need-returns
-returns c = quantified-in _ _ _ c.before.before.before.if1.true c.before.binders-end.ensures c.operands.ensures
+returns c = quantified_in _ _ _ c.before.before.before.if1.true c.before.binders-end.ensures c.operands.ensures
 
 returns-2 : tie.Need-returns-2
 returns-2 c = quantified-out _ _ _ c.if1.false

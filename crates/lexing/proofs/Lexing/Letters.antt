@@ -9,38 +9,38 @@ use lib.ListN.{get_or, drop}
 use borrow.Author.Tests.{le-ltb}
 use Rattle.reading.specs.Pick.{pick}
 use Rattle.reading.specs.Bytes.{nothing, before}
-use Rattle.reading.specs.Number.{isDigit, digits, plusBytes, signBytes, signed, integerOf}
-use Rattle.reading.specs.Decimal.{noDigit, leadingDigits, isFraction, isUnsignedDecimal, isDecimal}
-use Rattle.reading.proofs.Picks.{pick-ge, pick-ne}
-use Rattle.lexing.proofs.Lexing.Digits.{digits-some, from-bad}
-use Rattle.lexing.proofs.Lexing.Decimals.{fraction-none}
+use Rattle.reading.specs.Number.{is_digit, digits, plus_bytes, sign_bytes, signed, integer_of}
+use Rattle.reading.specs.Decimal.{no_digit, leading_digits, is_fraction, is_unsigned_decimal, is_decimal}
+use Rattle.reading.proofs.Picks.{pick_ge, pick_ne}
+use Rattle.lexing.proofs.Lexing.Digits.{digits-some, from_bad}
+use Rattle.lexing.proofs.Lexing.Decimals.{fraction_none}
 
 -- It is no sign and no digit.
-letter-sign : (s : List ℕ) → 57 < get_or s 0 0 → signBytes s ≡ 0
-unfolding signBytes plusBytes
-letter-sign s h =
+letter_sign : (s : List ℕ) → 57 < get_or s 0 0 → sign_bytes s ≡ 0
+unfolding sign_bytes plus_bytes
+letter_sign s h =
     let not : (n : ℕ) → n ≤ 57 → get_or s 0 0 ≡ n → ⊥ = λ n k e. omega arith in
-    sym (pick-ne _ (not 45 (omega arith)) (pick-ne _ (not 43 (omega arith)) refl))
+    sym (pick_ne _ (not 45 (omega arith)) (pick_ne _ (not 43 (omega arith)) refl))
 
-letter-digit : (b : ℕ) → 57 < b → isDigit 10 b ≡ false
-unfolding isDigit
-letter-digit b h =
+letter_digit : (b : ℕ) → 57 < b → is_digit 10 b ≡ false
+unfolding is_digit
+letter_digit b h =
     let from : 48 ≤ b = omega arith in
-    sym (pick-ge _ from (sym (le-ltb b 58 (omega arith))))
+    sym (pick_ge _ from (sym (le-ltb b 58 (omega arith))))
 
 -- So the bytes are no integer and no decimal.
-pub letter-integer : (s : List ℕ) → 57 < get_or s 0 0 → nothing ≡ integerOf s
-unfolding integerOf signed
-letter-integer [] h = absurd (omega arith)
-letter-integer (b ∷ s) h =
-    let none : digits 10 (b ∷ s) ≡ nothing = digits-some 10 (b ∷ s) (λ e. omega arith) ∙ from-bad (b ∷ s) 0 10 0 (omega arith) b refl (letter-digit b h) in
-    sym (ap (signed (eqb b 45)) (ap (λ (k : ℕ). digits 10 (drop k (b ∷ s))) (letter-sign (b ∷ s) h) ∙ none))
+pub letter_integer : (s : List ℕ) → 57 < get_or s 0 0 → nothing ≡ integer_of s
+unfolding integer_of signed
+letter_integer [] h = absurd (omega arith)
+letter_integer (b ∷ s) h =
+    let none : digits 10 (b ∷ s) ≡ nothing = digits-some 10 (b ∷ s) (λ e. omega arith) ∙ from_bad (b ∷ s) 0 10 0 (omega arith) b refl (letter_digit b h) in
+    sym (ap (signed (eqb b 45)) (ap (λ (k : ℕ). digits 10 (drop k (b ∷ s))) (letter_sign (b ∷ s) h) ∙ none))
 
-pub letter-decimal : (s : List ℕ) → 57 < get_or s 0 0 → false ≡ isDecimal s
-unfolding isDecimal isUnsignedDecimal before noDigit pick
-letter-decimal [] h = absurd (omega arith)
-letter-decimal (b ∷ s) h =
-    let none : leadingDigits (b ∷ s) ≡ 0 = rw (letter-digit b h) in
-    fraction-none (b ∷ s) 0 (omega arith) (λ e. omega arith) refl
-    ∙ sym (ap (λ (n : ℕ). isFraction n (drop n (b ∷ s))) none)
-    ∙ sym (ap (λ (k : ℕ). isUnsignedDecimal (drop k (b ∷ s))) (letter-sign (b ∷ s) h))
+pub letter_decimal : (s : List ℕ) → 57 < get_or s 0 0 → false ≡ is_decimal s
+unfolding is_decimal is_unsigned_decimal before no_digit pick
+letter_decimal [] h = absurd (omega arith)
+letter_decimal (b ∷ s) h =
+    let none : leading_digits (b ∷ s) ≡ 0 = rw (letter_digit b h) in
+    fraction_none (b ∷ s) 0 (omega arith) (λ e. omega arith) refl
+    ∙ sym (ap (λ (n : ℕ). is_fraction n (drop n (b ∷ s))) none)
+    ∙ sym (ap (λ (k : ℕ). is_unsigned_decimal (drop k (b ∷ s))) (letter_sign (b ∷ s) h))

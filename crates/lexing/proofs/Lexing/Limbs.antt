@@ -3,7 +3,7 @@ use Prim.Native.Nat.{ℕ, zero, suc, ◌+◌, ◌-◌, ◌*◌, ◌/◌, ◌%◌
 use mathlib.Core.Path.{◌≡◌, sym, ap, ◌∙◌}
 use native.Mathlib.Omega.{arith}
 use native.Mathlib.Nat.{mul-add, mul_left_comm, mul-suc, mul-le-mul_left, le_trans, le-add_left, add-zero, mul_assoc, mod-eq_of_lt}
-use Rattle.reading.specs.Number.{Wide, wide_of, value_of, minusOf}
+use Rattle.reading.specs.Number.{Wide, wide_of, value_of, minus_of}
 use Rattle.lexing.specs.Quads.{Fit, Grows}
 
 -- m times a word.
@@ -82,8 +82,8 @@ no-two n h = omega arith
 no-sum : (x y : ℕ) → x + y ≡ 0 → (x ≡ 0) × (y ≡ 0)
 no-sum x y e = (omega arith, omega arith)
 
-minus : (q r : Wide) (z : ℕ) → Fit r → z ≤ 1 → value_of r + value_of q ≡ 2 ^ 128 * z → r ≡ minusOf q
-unfolding minusOf
+minus : (q r : Wide) (z : ℕ) → Fit r → z ≤ 1 → value_of r + value_of q ≡ 2 ^ 128 * z → r ≡ minus_of q
+unfolding minus_of
 minus q r zero f h e = let n = no-sum (value_of r) (value_of q) e in sym (wide_back r f) ∙ rw (n.0, n.1)
 minus q r (suc zero) f h e = sym (wide_back r f) ∙ ap wide_of (opposite (2 ^ 128) (value_of q) (value_of r) e (value-fits r f))
 minus q r (suc (suc z)) f h e = absurd (no-two z h)
@@ -91,7 +91,7 @@ minus q r (suc (suc z)) f h e = absurd (no-two z h)
 -- Four words and minus each of them, with what is borrowed.
 pub flipped : (q r : Wide) (i j k l : ℕ) → Fit r → l ≤ 1
     → r.a + q.a + 0 ≡ 2 ^ 32 * i → r.b + q.b + i ≡ 2 ^ 32 * j → r.c + q.c + j ≡ 2 ^ 32 * k → r.d + q.d + k ≡ 2 ^ 32 * l
-    → r ≡ minusOf q
+    → r ≡ minus_of q
 unfolding value_of
 flipped q r i j k l f h e₁ e₂ e₃ e₄ =
     minus q r l f h (sym (add-zero _) ∙ join (2 ^ 96) l r.a q.a 0 i _ _ e₁ (join (2 ^ 64) l r.b q.b i j _ _ e₂ (join (2 ^ 32) l r.c q.c j k _ _ e₃ e₄)))

@@ -14,31 +14,31 @@ use Rattle.lexing.specs.declared.quad.Quad.{Quad}
 use Rattle.lexing.specs.declared.number.Mag.TheVariants.{Is, No}
 use Rattle.lexing.specs.declared.number.Word32.TheVariants as word32
 use Rattle.lexing.specs.declared.number.Word64.TheVariants as word64
-use Rattle.lexing.specs.Quads.{asQuad, as_wide, asMag, asWord32, asWord64, number_of, Fit}
+use Rattle.lexing.specs.Quads.{as_quad, as_wide, as_mag, as_word32, as_word64, number_of, Fit}
 use Rattle.lexing.proofs.Lexing.Limbs.{wide_back, value-fits}
 use Rattle.lexing.proofs.Lexing.Digits.{below-yes, below-no}
 
 -- There is no number, or it is too big, or it is the words'.
-pub mag-none : (m : Maybe ℕ) → m ≡ nothing → No ≡ asMag (below (2 ^ 128) m)
+pub mag_none : (m : Maybe ℕ) → m ≡ nothing → No ≡ as_mag (below (2 ^ 128) m)
 unfolding below
-mag-none m e = rw e
+mag_none m e = rw e
 
-pub mag_is : (m : Maybe ℕ) (q : Quad) → Fit (as_wide q) → m ≡ just (value_of (as_wide q)) → Is q ≡ asMag (below (2 ^ 128) m)
+pub mag_is : (m : Maybe ℕ) (q : Quad) → Fit (as_wide q) → m ≡ just (value_of (as_wide q)) → Is q ≡ as_mag (below (2 ^ 128) m)
 mag_is m q f e = rw (e, below-yes (2 ^ 128) (value_of (as_wide q)) (value-fits (as_wide q) f), wide_back (as_wide q) f)
 
 -- A number of 64 bits.
-pub mag-small : (m : Maybe ℕ) (n : ℕ) (q : Quad) → n < 2 ^ 64 → q ≡ asQuad (wide_of n) → m ≡ just n → Is q ≡ asMag (below (2 ^ 128) m)
-mag-small m n q h p e =
+pub mag_small : (m : Maybe ℕ) (n : ℕ) (q : Quad) → n < 2 ^ 64 → q ≡ as_quad (wide_of n) → m ≡ just n → Is q ≡ as_mag (below (2 ^ 128) m)
+mag_small m n q h p e =
     let k : n < 2 ^ 128 = le_trans h (pow-le-pow_right {n = 2} (omega arith) {i = 64} {j = 128} (omega arith)) in
     rw (e, below-yes (2 ^ 128) n k, p)
 
 -- The number that the words of a number stand for.
-pub mag-back : (m : Maybe ℕ) → number_of (asMag (below (2 ^ 128) m)) ≡ below (2 ^ 128) m
+pub mag_back : (m : Maybe ℕ) → number_of (as_mag (below (2 ^ 128) m)) ≡ below (2 ^ 128) m
 unfolding below pick
-mag-back nothing = refl
-mag-back (just n) = go (ltb n (2 ^ 128)) refl
+mag_back nothing = refl
+mag_back (just n) = go (ltb n (2 ^ 128)) refl
   where
-    go : (t : Bool) → ltb n (2 ^ 128) ≡ t → number_of (asMag (pick t (just n) nothing)) ≡ pick t (just n) nothing
+    go : (t : Bool) → ltb n (2 ^ 128) ≡ t → number_of (as_mag (pick t (just n) nothing)) ≡ pick t (just n) nothing
     go true e = ap just (value-back n (ltb-true n (2 ^ 128) e))
     go false e = refl
 
@@ -48,26 +48,26 @@ module _ (q : Quad) where
   unfolding value_of
   value-high h = omega arith
 
-  pub value-higher : (q.c + q.d ≡ 0 → ⊥) → 2 ^ 64 ≤ value_of (as_wide q)
+  pub value_higher : (q.c + q.d ≡ 0 → ⊥) → 2 ^ 64 ≤ value_of (as_wide q)
   unfolding value_of
-  value-higher h = omega arith
+  value_higher h = omega arith
 
-  pub word_out : 2 ^ 32 ≤ value_of (as_wide q) → word32.No ≡ asWord32 (below (2 ^ 32) (just (value_of (as_wide q))))
-  word_out h = sym (ap asWord32 (below-no (2 ^ 32) (value_of (as_wide q)) h))
+  pub word_out : 2 ^ 32 ≤ value_of (as_wide q) → word32.No ≡ as_word32 (below (2 ^ 32) (just (value_of (as_wide q))))
+  word_out h = sym (ap as_word32 (below-no (2 ^ 32) (value_of (as_wide q)) h))
 
-  pub words-out : 2 ^ 64 ≤ value_of (as_wide q) → word64.No ≡ asWord64 (below (2 ^ 64) (just (value_of (as_wide q))))
-  words-out h = sym (ap asWord64 (below-no (2 ^ 64) (value_of (as_wide q)) h))
+  pub words-out : 2 ^ 64 ≤ value_of (as_wide q) → word64.No ≡ as_word64 (below (2 ^ 64) (just (value_of (as_wide q))))
+  words-out h = sym (ap as_word64 (below-no (2 ^ 64) (value_of (as_wide q)) h))
 
-  pub word_in : Fit (as_wide q) → q.b ≡ 0 → q.c ≡ 0 → q.d ≡ 0 → word32.Is q.a ≡ asWord32 (below (2 ^ 32) (just (value_of (as_wide q))))
+  pub word_in : Fit (as_wide q) → q.b ≡ 0 → q.c ≡ 0 → q.d ≡ 0 → word32.Is q.a ≡ as_word32 (below (2 ^ 32) (just (value_of (as_wide q))))
   unfolding value_of
   word_in f b c d =
       let e : value_of (as_wide q) ≡ q.a = omega arith in
-      sym (ap (λ (n : ℕ). asWord32 (below (2 ^ 32) (just n))) e ∙ ap asWord32 (below-yes (2 ^ 32) q.a f.a))
+      sym (ap (λ (n : ℕ). as_word32 (below (2 ^ 32) (just n))) e ∙ ap as_word32 (below-yes (2 ^ 32) q.a f.a))
 
-  pub words-in : Fit (as_wide q) → q.c ≡ 0 → q.d ≡ 0 → word64.Is (q.a + 2 ^ 32 * q.b) ≡ asWord64 (below (2 ^ 64) (just (value_of (as_wide q))))
+  pub words_in_lem : Fit (as_wide q) → q.c ≡ 0 → q.d ≡ 0 → word64.Is (q.a + 2 ^ 32 * q.b) ≡ as_word64 (below (2 ^ 64) (just (value_of (as_wide q))))
   unfolding value_of
-  words-in f c d =
+  words_in_lem f c d =
       let n : ℕ = q.a + 2 ^ 32 * q.b in
       let e : value_of (as_wide q) ≡ n = omega arith in
       let h : n < 2 ^ 64 = omega (arith, f.a, f.b) in
-      sym (ap (λ (x : ℕ). asWord64 (below (2 ^ 64) (just x))) e ∙ ap asWord64 (below-yes (2 ^ 64) n h))
+      sym (ap (λ (x : ℕ). as_word64 (below (2 ^ 64) (just x))) e ∙ ap as_word64 (below-yes (2 ^ 64) n h))

@@ -10,23 +10,23 @@ use lib.ListN.{length, get_or, drop, length-drop, get_or-eq_default}
 use borrow.Author.Tests.{leb-true, ltb-true, ltb-false}
 use Rattle.reading.specs.Pick.{pick}
 use Rattle.reading.specs.Bytes.{Maybe, nothing, just}
-use Rattle.reading.specs.Number.{Wide, wide_of, value_of, minusOf, below, digits, plusBytes, signBytes, unsigned, signed, integerOf}
+use Rattle.reading.specs.Number.{Wide, wide_of, value_of, minus_of, below, digits, plus_bytes, sign_bytes, unsigned, signed, integer_of}
 use Rattle.lexing.specs.declared.quad.Quad.{Quad}
 use Rattle.lexing.specs.declared.number.Mag.{Mag}
 use Rattle.lexing.specs.declared.number.Mag.TheVariants.{Is, No}
-use Rattle.lexing.specs.Quads.{asQuad, as_wide, asMag, asInteger, number_of, Fit}
-use Rattle.reading.proofs.Picks.{pick-le, pick-gt, pick-lt, pick-ge}
+use Rattle.lexing.specs.Quads.{as_quad, as_wide, as_mag, as_integer, number_of, Fit}
+use Rattle.reading.proofs.Picks.{pick_le, pick_gt, pick_lt, pick_ge}
 use Rattle.lexing.proofs.Lexing.Limbs.{wide_back}
 use Rattle.lexing.proofs.Lexing.Digits.{below-below, digits-none}
-use Rattle.lexing.proofs.Lexing.Mags.{mag-back}
+use Rattle.lexing.proofs.Lexing.Mags.{mag_back}
 
 -- No sign stands in front of nothing.
-pub plus_none : (s : List ℕ) → length s ≡ 0 → 0 ≡ plusBytes s
-unfolding plusBytes pick
+pub plus_none : (s : List ℕ) → length s ≡ 0 → 0 ≡ plus_bytes s
+unfolding plus_bytes pick
 plus_none s e = rw (get_or-eq_default s 0 {n = 0} (omega arith))
 
-pub sign-none : (s : List ℕ) → length s ≡ 0 → 0 ≡ signBytes s
-unfolding signBytes plusBytes pick
+pub sign-none : (s : List ℕ) → length s ≡ 0 → 0 ≡ sign_bytes s
+unfolding sign_bytes plus_bytes pick
 sign-none s e = rw (get_or-eq_default s 0 {n = 0} (omega arith))
 
 -- The number of four words against 2^127 and 2^32 K, by the words above the lowest.
@@ -70,23 +70,23 @@ module _ (w : Wide) where
 
 -- A magnitude as an integer, in range or not.
 module _ (q : Quad) where
-  pub positive-in : Fit (as_wide q) → value_of (as_wide q) < 2 ^ 127 → Is q ≡ asInteger (signed false (just (value_of (as_wide q))))
+  pub positive_in : Fit (as_wide q) → value_of (as_wide q) < 2 ^ 127 → Is q ≡ as_integer (signed false (just (value_of (as_wide q))))
   unfolding signed
-  positive-in f h = ap asInteger (pick-lt _ h (ap just (sym (wide_back (as_wide q) f))))
+  positive_in f h = ap as_integer (pick_lt _ h (ap just (sym (wide_back (as_wide q) f))))
 
-  pub positive-out : 2 ^ 127 ≤ value_of (as_wide q) → No ≡ asInteger (signed false (just (value_of (as_wide q))))
+  pub positive-out : 2 ^ 127 ≤ value_of (as_wide q) → No ≡ as_integer (signed false (just (value_of (as_wide q))))
   unfolding signed
-  positive-out h = ap asInteger (pick-ge _ h refl)
+  positive-out h = ap as_integer (pick_ge _ h refl)
 
-  pub negative-in : (r : Quad) → Fit (as_wide q) → value_of (as_wide q) ≤ 2 ^ 127 → r ≡ asQuad (minusOf (as_wide q)) → Is r ≡ asInteger (signed true (just (value_of (as_wide q))))
+  pub negative_in : (r : Quad) → Fit (as_wide q) → value_of (as_wide q) ≤ 2 ^ 127 → r ≡ as_quad (minus_of (as_wide q)) → Is r ≡ as_integer (signed true (just (value_of (as_wide q))))
   unfolding signed
-  negative-in r f h e =
-      let m : minusOf (as_wide q) ≡ minusOf (wide_of (value_of (as_wide q))) = ap minusOf (sym (wide_back (as_wide q) f)) in
-      ap Is e ∙ ap asInteger (pick-le _ h (ap just m))
+  negative_in r f h e =
+      let m : minus_of (as_wide q) ≡ minus_of (wide_of (value_of (as_wide q))) = ap minus_of (sym (wide_back (as_wide q) f)) in
+      ap Is e ∙ ap as_integer (pick_le _ h (ap just m))
 
-  pub negative-out : 2 ^ 127 < value_of (as_wide q) → No ≡ asInteger (signed true (just (value_of (as_wide q))))
+  pub negative_out : 2 ^ 127 < value_of (as_wide q) → No ≡ as_integer (signed true (just (value_of (as_wide q))))
   unfolding signed
-  negative-out h = ap asInteger (pick-gt _ h refl)
+  negative_out h = ap as_integer (pick_gt _ h refl)
 
 -- A magnitude of 2^128 or more is in no range.
 signed_below : (minus : Bool) (m : Maybe ℕ) → signed minus (below (2 ^ 128) m) ≡ signed minus m
@@ -96,28 +96,28 @@ signed_below minus (just n) = go minus (ltb n (2 ^ 128)) refl
   where
     go : (minus t : Bool) → ltb n (2 ^ 128) ≡ t → signed minus (pick t (just n) nothing) ≡ signed minus (just n)
     go minus true e = refl
-    go true false e = pick-gt _ (le_trans (ltb-true (2 ^ 127) (2 ^ 128) refl) (ltb-false n (2 ^ 128) e)) refl
-    go false false e = pick-ge _ (le_trans (leb-true (2 ^ 127) (2 ^ 128) refl) (ltb-false n (2 ^ 128) e)) refl
+    go true false e = pick_gt _ (le_trans (ltb-true (2 ^ 127) (2 ^ 128) refl) (ltb-false n (2 ^ 128) e)) refl
+    go false false e = pick_ge _ (le_trans (leb-true (2 ^ 127) (2 ^ 128) refl) (ltb-false n (2 ^ 128) e)) refl
 
 module _ (s : List ℕ) where
   -- Nothing is no integer.
-  pub integer-none : length s ≡ 0 → No ≡ asInteger (integerOf s)
-  unfolding integerOf signed
-  integer-none e = let z : length (drop (signBytes s) s) ≡ 0 = omega (arith, length-drop (signBytes s) s) in rw (digits-none 10 (drop (signBytes s) s) z)
+  pub integer-none : length s ≡ 0 → No ≡ as_integer (integer_of s)
+  unfolding integer_of signed
+  integer-none e = let z : length (drop (sign_bytes s) s) ≡ 0 = omega (arith, length-drop (sign_bytes s) s) in rw (digits-none 10 (drop (sign_bytes s) s) z)
 
   -- A sign and a magnitude.
-  pub integer-some : (k : ℕ) (m r : Mag) (minus : Bool) → k ≡ signBytes s → m ≡ asMag (below (2 ^ 128) (digits 10 (drop k s))) → minus ≡ eqb (get_or s 0 0) 45
-      → r ≡ asInteger (signed minus (number_of m)) → r ≡ asInteger (integerOf s)
-  unfolding integerOf
+  pub integer-some : (k : ℕ) (m r : Mag) (minus : Bool) → k ≡ sign_bytes s → m ≡ as_mag (below (2 ^ 128) (digits 10 (drop k s))) → minus ≡ eqb (get_or s 0 0) 45
+      → r ≡ as_integer (signed minus (number_of m)) → r ≡ as_integer (integer_of s)
+  unfolding integer_of
   integer-some k m r minus e f g h =
       let d : Maybe ℕ = digits 10 (drop k s) in
-      let n : number_of m ≡ below (2 ^ 128) d = ap number_of f ∙ mag-back d in
-      let i : signed minus d ≡ signed (eqb (get_or s 0 0) 45) (digits 10 (drop (signBytes s) s)) = rw (g, e) in
-      h ∙ ap asInteger (ap (signed minus) n ∙ signed_below minus d ∙ i)
+      let n : number_of m ≡ below (2 ^ 128) d = ap number_of f ∙ mag_back d in
+      let i : signed minus d ≡ signed (eqb (get_or s 0 0) 45) (digits 10 (drop (sign_bytes s) s)) = rw (g, e) in
+      h ∙ ap as_integer (ap (signed minus) n ∙ signed_below minus d ∙ i)
 
   -- A number that is given below a limit, by its words.
-  pub unsigned-words : (base limit : ℕ) (m : Mag) → limit ≤ 2 ^ 128 → m ≡ asMag (unsigned base (2 ^ 128) s) → below limit (number_of m) ≡ unsigned base limit s
+  pub unsigned-words : (base limit : ℕ) (m : Mag) → limit ≤ 2 ^ 128 → m ≡ as_mag (unsigned base (2 ^ 128) s) → below limit (number_of m) ≡ unsigned base limit s
   unfolding unsigned
   unsigned-words base limit m h e =
-      let d : Maybe ℕ = digits base (drop (plusBytes s) s) in
-      ap (λ (x : Mag). below limit (number_of x)) e ∙ ap (below limit) (mag-back d) ∙ below-below limit (2 ^ 128) h d
+      let d : Maybe ℕ = digits base (drop (plus_bytes s) s) in
+      ap (λ (x : Mag). below limit (number_of x)) e ∙ ap (below limit) (mag_back d) ∙ below-below limit (2 ^ 128) h d

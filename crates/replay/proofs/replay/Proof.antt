@@ -1,6 +1,6 @@
 use mathlib.Core.Path.{refl, ap}
 use Rattle.recorded.specs.declared.line.Line.{Line}
-use Rattle.replay.proofs.Tallying.{Tallying, tally-all, tally-more, tally-none, line-next}
+use Rattle.replay.proofs.Tallying.{Tallying, tally_all, tally_more, tally_none, line-next}
 use lib.ListN.{length}
 use Prim.Native.Nat.{◌-◌}
 use native.Mathlib.Omega.{arith}
@@ -17,7 +17,7 @@ open-requires : tie.Need-open-requires invariant-loop decreases-loop
 open-requires c κs = tt
 
 loop-holds : tie.Need-loop-init invariant-loop decreases-loop
-loop-holds c = tally-all _ _ refl refl
+loop-holds c = tally_all _ _ refl refl
 
 line-at-requires : tie.Need-line-at-requires invariant-loop decreases-loop
 line-at-requires c κs = tt
@@ -29,10 +29,10 @@ loop-less : tie.Need-loop-smaller invariant-loop decreases-loop
 loop-less c = omega arith
 
 loop-again : tie.Need-loop-preserved invariant-loop decreases-loop
-loop-again c = tally-more c.before.before.before.before.before.before.before.before.args.lines.now c.before.before.before.before.before.loop.invariant c.before.before.before.before.loop-test.true c.before.before.before.line_at_lem.ensures c.before.before.step.ensures
+loop-again c = tally_more c.before.before.before.before.before.before.before.before.args.lines.now c.before.before.before.before.before.loop.invariant c.before.before.before.before.loop-test.true c.before.before.before.line_at_lem.ensures c.before.before.step.ensures
 
 returns : tie.Need-returns invariant-loop decreases-loop
-returns c = tally-none c.before.before.before.before.args.lines.now c.before.loop.invariant c.loop-test.false
+returns c = tally_none c.before.before.before.before.args.lines.now c.before.loop.invariant c.loop-test.false
 
 returns-2 : tie.Need-returns-2 invariant-loop decreases-loop
 returns-2 c =

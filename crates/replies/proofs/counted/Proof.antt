@@ -1,5 +1,5 @@
 use mathlib.Core.Path.{sym, ap}
-use Rattle.replies.specs.Heard.{countedSaid}
+use Rattle.replies.specs.Heard.{counted_said}
 use borrow.Author.Rules.{rules}
 use Rattle.replies.proofs.counted.Statement.{statement}
 use Rattle.replies.proofs.counted.Tie as tie
@@ -11,10 +11,10 @@ enum-known-answer-2 : tie.Need-enum-known-answer-2
 enum-known-answer-2 c = search rules
 
 returns : tie.Need-returns
-returns c = sym (ap countedSaid c.before.answer.given.1)
+returns c = sym (ap counted_said c.before.answer.given.1)
 
 returns-2 : tie.Need-returns-2
-returns-2 c = sym (ap countedSaid c.before.answer2.given.1)
+returns-2 c = sym (ap counted_said c.before.answer2.given.1)
 
 pub counted_spec : {M : Type 1} → statement M
 counted_spec = tie.close (tie.spec enum-known-answer enum-known-answer-2 returns returns-2)

@@ -1,5 +1,5 @@
 use mathlib.Core.Path.{sym, ap}
-use Rattle.replies.specs.Heard.{readSaid}
+use Rattle.replies.specs.Heard.{read_said}
 use borrow.Author.Rules.{rules}
 use Rattle.replies.proofs.read.Statement.{statement}
 use Rattle.replies.proofs.read.Tie as tie
@@ -11,10 +11,10 @@ enum-known-answer-2 : tie.Need-enum-known-answer-2
 enum-known-answer-2 c = search rules
 
 returns : tie.Need-returns
-returns c = sym (ap readSaid c.before.answer.given.1)
+returns c = sym (ap read_said c.before.answer.given.1)
 
 returns-2 : tie.Need-returns-2
-returns-2 c = sym (ap readSaid c.before.answer2.given.1)
+returns-2 c = sym (ap read_said c.before.answer2.given.1)
 
 pub read_spec : {M : Type 1} → statement M
 read_spec = tie.close (tie.spec enum-known-answer enum-known-answer-2 returns returns-2)

@@ -1,7 +1,7 @@
 use borrow.Author.Rules.{rules}
 use Prim.Native.Nat.{◌-◌}
 use native.Mathlib.Omega.{arith}
-use Rattle.show.proofs.Printing.{Lining, lining-starts, lining-more, lining_ends}
+use Rattle.show.proofs.Printing.{Lining, lining_starts, lining_more, lining_ends}
 use Rattle.show.proofs.line.Statement.{statement}
 use Rattle.show.proofs.line.Tie as tie
 
@@ -12,7 +12,7 @@ abbrev decreases-loop : tie.decreases-loop
 decreases-loop words from to out₀ at i₀ a₀ out i a = to - i
 
 loop-holds : tie.Need-loop-init invariant-loop decreases-loop
-loop-holds c = lining-starts _ _ _ _ _ c.before.before.requires.0
+loop-holds c = lining_starts _ _ _ _ _ c.before.before.requires.0
 
 mul-word : tie.Need-overflow-mul-word invariant-loop decreases-loop
 mul-word c = omega arith
@@ -39,7 +39,7 @@ loop-less : tie.Need-loop-smaller invariant-loop decreases-loop
 loop-less c = omega arith
 
 loop-again : tie.Need-loop-preserved invariant-loop decreases-loop
-loop-again c = lining-more c.before.before.before.before.before.before.before.loop.invariant c.before.before.before.before.before.before.before.before.before.before.requires.1 c.before.before.before.before.before.before.loop-test.true c.before.before.before.before.separator.ensures c.before.before.word.ensures
+loop-again c = lining_more c.before.before.before.before.before.before.before.loop.invariant c.before.before.before.before.before.before.before.before.before.before.requires.1 c.before.before.before.before.before.before.loop-test.true c.before.before.before.before.separator.ensures c.before.before.word.ensures
 
 same_length : tie.Need-same-length invariant-loop decreases-loop
 same_length c = c.before.loop.invariant.kept

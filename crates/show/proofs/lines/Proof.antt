@@ -1,6 +1,6 @@
 use mathlib.Core.Path.{sym, ◌∙◌}
 use borrow.Author.Rules.{rules}
-use Rattle.show.proofs.Going.{Going, first_word, going-starts, going_more, going-ends, not-refused, line-room, last-room}
+use Rattle.show.proofs.Going.{Going, first_word, going_starts, going_more, going_ends, not-refused, line-room, last-room}
 use Rattle.show.proofs.lines.Statement.{statement}
 use Rattle.show.proofs.lines.Tie as tie
 
@@ -17,7 +17,7 @@ shared-slice-read-left : tie.Need-shared-slice-read-left invariant-loop decrease
 shared-slice-read-left c = first_word _ _ c.before.before.before.before.before.before.before.requires
 
 loop-holds : tie.Need-loop-init invariant-loop decreases-loop
-loop-holds c = going-starts _ _ (λ i h. (c.shared-slice-known2.given i).fits) c.before.before.before.before.before.before.before.requires c.before.before.before.refusal.ensures
+loop-holds c = going_starts _ _ (λ i h. (c.shared-slice-known2.given i).fits) c.before.before.before.before.before.before.before.requires c.before.before.before.refusal.ensures
 
 add-sort-end : tie.Need-overflow-add-sort-end invariant-loop decreases-loop
 add-sort-end c = search rules
@@ -56,7 +56,7 @@ same-length-2 : tie.Need-same-length-2 invariant-loop decreases-loop
 same-length-2 c = search rules
 
 returns-2 : tie.Need-returns-2 invariant-loop decreases-loop
-returns-2 c = going-ends c.before.before.before.before.before.loop.invariant _ c.before.before.before.before.before.before.before.before.before.refusal.auto.1.0 c.before.before.before.before.before.before.before.before.before.refusal.ensures c.before.before.before.before.loop-test.false c.before.before.line2.ensures.0 c.before.before.line2.ensures.1
+returns-2 c = going_ends c.before.before.before.before.before.loop.invariant _ c.before.before.before.before.before.before.before.before.before.refusal.auto.1.0 c.before.before.before.before.before.before.before.before.before.refusal.ensures c.before.before.before.before.loop-test.false c.before.before.line2.ensures.0 c.before.before.line2.ensures.1
 
 pub lines-spec : {M : Type 1} → statement M
 lines-spec =

@@ -1,7 +1,7 @@
 use mathlib.Core.Path.{refl}
 use native.Mathlib.Omega.{arith}
 use lib.ListN.{length-set}
-use Rattle.show.specs.Lines.{refusalText}
+use Rattle.show.specs.Lines.{refusal_text}
 use Rattle.show.proofs.Stores.{sets_over}
 use Rattle.show.proofs.Showing.{shows, refusal-hides}
 use borrow.Author.Rules.{rules}
@@ -36,8 +36,8 @@ same-length-2 : tie.Need-same-length-2
 same-length-2 c = search rules
 
 returns-2 : tie.Need-returns-2
-unfolding refusalText
-returns-2 c = shows c.before.before.before.before.args.out.now (refusalText c.before.before.before.before.args.n) refl c.before.before.if1.false refl (rw (c.before.digit.ensures, c.digit2.ensures) (sets_over (refusalText c.before.before.before.before.args.n) _))
+unfolding refusal_text
+returns-2 c = shows c.before.before.before.before.args.out.now (refusal_text c.before.before.before.before.args.n) refl c.before.before.if1.false refl (rw (c.before.digit.ensures, c.digit2.ensures) (sets_over (refusal_text c.before.before.before.before.args.n) _))
 
 pub refusal-spec : {M : Type 1} → statement M
 refusal-spec =

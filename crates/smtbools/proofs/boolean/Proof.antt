@@ -1,6 +1,6 @@
 use mathlib.Core.Path.{refl, sym, ap}
 use Rattle.writing.proofs.Wrote.{wrote_as}
-use Rattle.smtbools.specs.Bools.{boolText}
+use Rattle.smtbools.specs.Bools.{bool_text}
 use borrow.Author.Rules.{rules}
 use Rattle.smtbools.proofs.boolean.Statement.{statement}
 use Rattle.smtbools.proofs.boolean.Tie as tie
@@ -22,7 +22,7 @@ same_length c = search rules
 
 -- src/operators.rt:57:9
 returns : tie.Need-returns
-returns c = wrote_as (sym (ap boolText c.before.before.before.before.before.if1.true)) refl c.before.before.bytes.ensures
+returns c = wrote_as (sym (ap bool_text c.before.before.before.before.before.if1.true)) refl c.before.before.bytes.ensures
 
 -- src/operators.rt:59:11
 slice-aggregate-bytes-2 : tie.Need-slice-aggregate-bytes-2
@@ -38,7 +38,7 @@ same-length-2 c = search rules
 
 -- src/operators.rt:53:1
 returns-2 : tie.Need-returns-2
-returns-2 c = wrote_as (sym (ap boolText c.before.before.before.before.before.if1.false)) refl c.before.before.bytes2.ensures
+returns-2 c = wrote_as (sym (ap bool_text c.before.before.before.before.before.if1.false)) refl c.before.before.bytes2.ensures
 
 pub boolean-spec : {M : Type 1} → statement M
 boolean-spec =

@@ -1,5 +1,5 @@
 use mathlib.Core.Path.{refl}
-use Rattle.writing.proofs.Wrote.{wrote_none, wrote-seq, wrote_as}
+use Rattle.writing.proofs.Wrote.{wrote_none, wrote_seq, wrote_as}
 use Rattle.smtbools.proofs.ByCount.{folded-none, folded-one, folded_more}
 use borrow.Author.Rules.{rules}
 use Rattle.smtbools.proofs.folded.Statement.{statement}
@@ -43,7 +43,7 @@ same-length-2 c = search rules
 
 -- src/operators.rt:38:1
 returns-3 : tie.Need-returns-3
-returns-3 c = wrote_as (folded_more _ _ _ c.before.before.before.before.before.before.before.before.before.before.before.before.before.if1.false c.before.before.before.before.before.before.before.before.before.before.before.before.if2.false) refl (wrote-seq _ _ c.before.before.before.before.before.before.before.before.before.before.byte.ensures (wrote-seq _ _ c.before.before.before.before.before.before.bytes2.ensures c.before.before.byte2.ensures))
+returns-3 c = wrote_as (folded_more _ _ _ c.before.before.before.before.before.before.before.before.before.before.before.before.before.if1.false c.before.before.before.before.before.before.before.before.before.before.before.before.if2.false) refl (wrote_seq _ _ c.before.before.before.before.before.before.before.before.before.before.byte.ensures (wrote_seq _ _ c.before.before.before.before.before.before.bytes2.ensures c.before.before.byte2.ensures))
 
 pub folded-spec : {M : Type 1} → statement M
 folded-spec =

@@ -1,7 +1,7 @@
 use native.Mathlib.Omega.{arith}
 use Rattle.grammar.specs.Names.{theory}
 use Rattle.heads.proofs.ReadHead.{next}
-use Rattle.smt.specs.Vocabulary.{bitVectors}
+use Rattle.smt.specs.Vocabulary.{bit_vectors}
 use Rattle.smtfunctions.proofs.Numbered.{function-told, function-none}
 use borrow.Author.Rules.{rules}
 use Rattle.smtfunctions.proofs.arithmetic.Statement.{statement}
@@ -88,7 +88,7 @@ same_length c = search rules
 
 -- src/callee.rt:64:1
 returns : tie.Need-returns
-unfolding bitVectors theory
+unfolding bit_vectors theory
 returns c = function-told 23 c.before.before.before.before.before.match.keys1 (omega arith) (omega arith) c.before.before.bytes.ensures
 
 -- src/callee.rt:64:1
@@ -97,7 +97,7 @@ same-length-2 c = search rules
 
 -- src/callee.rt:64:1
 returns-2 : tie.Need-returns-2
-unfolding bitVectors theory
+unfolding bit_vectors theory
 returns-2 c = function-told 24 c.before.before.before.before.before.match.keys2 (omega arith) (omega arith) c.before.before.bytes2.ensures
 
 -- src/callee.rt:64:1
@@ -106,7 +106,7 @@ same-length-3 c = search rules
 
 -- src/callee.rt:64:1
 returns-3 : tie.Need-returns-3
-unfolding bitVectors theory
+unfolding bit_vectors theory
 returns-3 c = function-told 25 c.before.before.before.before.before.match.keys3 (omega arith) (omega arith) c.before.before.bytes3.ensures
 
 -- src/callee.rt:64:1
@@ -115,7 +115,7 @@ same-length-4 c = search rules
 
 -- src/callee.rt:64:1
 returns-4 : tie.Need-returns-4
-unfolding bitVectors theory
+unfolding bit_vectors theory
 returns-4 c = function-told 26 c.before.before.before.before.before.match.keys4 (omega arith) (omega arith) c.before.before.bytes4.ensures
 
 -- src/callee.rt:64:1
@@ -124,7 +124,7 @@ same-length-5 c = search rules
 
 -- src/callee.rt:64:1
 returns-5 : tie.Need-returns-5
-unfolding bitVectors theory
+unfolding bit_vectors theory
 returns-5 c = function-told 27 c.before.before.before.before.before.match.keys5 (omega arith) (omega arith) c.before.before.bytes5.ensures
 
 -- src/callee.rt:64:1
@@ -133,7 +133,7 @@ same-length-6 c = search rules
 
 -- src/callee.rt:64:1
 returns-6 : tie.Need-returns-6
-unfolding bitVectors theory
+unfolding bit_vectors theory
 returns-6 c = function-told 28 c.before.before.before.before.before.match.keys6 (omega arith) (omega arith) c.before.before.bytes6.ensures
 
 -- src/callee.rt:64:1
@@ -142,7 +142,7 @@ same-length-7 c = search rules
 
 -- src/callee.rt:64:1
 returns-7 : tie.Need-returns-7
-unfolding bitVectors theory
+unfolding bit_vectors theory
 returns-7 c = function-told 29 c.before.before.before.before.before.match.keys7 (omega arith) (omega arith) c.before.before.bytes7.ensures
 
 -- src/callee.rt:64:1
@@ -151,7 +151,7 @@ same-length-8 c = search rules
 
 -- src/callee.rt:64:1
 returns-8 : tie.Need-returns-8
-unfolding bitVectors theory
+unfolding bit_vectors theory
 returns-8 c = function-told 30 c.before.before.before.before.before.match.keys8 (omega arith) (omega arith) c.before.before.bytes8.ensures
 
 -- src/callee.rt:64:1
@@ -160,7 +160,7 @@ same-length-9 c = search rules
 
 -- src/callee.rt:64:1
 returns-9 : tie.Need-returns-9
-unfolding bitVectors theory
+unfolding bit_vectors theory
 returns-9 c = function-told 31 c.before.before.before.before.before.match.keys9 (omega arith) (omega arith) c.before.before.bytes9.ensures
 
 -- src/callee.rt:64:1

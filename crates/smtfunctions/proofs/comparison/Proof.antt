@@ -1,7 +1,7 @@
 use native.Mathlib.Omega.{arith}
 use Rattle.grammar.specs.Names.{theory}
 use Rattle.heads.proofs.ReadHead.{next}
-use Rattle.smt.specs.Vocabulary.{bitVectors}
+use Rattle.smt.specs.Vocabulary.{bit_vectors}
 use Rattle.smtfunctions.proofs.Numbered.{function-told, function-none}
 use borrow.Author.Rules.{rules}
 use Rattle.smtfunctions.proofs.comparison.Statement.{statement}
@@ -80,7 +80,7 @@ same_length c = search rules
 
 -- src/callee.rt:30:1
 returns : tie.Need-returns
-unfolding bitVectors theory
+unfolding bit_vectors theory
 returns c = function-told 9 c.before.before.before.before.before.match.keys1 (omega arith) (omega arith) c.before.before.bytes.ensures
 
 -- src/callee.rt:30:1
@@ -89,7 +89,7 @@ same-length-2 c = search rules
 
 -- src/callee.rt:30:1
 returns-2 : tie.Need-returns-2
-unfolding bitVectors theory
+unfolding bit_vectors theory
 returns-2 c = function-told 10 c.before.before.before.before.before.match.keys2 (omega arith) (omega arith) c.before.before.bytes2.ensures
 
 -- src/callee.rt:30:1
@@ -98,7 +98,7 @@ same-length-3 c = search rules
 
 -- src/callee.rt:30:1
 returns-3 : tie.Need-returns-3
-unfolding bitVectors theory
+unfolding bit_vectors theory
 returns-3 c = function-told 11 c.before.before.before.before.before.match.keys3 (omega arith) (omega arith) c.before.before.bytes3.ensures
 
 -- src/callee.rt:30:1
@@ -107,7 +107,7 @@ same-length-4 c = search rules
 
 -- src/callee.rt:30:1
 returns-4 : tie.Need-returns-4
-unfolding bitVectors theory
+unfolding bit_vectors theory
 returns-4 c = function-told 12 c.before.before.before.before.before.match.keys4 (omega arith) (omega arith) c.before.before.bytes4.ensures
 
 -- src/callee.rt:30:1
@@ -116,7 +116,7 @@ same-length-5 c = search rules
 
 -- src/callee.rt:30:1
 returns-5 : tie.Need-returns-5
-unfolding bitVectors theory
+unfolding bit_vectors theory
 returns-5 c = function-told 13 c.before.before.before.before.before.match.keys5 (omega arith) (omega arith) c.before.before.bytes5.ensures
 
 -- src/callee.rt:30:1
@@ -125,7 +125,7 @@ same-length-6 c = search rules
 
 -- src/callee.rt:30:1
 returns-6 : tie.Need-returns-6
-unfolding bitVectors theory
+unfolding bit_vectors theory
 returns-6 c = function-told 14 c.before.before.before.before.before.match.keys6 (omega arith) (omega arith) c.before.before.bytes6.ensures
 
 -- src/callee.rt:30:1
@@ -134,7 +134,7 @@ same-length-7 c = search rules
 
 -- src/callee.rt:30:1
 returns-7 : tie.Need-returns-7
-unfolding bitVectors theory
+unfolding bit_vectors theory
 returns-7 c = function-told 15 c.before.before.before.before.before.match.keys7 (omega arith) (omega arith) c.before.before.bytes7.ensures
 
 -- src/callee.rt:30:1
@@ -143,7 +143,7 @@ same-length-8 c = search rules
 
 -- src/callee.rt:30:1
 returns-8 : tie.Need-returns-8
-unfolding bitVectors theory
+unfolding bit_vectors theory
 returns-8 c = function-told 16 c.before.before.before.before.before.match.keys8 (omega arith) (omega arith) c.before.before.bytes8.ensures
 
 -- src/callee.rt:30:1

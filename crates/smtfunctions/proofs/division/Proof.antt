@@ -2,7 +2,7 @@ use Prim.Native.Nat.{◌≤◌}
 use native.Mathlib.Omega.{arith}
 use Rattle.grammar.specs.Names.{theory}
 use Rattle.heads.proofs.ReadHead.{next}
-use Rattle.smt.specs.Vocabulary.{bitVectors}
+use Rattle.smt.specs.Vocabulary.{bit_vectors}
 use Rattle.smtfunctions.proofs.Numbered.{function-told}
 use borrow.Author.Rules.{rules}
 use Rattle.smtfunctions.proofs.division.Statement.{statement}
@@ -65,7 +65,7 @@ same_length c = search rules
 
 -- src/callee.rt:48:1
 returns : tie.Need-returns
-unfolding bitVectors theory
+unfolding bit_vectors theory
 returns c = function-told 17 c.before.before.before.before.before.match.keys1 (omega arith) (omega arith) c.before.before.bytes.ensures
 
 -- src/callee.rt:48:1
@@ -74,7 +74,7 @@ same-length-2 c = search rules
 
 -- src/callee.rt:48:1
 returns-2 : tie.Need-returns-2
-unfolding bitVectors theory
+unfolding bit_vectors theory
 returns-2 c = function-told 18 c.before.before.before.before.before.match.keys2 (omega arith) (omega arith) c.before.before.bytes2.ensures
 
 -- src/callee.rt:48:1
@@ -83,7 +83,7 @@ same-length-3 c = search rules
 
 -- src/callee.rt:48:1
 returns-3 : tie.Need-returns-3
-unfolding bitVectors theory
+unfolding bit_vectors theory
 returns-3 c = function-told 19 c.before.before.before.before.before.match.keys3 (omega arith) (omega arith) c.before.before.bytes3.ensures
 
 -- src/callee.rt:48:1
@@ -92,7 +92,7 @@ same-length-4 c = search rules
 
 -- src/callee.rt:48:1
 returns-4 : tie.Need-returns-4
-unfolding bitVectors theory
+unfolding bit_vectors theory
 returns-4 c = function-told 20 c.before.before.before.before.before.match.keys4 (omega arith) (omega arith) c.before.before.bytes4.ensures
 
 -- src/callee.rt:48:1
@@ -101,7 +101,7 @@ same-length-5 c = search rules
 
 -- src/callee.rt:48:1
 returns-5 : tie.Need-returns-5
-unfolding bitVectors theory
+unfolding bit_vectors theory
 returns-5 c = function-told 21 c.before.before.before.before.before.match.keys5 (omega arith) (omega arith) c.before.before.bytes5.ensures
 
 -- src/callee.rt:48:1
@@ -110,7 +110,7 @@ same-length-6 c = search rules
 
 -- src/callee.rt:48:1
 returns-6 : tie.Need-returns-6
-unfolding bitVectors theory
+unfolding bit_vectors theory
 returns-6 c =
     let r = c.before.before.before.before.before.match.rest in
     let low : 22 ≤ c.before.before.before.before.before.before.before.args.k = next (next (next (next (next c.before.before.before.before.before.before.before.requires.0 r.0.0.0.0.1) r.0.0.0.1) r.0.0.1) r.0.1) r.1 in

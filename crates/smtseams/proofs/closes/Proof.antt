@@ -1,6 +1,6 @@
 use mathlib.Core.Path.{sym, ap}
 use Rattle.nodes.specs.declared.kind.Node.{Node}
-use Rattle.smtseams.specs.Seams.{nodeCloses}
+use Rattle.smtseams.specs.Seams.{node_closes}
 use Rattle.smtseams.proofs.Rest.{rest-closes}
 use borrow.Author.Rules.{rules}
 use Rattle.smtseams.proofs.closes.Statement.{statement}
@@ -40,37 +40,37 @@ enum-told-10 : tie.Need-enum-told-10
 enum-told-10 c = search rules
 
 returns : tie.Need-returns
-returns c = sym (ap (λ (x : Node). nodeCloses x c.before.before.args.n) c.enum_told.given.1)
+returns c = sym (ap (λ (x : Node). node_closes x c.before.before.args.n) c.enum_told.given.1)
 
 returns-2 : tie.Need-returns-2
-returns-2 c = sym (ap (λ (x : Node). nodeCloses x c.before.before.args.n) c.enum-told2.given.1)
+returns-2 c = sym (ap (λ (x : Node). node_closes x c.before.before.args.n) c.enum-told2.given.1)
 
 returns-3 : tie.Need-returns-3
-returns-3 c = sym (ap (λ (x : Node). nodeCloses x c.before.before.args.n) c.enum-told3.given.1)
+returns-3 c = sym (ap (λ (x : Node). node_closes x c.before.before.args.n) c.enum-told3.given.1)
 
 returns-4 : tie.Need-returns-4
-returns-4 c = sym (ap (λ (x : Node). nodeCloses x c.before.before.args.n) c.enum-told4.given.1)
+returns-4 c = sym (ap (λ (x : Node). node_closes x c.before.before.args.n) c.enum-told4.given.1)
 
 returns-5 : tie.Need-returns-5
-returns-5 c = sym (ap (λ (x : Node). nodeCloses x c.before.before.args.n) c.enum-told5.given.1)
+returns-5 c = sym (ap (λ (x : Node). node_closes x c.before.before.args.n) c.enum-told5.given.1)
 
 returns-6 : tie.Need-returns-6
-returns-6 c = sym (ap (λ (x : Node). nodeCloses x c.before.before.args.n) c.enum-told6.given.1)
+returns-6 c = sym (ap (λ (x : Node). node_closes x c.before.before.args.n) c.enum-told6.given.1)
 
 returns-7 : tie.Need-returns-7
-returns-7 c = sym (ap (λ (x : Node). nodeCloses x c.before.before.args.n) c.enum-told7.given.1)
+returns-7 c = sym (ap (λ (x : Node). node_closes x c.before.before.args.n) c.enum-told7.given.1)
 
 returns-8 : tie.Need-returns-8
-returns-8 c = sym (ap (λ (x : Node). nodeCloses x c.before.before.args.n) c.enum-told8.given.1)
+returns-8 c = sym (ap (λ (x : Node). node_closes x c.before.before.args.n) c.enum-told8.given.1)
 
 returns-9 : tie.Need-returns-9
-returns-9 c = sym (ap (λ (x : Node). nodeCloses x c.before.before.args.n) c.enum-told9.given.1)
+returns-9 c = sym (ap (λ (x : Node). node_closes x c.before.before.args.n) c.enum-told9.given.1)
 
 returns-10 : tie.Need-returns-10
-returns-10 c = sym (ap (λ (x : Node). nodeCloses x c.before.before.before.args.n) c.before.node.given.1)
+returns-10 c = sym (ap (λ (x : Node). node_closes x c.before.before.before.args.n) c.before.node.given.1)
 
 returns-11 : tie.Need-returns-11
-returns-11 c = sym (ap (λ (x : Node). nodeCloses x c.before.before.args.n) c.enum-told10.given.1)
+returns-11 c = sym (ap (λ (x : Node). node_closes x c.before.before.args.n) c.enum-told10.given.1)
 
 returns-12 : tie.Need-returns-12
 returns-12 c = rest-closes c.before.args.node c.before.args.n c.match.keys12

@@ -1,6 +1,6 @@
 use mathlib.Core.Path.{refl, sym, ap}
 use Rattle.writing.proofs.Wrote.{wrote_as}
-use Rattle.smtseams.specs.Seams.{seamOf}
+use Rattle.smtseams.specs.Seams.{seam_of}
 use borrow.Author.Rules.{rules}
 use Rattle.smtseams.proofs.seam.Statement.{statement}
 use Rattle.smtseams.proofs.seam.Tie as tie
@@ -23,7 +23,7 @@ same_length c = search rules
 
 -- src/operands.rt:44:9
 returns : tie.Need-returns
-returns c = wrote_as (sym (ap seamOf c.before.before.before.before.before.if1.true)) refl c.before.before.bytes.ensures
+returns c = wrote_as (sym (ap seam_of c.before.before.before.before.before.if1.true)) refl c.before.before.bytes.ensures
 
 -- src/operands.rt:46:5
 byte-requires : tie.Need-byte-requires
@@ -35,7 +35,7 @@ same-length-2 c = search rules
 
 -- src/operands.rt:40:1
 returns-2 : tie.Need-returns-2
-returns-2 c = wrote_as (sym (ap seamOf c.before.before.before.before.if1.false)) refl c.before.before.byte.ensures
+returns-2 c = wrote_as (sym (ap seam_of c.before.before.before.before.if1.false)) refl c.before.before.byte.ensures
 
 pub seam-spec : {M : Type 1} → statement M
 seam-spec =

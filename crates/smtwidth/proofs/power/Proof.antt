@@ -1,5 +1,5 @@
 use native.Mathlib.Omega.{arith}
-use Rattle.smtwidth.proofs.Powers.{Doubled, double-none, double-fits, double-next, double-all}
+use Rattle.smtwidth.proofs.Powers.{Doubled, double_none, double_fits, double_next, double_all}
 use borrow.Author.Rules.{rules}
 use Rattle.smtwidth.proofs.power.Statement.{statement}
 use Rattle.smtwidth.proofs.power.Tie as tie
@@ -14,11 +14,11 @@ decreases-loop e p₀ i₀ p i = i
 
 -- src/width.rt:15:5
 loop-holds : tie.Need-loop-init invariant-loop decreases-loop
-loop-holds c = double-none _
+loop-holds c = double_none _
 
 -- src/width.rt:16:9
 mul-p : tie.Need-overflow-mul-p invariant-loop decreases-loop
-mul-p c = omega (arith, double-fits c.before.loop.invariant c.loop-test.true c.before.before.requires)
+mul-p c = omega (arith, double_fits c.before.loop.invariant c.loop-test.true c.before.before.requires)
 
 -- src/width.rt:17:9
 sub-i : tie.Need-overflow-sub-i invariant-loop decreases-loop
@@ -30,11 +30,11 @@ loop-less c = search rules
 
 -- src/width.rt:15:5
 loop-again : tie.Need-loop-preserved invariant-loop decreases-loop
-loop-again c = double-next c.before.loop.invariant c.loop-test.true
+loop-again c = double_next c.before.loop.invariant c.loop-test.true
 
 -- src/width.rt:9:1
 returns : tie.Need-returns invariant-loop decreases-loop
-returns c = double-all c.before.loop.invariant c.loop-test.false
+returns c = double_all c.before.loop.invariant c.loop-test.false
 
 pub power-spec : {M : Type 1} → statement M
 power-spec =

@@ -3,7 +3,7 @@ use mathlib.Core.Path.{◌≡◌, refl, ap, ◌∙◌}
 use native.Mathlib.Omega.{arith}
 use lib.ListN.{replicate, replicate-append-replicate}
 use Rattle.writing.specs.Wrote.{WroteBytes}
-use Rattle.writing.proofs.Wrote.{wrote_none, wrote-seq, wrote_as}
+use Rattle.writing.proofs.Wrote.{wrote_none, wrote_seq, wrote_as}
 use Rattle.sorttext.proofs.closed.Statement.{statement}
 use Rattle.sorttext.proofs.closed.Tie as tie
 
@@ -30,7 +30,7 @@ loop-less c = omega arith
 loop-again : tie.Need-loop-preserved invariant-loop decreases-loop
 loop-again c =
     let z : c.before.before.before.before.before.before.before.args.k - c.before.before.before.before.before.loop.i + 1 ≡ c.before.before.before.before.before.before.before.args.k - (c.before.before.before.before.before.loop.i - 1) = omega arith in
-    (omega arith, wrote_as (replicate-append-replicate (c.before.before.before.before.before.before.before.args.k - c.before.before.before.before.before.loop.i) 1 41 ∙ ap (λ (m : ℕ). replicate m 41) z) refl (wrote-seq _ _ c.before.before.before.before.before.loop.invariant.1 c.before.before.byte.ensures))
+    (omega arith, wrote_as (replicate-append-replicate (c.before.before.before.before.before.before.before.args.k - c.before.before.before.before.before.loop.i) 1 41 ∙ ap (λ (m : ℕ). replicate m 41) z) refl (wrote_seq _ _ c.before.before.before.before.before.loop.invariant.1 c.before.before.byte.ensures))
 
 same_length : tie.Need-same-length invariant-loop decreases-loop
 same_length c = c.before.loop.invariant.1.kept

@@ -1,5 +1,5 @@
 use mathlib.Core.Path.{refl}
-use Rattle.writing.proofs.Wrote.{wrote-seq, wrote_as}
+use Rattle.writing.proofs.Wrote.{wrote_seq, wrote_as}
 use Rattle.sorttext.proofs.EndTexts.{end-last, end_more}
 use borrow.Author.Rules.{rules}
 use Rattle.sorttext.proofs.ended.Statement.{statement}
@@ -21,7 +21,7 @@ same-length-2 : tie.Need-same-length-2
 same-length-2 c = search rules
 
 returns-2 : tie.Need-returns-2
-returns-2 c cs o e = wrote_as (end_more cs o e c.before.before.before.before.if1.false) refl (wrote-seq _ _ c.before.before.before.before.before.before.before.closed.ensures c.before.before.byte.ensures)
+returns-2 c cs o e = wrote_as (end_more cs o e c.before.before.before.before.if1.false) refl (wrote_seq _ _ c.before.before.before.before.before.before.before.closed.ensures c.before.before.byte.ensures)
 
 pub ended-spec : {M : Type 1} → statement M
 ended-spec =

@@ -1,5 +1,5 @@
 use mathlib.Core.Path.{sym, ◌∙◌}
-use Rattle.sortwords.proofs.SortRead.{app-no, app-out, app-in}
+use Rattle.sortwords.proofs.SortRead.{app-no, app-out, app_in}
 use borrow.Author.Rules.{rules}
 use Rattle.sortwords.proofs.app_fields.Statement.{statement}
 use Rattle.sortwords.proofs.app_fields.Tie as tie
@@ -26,7 +26,7 @@ enum-known-r : tie.Need-enum-known-r
 enum-known-r c = search rules
 
 returns-2 : tie.Need-returns-2
-returns-2 c = app-in _ _ _ (sym c.before.before.before.a.given.1 ∙ c.before.before.before.before.before.ctor-end.ensures) c.before.if1.false
+returns-2 c = app_in _ _ _ (sym c.before.before.before.a.given.1 ∙ c.before.before.before.before.before.ctor-end.ensures) c.before.if1.false
 
 returns-3 : tie.Need-returns-3
 returns-3 c = app-no _ _ _ (sym c.before.r.given.1 ∙ c.before.before.before.ctor-end.ensures)

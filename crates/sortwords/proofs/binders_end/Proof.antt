@@ -1,13 +1,13 @@
 use mathlib.Core.Path.{◌≡◌, refl, sym, ◌∙◌}
 use borrow.Author.Rules.{rules}
-use Rattle.judging.specs.Judge.{bindersAt}
+use Rattle.judging.specs.Judge.{binders_at}
 use Rattle.judging.specs.Ends.{end_of}
 use Rattle.sortwords.proofs.SortRead.{binders-done, binders-next, binders-two, binders-sort}
 use Rattle.sortwords.proofs.binders_end.Statement.{statement}
 use Rattle.sortwords.proofs.binders_end.Tie as tie
 
 abbrev invariant-loop : tie.invariant-loop
-invariant-loop words at n limit a₀ left₀ a left = end_of (bindersAt limit n words at) ≡ end_of (bindersAt limit left words a)
+invariant-loop words at n limit a₀ left₀ a left = end_of (binders_at limit n words at) ≡ end_of (binders_at limit left words a)
 
 abbrev decreases-loop : tie.decreases-loop
 decreases-loop words at n limit a₀ left₀ a left = left

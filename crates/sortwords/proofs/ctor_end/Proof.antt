@@ -1,5 +1,5 @@
 use native.Mathlib.Omega.{arith}
-use Rattle.sortwords.proofs.SortRead.{ctor-out, ctor-set, ctor-map, ctor-data, ctor-other}
+use Rattle.sortwords.proofs.SortRead.{ctor-out, ctor-set, ctor-map, ctor_data, ctor-other}
 use borrow.Author.Rules.{rules}
 use Rattle.sortwords.proofs.ctor_end.Statement.{statement}
 use Rattle.sortwords.proofs.ctor_end.Tie as tie
@@ -26,7 +26,7 @@ returns-3 : tie.Need-returns-3
 returns-3 c = ctor-map _ _ _ c.before.before.if1.false c.match.keys2
 
 returns-4 : tie.Need-returns-4
-returns-4 c = ctor-data _ _ _ c.before.before.before.if1.false c.before.match.keys3 c.span-end.ensures
+returns-4 c = ctor_data _ _ _ c.before.before.before.if1.false c.before.match.keys3 c.span-end.ensures
 
 returns-5 : tie.Need-returns-5
 returns-5 c =

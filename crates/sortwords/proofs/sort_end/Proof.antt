@@ -2,14 +2,14 @@ use Prim.Native.Nat.{◌≤◌}
 use mathlib.Core.Path.{◌≡◌, sym, ◌∙◌}
 use lib.ListN.{length}
 use borrow.Author.Rules.{rules}
-use Rattle.judging.specs.Judge.{sortAt}
+use Rattle.judging.specs.Judge.{sort_at}
 use Rattle.judging.specs.Ends.{end_of}
 use Rattle.sortwords.proofs.SortWalk.{walk, walk_start, walk-done, walk-short, walk-bad, walk-next}
 use Rattle.sortwords.proofs.sort_end.Statement.{statement}
 use Rattle.sortwords.proofs.sort_end.Tie as tie
 
 abbrev invariant-loop : tie.invariant-loop
-invariant-loop words at limit a₀ left₀ pending₀ a left pending = (end_of (sortAt limit words at) ≡ walk limit words left pending a) × (left ≤ length words)
+invariant-loop words at limit a₀ left₀ pending₀ a left pending = (end_of (sort_at limit words at) ≡ walk limit words left pending a) × (left ≤ length words)
 
 abbrev decreases-loop : tie.decreases-loop
 decreases-loop words at limit a₀ left₀ pending₀ a left pending = left

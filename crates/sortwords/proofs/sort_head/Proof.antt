@@ -1,6 +1,6 @@
 use mathlib.Core.Path.{sym, ◌∙◌}
 use native.Mathlib.Omega.{arith}
-use Rattle.sortwords.proofs.SortRead.{head-out, head_plain, head-none, head-other, head-bitvec, head-func, head-size, head-abs, head-var, head-var-no, head-app}
+use Rattle.sortwords.proofs.SortRead.{head-out, head_plain, head-none, head-other, head_bitvec, head-func, head-size, head_abs, head-var, head-var-no, head-app}
 use borrow.Author.Rules.{rules}
 use Rattle.sortwords.proofs.sort_head.Statement.{statement}
 use Rattle.sortwords.proofs.sort_head.Tie as tie
@@ -36,7 +36,7 @@ app-fields-requires : tie.Need-app-fields-requires
 app-fields-requires c κs = search rules
 
 returns-2 : tie.Need-returns-2
-returns-2 c = head-bitvec _ _ _ c.before.before.if1.false c.match.keys1
+returns-2 c = head_bitvec _ _ _ c.before.before.if1.false c.match.keys1
 
 returns-3 : tie.Need-returns-3
 returns-3 c = head-size _ _ _ c.before.before.before.if1.false c.before.match.keys2 c.one_field.ensures
@@ -51,7 +51,7 @@ returns-6 : tie.Need-returns-6
 returns-6 c = head-func _ _ _ c.before.before.if1.false c.match.keys4
 
 returns-7 : tie.Need-returns-7
-returns-7 c = head-abs _ _ _ c.before.before.before.if1.false c.before.match.keys5 c.one-field2.ensures
+returns-7 c = head_abs _ _ _ c.before.before.before.if1.false c.before.match.keys5 c.one-field2.ensures
 
 returns-8 : tie.Need-returns-8
 returns-8 c = head-app _ _ _ c.before.before.before.if1.false c.before.match.keys6 c.app-fields.ensures

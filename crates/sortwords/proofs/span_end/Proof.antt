@@ -1,4 +1,4 @@
-use Rattle.sortwords.proofs.SortRead.{span-out, span-half, span-far, span-in}
+use Rattle.sortwords.proofs.SortRead.{span-out, span-half, span_far, span_in}
 use borrow.Author.Rules.{rules}
 use Rattle.sortwords.proofs.span_end.Statement.{statement}
 use Rattle.sortwords.proofs.span_end.Tie as tie
@@ -34,13 +34,13 @@ add-end : tie.Need-overflow-add-end
 add-end c = search rules
 
 returns-3 : tie.Need-returns-3
-returns-3 c = span-far _ _ _ c.before.before.before.before.before.before.if1.false c.before.before.before.before.before.if2.false c.before.before.before.word-to-long.ensures.0 c.before.word-to-long2.ensures.0 c.if3.true
+returns-3 c = span_far _ _ _ c.before.before.before.before.before.before.if1.false c.before.before.before.before.before.if2.false c.before.before.before.word-to-long.ensures.0 c.before.word-to-long2.ensures.0 c.if3.true
 
 add-t6 : tie.Need-overflow-add-t6
 add-t6 c = search rules
 
 returns-4 : tie.Need-returns-4
-returns-4 c = span-in _ _ _ c.before.before.before.before.before.before.if1.false c.before.before.before.before.before.if2.false c.before.before.before.word-to-long.ensures.0 c.before.word-to-long2.ensures.0 c.if3.false
+returns-4 c = span_in _ _ _ c.before.before.before.before.before.before.if1.false c.before.before.before.before.before.if2.false c.before.before.before.word-to-long.ensures.0 c.before.word-to-long2.ensures.0 c.if3.false
 
 pub span-end-spec : {M : Type 1} → statement M
 span-end-spec =

@@ -4,14 +4,14 @@ use mathlib.Core.Path.{◌≡◌, refl, ap, ◌∙◌}
 use mathlib.Core.List.{List, [], ◌∷◌}
 use native.Mathlib.Omega.{arith}
 use lib.ListN.{length, take}
-use Rattle.reading.specs.Tree.{Atom, symbol, quoted, integer, decimal, boolean, atomWords}
+use Rattle.reading.specs.Tree.{Atom, symbol, quoted, integer, decimal, boolean, atom_words}
 use Rattle.reading.specs.Token.{Token, blank, opens, closes, word, unfinished}
-use Rattle.lexing.specs.TokenWords.{asWords, asToken}
+use Rattle.lexing.specs.TokenWords.{as_words, as_token}
 use Rattle.lexing.specs.declared.tokens.Words.{Words}
 use Rattle.lexing.specs.declared.tokens.Token.TheVariants as Tokens
 
 -- White space.
-pub is-blank : (at next : ℕ) (t : Token) → asToken at t ≡ Tokens.Blank next → (m : ℕ) × (t ≡ blank m) × (next ≡ at + suc m)
+pub is-blank : (at next : ℕ) (t : Token) → as_token at t ≡ Tokens.Blank next → (m : ℕ) × (t ≡ blank m) × (next ≡ at + suc m)
 is-blank at next (blank m) e = (m, refl, cc)
 is-blank at next opens e = let z : ◌≡◌ {A = ℕ} 0 1 = cc in absurd (omega arith)
 is-blank at next closes e = let z : ◌≡◌ {A = ℕ} 0 1 = cc in absurd (omega arith)
@@ -19,7 +19,7 @@ is-blank at next (word a m) e = let z : ◌≡◌ {A = ℕ} 0 1 = cc in absurd (
 is-blank at next unfinished e = let z : ◌≡◌ {A = ℕ} 0 1 = cc in absurd (omega arith)
 
 -- A `(`.
-pub is-opens : (at : ℕ) (t : Token) → asToken at t ≡ Tokens.Opens → t ≡ opens
+pub is-opens : (at : ℕ) (t : Token) → as_token at t ≡ Tokens.Opens → t ≡ opens
 is-opens at (blank m) e = let z : ◌≡◌ {A = ℕ} 0 1 = cc in absurd (omega arith)
 is-opens at opens e = refl
 is-opens at closes e = let z : ◌≡◌ {A = ℕ} 0 1 = cc in absurd (omega arith)
@@ -27,7 +27,7 @@ is-opens at (word a m) e = let z : ◌≡◌ {A = ℕ} 0 1 = cc in absurd (omega
 is-opens at unfinished e = let z : ◌≡◌ {A = ℕ} 0 1 = cc in absurd (omega arith)
 
 -- A `)`.
-pub is-closes : (at : ℕ) (t : Token) → asToken at t ≡ Tokens.Closes → t ≡ closes
+pub is-closes : (at : ℕ) (t : Token) → as_token at t ≡ Tokens.Closes → t ≡ closes
 is-closes at (blank m) e = let z : ◌≡◌ {A = ℕ} 0 1 = cc in absurd (omega arith)
 is-closes at opens e = let z : ◌≡◌ {A = ℕ} 0 1 = cc in absurd (omega arith)
 is-closes at closes e = refl
@@ -35,7 +35,7 @@ is-closes at (word a m) e = let z : ◌≡◌ {A = ℕ} 0 1 = cc in absurd (omeg
 is-closes at unfinished e = let z : ◌≡◌ {A = ℕ} 0 1 = cc in absurd (omega arith)
 
 -- A string or an `@` that does not end.
-pub is-unfinished : (at : ℕ) (t : Token) → asToken at t ≡ Tokens.Unfinished → t ≡ unfinished
+pub is-unfinished : (at : ℕ) (t : Token) → as_token at t ≡ Tokens.Unfinished → t ≡ unfinished
 is-unfinished at (blank m) e = let z : ◌≡◌ {A = ℕ} 0 1 = cc in absurd (omega arith)
 is-unfinished at opens e = let z : ◌≡◌ {A = ℕ} 0 1 = cc in absurd (omega arith)
 is-unfinished at closes e = let z : ◌≡◌ {A = ℕ} 0 1 = cc in absurd (omega arith)
@@ -47,8 +47,8 @@ abbrev pub five : Words → List ℕ
 five w = w.a ∷ w.b ∷ w.c ∷ w.d ∷ w.e ∷ []
 
 -- As many of them as the atom has are the atom's.
-words-atom : (a : Atom) → take (length (atomWords a)) (five (asWords a)) ≡ atomWords a
-unfolding atomWords
+words-atom : (a : Atom) → take (length (atom_words a)) (five (as_words a)) ≡ atom_words a
+unfolding atom_words
 words-atom (symbol s) = refl
 words-atom (quoted s) = refl
 words-atom (integer w) = refl
@@ -61,22 +61,22 @@ pub record IsLeaf (at next n : ℕ) (w : Words) (t : Token) : Type 0 where
   pub more : ℕ
   pub token : t ≡ word which more
   pub ends : next ≡ at + suc more
-  pub size : n ≡ length (atomWords which)
-  pub words : take n (five w) ≡ atomWords which
+  pub size : n ≡ length (atom_words which)
+  pub words : take n (five w) ≡ atom_words which
 
-pub is_leaf : (at next n : ℕ) (w : Words) (t : Token) → asToken at t ≡ Tokens.Leaf next n w → IsLeaf at next n w t
+pub is_leaf : (at next n : ℕ) (w : Words) (t : Token) → as_token at t ≡ Tokens.Leaf next n w → IsLeaf at next n w t
 is_leaf at next n w (blank m) e = let z : ◌≡◌ {A = ℕ} 0 1 = cc in absurd (omega arith)
 is_leaf at next n w opens e = let z : ◌≡◌ {A = ℕ} 0 1 = cc in absurd (omega arith)
 is_leaf at next n w closes e = let z : ◌≡◌ {A = ℕ} 0 1 = cc in absurd (omega arith)
 is_leaf at next n w (word a m) e =
-    let p : n ≡ length (atomWords a) = cc in
-    let r : w ≡ asWords a = cc in
+    let p : n ≡ length (atom_words a) = cc in
+    let r : w ≡ as_words a = cc in
     record {
       which = a;
       more = m;
       token = refl;
       ends = cc;
       size = p;
-      words = ap (λ (x : Words). take n (five x)) r ∙ ap (λ (k : ℕ). take k (five (asWords a))) p ∙ words-atom a;
+      words = ap (λ (x : Words). take n (five x)) r ∙ ap (λ (k : ℕ). take k (five (as_words a))) p ∙ words-atom a;
     }
 is_leaf at next n w unfinished e = let z : ◌≡◌ {A = ℕ} 0 1 = cc in absurd (omega arith)

@@ -3,7 +3,7 @@ use Prim.Native.Nat.{◌-◌}
 use native.Mathlib.Omega.{arith}
 use lib.ListN.{length}
 use Rattle.writing.proofs.Wrote.{wrote-over}
-use Rattle.writing.proofs.Pieces.{Copied, copy-none, copy-next, copy-all}
+use Rattle.writing.proofs.Pieces.{Copied, copy_none, copy_next, copy_all}
 use Rattle.writing.proofs.bytes.Statement.{statement}
 use Rattle.writing.proofs.bytes.Tie as tie
 
@@ -29,7 +29,7 @@ returns-2 : tie.Need-returns-2 invariant-loop decreases-loop
 returns-2 c = wrote-over (omega arith) (omega arith)
 
 loop-holds : tie.Need-loop-init invariant-loop decreases-loop
-loop-holds c = copy-none _ _ _
+loop-holds c = copy_none _ _ _
 
 shared-slice-read-out : tie.Need-shared-slice-read-out invariant-loop decreases-loop
 shared-slice-read-out c = search rules
@@ -47,7 +47,7 @@ loop-less : tie.Need-loop-smaller invariant-loop decreases-loop
 loop-less c = search rules
 
 loop-again : tie.Need-loop-preserved invariant-loop decreases-loop
-loop-again c = copy-next c.before.before.loop.invariant c.before.loop-test.true
+loop-again c = copy_next c.before.before.loop.invariant c.before.loop-test.true
 
 add-result-3 : tie.Need-overflow-add-result-3 invariant-loop decreases-loop
 add-result-3 c = search rules
@@ -56,7 +56,7 @@ same_length : tie.Need-same-length invariant-loop decreases-loop
 same_length c = search rules
 
 returns-3 : tie.Need-returns-3 invariant-loop decreases-loop
-returns-3 c = copy-all c.before.loop.invariant c.loop-test.false (omega arith)
+returns-3 c = copy_all c.before.loop.invariant c.loop-test.false (omega arith)
 
 pub bytes-spec : {M : Type 1} → statement M
 bytes-spec =

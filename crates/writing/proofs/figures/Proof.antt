@@ -1,11 +1,11 @@
-use Rattle.writing.proofs.Decimals.{tenth-less}
+use Rattle.writing.proofs.Decimals.{tenth_less}
 use mathlib.Core.Path.{sym, ◌∙◌}
 use borrow.Author.Tests.{ltb-true, ltb-false, not-true, not-false}
 use borrow.Author.Rules.{rules}
 use native.Mathlib.Omega.{arith}
 use Rattle.reading.specs.Number.{value_of}
 use Rattle.writing.specs.Quads.{as_wide}
-use Rattle.writing.proofs.Quads.{quad-long}
+use Rattle.writing.proofs.Quads.{quad_long}
 use Rattle.writing.proofs.Pieces.{Counted, count-one, count_next, count-all, count-few}
 use Rattle.writing.proofs.figures.Statement.{statement}
 use Rattle.writing.proofs.figures.Tie as tie
@@ -26,10 +26,10 @@ shortened-requires : tie.Need-shortened-requires invariant-loop decreases-loop
 shortened-requires c κs = search rules
 
 add-n : tie.Need-overflow-add-n invariant-loop decreases-loop
-add-n c = omega (arith, count-few c.before.before.before.before.loop.invariant (quad-long _ (search rules) (search rules) (search rules) (search rules)) (ltb-false _ _ (sym c.before.before.before.one-digit.ensures ∙ not-true _ c.before.before.if1.true)))
+add-n c = omega (arith, count-few c.before.before.before.before.loop.invariant (quad_long _ (search rules) (search rules) (search rules) (search rules)) (ltb-false _ _ (sym c.before.before.before.one-digit.ensures ∙ not-true _ c.before.before.if1.true)))
 
 loop-less : tie.Need-loop-smaller invariant-loop decreases-loop
-loop-less c = tenth-less c.before.shortened.ensures (ltb-false _ _ (sym c.before.before.before.one-digit.ensures ∙ not-true _ c.before.before.if1.true))
+loop-less c = tenth_less c.before.shortened.ensures (ltb-false _ _ (sym c.before.before.before.one-digit.ensures ∙ not-true _ c.before.before.if1.true))
 
 loop-again : tie.Need-loop-preserved invariant-loop decreases-loop
 loop-again c = count_next c.before.before.before.before.loop.invariant c.before.shortened.ensures (ltb-false _ _ (sym c.before.before.before.one-digit.ensures ∙ not-true _ c.before.before.if1.true))

@@ -5,7 +5,7 @@ use borrow.Author.Rules.{rules}
 use Prim.Native.Nat.{◌-◌}
 use Rattle.binds.specs.PredWords.{NameRow}
 use Rattle.places.proofs.Spots.{two-there}
-use Rattle.binds.proofs.PredNames.{Naming, naming-start, naming-end, naming-bad, naming-more, name-spot, name-room, symbol-there}
+use Rattle.binds.proofs.PredNames.{Naming, naming_start, naming_end, naming_bad, naming_more, name-spot, name-room, symbol-there}
 use Rattle.binds.proofs.preds.names.Statement.{statement}
 use Rattle.binds.proofs.preds.names.Tie as tie
 
@@ -16,7 +16,7 @@ abbrev decreases-loop : tie.decreases-loop
 decreases-loop text tree at n out₀ w i₀ p₀ v₀ out i p v = n - i
 
 loop-holds : tie.Need-loop-init invariant-loop decreases-loop
-loop-holds c = (refl, λ h. naming-start)
+loop-holds c = (refl, λ h. naming_start)
 
 mul-if1 : tie.Need-overflow-mul-if1 invariant-loop decreases-loop
 mul-if1 c = omega (arith, two-there (name-spot (c.before.loop.invariant.1 c.before.before.before.before.before.requires) c.loop-test.true))
@@ -28,7 +28,7 @@ same_length : tie.Need-same-length invariant-loop decreases-loop
 same_length c = search (rules, c.before.before.before.loop.invariant.0)
 
 returns : tie.Need-returns invariant-loop decreases-loop
-returns c h = naming-bad (c.before.before.before.loop.invariant.1 h) c.before.before.loop-test.true c.if1.true
+returns c h = naming_bad (c.before.before.before.loop.invariant.1 h) c.before.before.loop-test.true c.if1.true
 
 add-t11 : tie.Need-overflow-add-t11 invariant-loop decreases-loop
 add-t11 c = omega (arith, symbol-there (name-spot (c.before.before.before.before.loop.invariant.1 c.before.before.before.before.before.before.before.before.requires) c.before.before.before.loop-test.true) c.before.if1.false)
@@ -61,13 +61,13 @@ loop-less : tie.Need-loop-smaller invariant-loop decreases-loop
 loop-less c = omega (arith, c.before.before.before.before.before.before.before.before.loop-test.true)
 
 loop-again : tie.Need-loop-preserved invariant-loop decreases-loop
-loop-again c = (search (rules, c.before.before.before.before.before.before.before.before.before.loop.invariant.0), λ h. naming-more (c.before.before.before.before.before.before.before.before.before.loop.invariant.1 h) c.before.before.before.before.before.before.before.before.loop-test.true c.before.before.before.before.before.before.if1.false c.before.before.put-name.ensures)
+loop-again c = (search (rules, c.before.before.before.before.before.before.before.before.before.loop.invariant.0), λ h. naming_more (c.before.before.before.before.before.before.before.before.before.loop.invariant.1 h) c.before.before.before.before.before.before.before.before.loop-test.true c.before.before.before.before.before.before.if1.false c.before.before.put-name.ensures)
 
 same-length-2 : tie.Need-same-length-2 invariant-loop decreases-loop
 same-length-2 c = search (rules, c.before.loop.invariant.0)
 
 returns-2 : tie.Need-returns-2 invariant-loop decreases-loop
-returns-2 c h = naming-end (c.before.loop.invariant.1 h) c.loop-test.false
+returns-2 c h = naming_end (c.before.loop.invariant.1 h) c.loop-test.false
 
 pub names-spec : {M : Type 1} → statement M
 names-spec =

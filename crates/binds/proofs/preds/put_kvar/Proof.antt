@@ -1,4 +1,4 @@
-use Rattle.places.proofs.Puts.{put-append}
+use Rattle.places.proofs.Puts.{put_append}
 use mathlib.Core.List.{[], ◌∷◌}
 use borrow.Author.Rules.{rules}
 use Rattle.binds.proofs.preds.put_kvar.Statement.{statement}
@@ -14,7 +14,7 @@ same_length : tie.Need-same-length
 same_length c = search rules
 
 returns : tie.Need-returns
-returns c = put-append (64 ∷ c.before.before.before.before.before.before.before.before.before.args.name.0 ∷ c.before.before.before.before.before.before.before.before.before.args.name.1 ∷ []) (c.before.before.before.before.before.before.before.before.before.args.n ∷ []) c.before.before.before.before.before.before.put3.ensures c.before.before.put1.ensures
+returns c = put_append (64 ∷ c.before.before.before.before.before.before.before.before.before.args.name.0 ∷ c.before.before.before.before.before.before.before.before.before.args.name.1 ∷ []) (c.before.before.before.before.before.before.before.before.before.args.n ∷ []) c.before.before.before.before.before.before.put3.ensures c.before.before.put1.ensures
 
 pub put-kvar-spec : {M : Type 1} → statement M
 put-kvar-spec = tie.close (tie.spec put3-requires put1-requires same_length returns)

@@ -2,7 +2,7 @@ use Rattle.std.proofs.Common.{◌+◌, sym, refl, add-zero, arith, rules, ne_eqb
 use Rattle.reading.specs.Pick.{pick}
 use Rattle.scopes.specs.Scopes.{pushed, deeper}
 use Rattle.plans.specs.Late.{filled, taken}
-use Rattle.scopes.proofs.Variables.{low-wrapped, high-wrapped}
+use Rattle.scopes.proofs.Variables.{low_wrapped, high_wrapped}
 use Rattle.exprs.proofs.late.late.Statement.{statement}
 use Rattle.exprs.proofs.late.late.Tie as tie
 
@@ -37,7 +37,7 @@ same-length-2 c = search rules
 returns-2 : tie.Need-returns-2
 unfolding filled taken pick
 returns-2 c =
-    rw (ne_eqb c.before.before.before.before.before.before.before.before.before.before.before.before.before.before.args.pair 0 c.before.before.before.before.before.before.before.before.before.before.before.if1.false, low-wrapped (c.before.before.before.before.before.before.before.before.before.before.before.before.before.before.args.count + c.before.before.before.before.before.before.before.before.before.before.before.before.before.before.args.next) _ c.before.before.before.before.before.before.before.before.before.before.wrapping-add-u64.ensures, high-wrapped (c.before.before.before.before.before.before.before.before.before.before.before.before.before.before.args.count + c.before.before.before.before.before.before.before.before.before.before.before.before.before.before.args.next) _ c.before.before.before.before.before.before.before.before.before.before.wrapping-add-u64.ensures, sym c.before.before.before.before.before.before.before.before.low.ensures, sym c.before.before.before.before.before.before.before.high.ensures)
+    rw (ne_eqb c.before.before.before.before.before.before.before.before.before.before.before.before.before.before.args.pair 0 c.before.before.before.before.before.before.before.before.before.before.before.if1.false, low_wrapped (c.before.before.before.before.before.before.before.before.before.before.before.before.before.before.args.count + c.before.before.before.before.before.before.before.before.before.before.before.before.before.before.args.next) _ c.before.before.before.before.before.before.before.before.before.before.wrapping-add-u64.ensures, high_wrapped (c.before.before.before.before.before.before.before.before.before.before.before.before.before.before.args.count + c.before.before.before.before.before.before.before.before.before.before.before.before.before.before.args.next) _ c.before.before.before.before.before.before.before.before.before.before.wrapping-add-u64.ensures, sym c.before.before.before.before.before.before.before.before.low.ensures, sym c.before.before.before.before.before.before.before.high.ensures)
     (c.before.before.opened.ensures.0, c.before.before.before.before.before.before.put2.ensures.words, c.before.before.opened.ensures.1, refl)
 
 pub late-spec : {M : Type 1} → statement M

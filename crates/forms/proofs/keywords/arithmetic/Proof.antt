@@ -2,9 +2,9 @@ use mathlib.Core.Path.{◌≡◌, refl}
 use lib.ListN.{drop}
 use Rattle.reading.specs.Bytes.{Maybe, lookup}
 use Rattle.reading.proofs.Bytes.{lookup-here, lookup-later}
-use Rattle.grammar.specs.Expr.{kBin, opAdd, opDiv, opMod, opMul, kindItems}
+use Rattle.grammar.specs.Expr.{k_bin, op_add, op_div, op_mod, op_mul, kind_items}
 use Rattle.grammar.specs.Names.{Form, keywords}
-use Rattle.forms.proofs.FormCode.{keyword-is, rest-says}
+use Rattle.forms.proofs.FormCode.{keyword_is, rest-says}
 use Rattle.forms.proofs.keywords.arithmetic.Statement.{statement}
 use Rattle.forms.proofs.keywords.arithmetic.Tie as tie
 
@@ -29,24 +29,24 @@ unfolding keywords
 past5 c e = past4 c.before.before.before (lookup-later _ _ _ _ c.if5.false c.before.same5.ensures e)
 
 returns : tie.Need-returns
-unfolding keywords kindItems
-returns c = record { kind = kBin opAdd; is = keyword-is _ (lookup-here _ _ _ _ c.if1.true c.before.same.ensures); words = refl }
+unfolding keywords kind_items
+returns c = record { kind = k_bin op_add; is = keyword_is _ (lookup-here _ _ _ _ c.if1.true c.before.same.ensures); words = refl }
 
 returns-2 : tie.Need-returns-2
 unfolding keywords
-returns-2 c = keyword-is _ (past1 c.before.before.before (lookup-here _ _ _ _ c.if2.true c.before.same2.ensures))
+returns-2 c = keyword_is _ (past1 c.before.before.before (lookup-here _ _ _ _ c.if2.true c.before.same2.ensures))
 
 returns-3 : tie.Need-returns-3
-unfolding keywords kindItems
-returns-3 c = record { kind = kBin opMul; is = keyword-is _ (past2 c.before.before.before (lookup-here _ _ _ _ c.if3.true c.before.same3.ensures)); words = refl }
+unfolding keywords kind_items
+returns-3 c = record { kind = k_bin op_mul; is = keyword_is _ (past2 c.before.before.before (lookup-here _ _ _ _ c.if3.true c.before.same3.ensures)); words = refl }
 
 returns-4 : tie.Need-returns-4
-unfolding keywords kindItems
-returns-4 c = record { kind = kBin opDiv; is = keyword-is _ (past3 c.before.before.before (lookup-here _ _ _ _ c.if4.true c.before.same4.ensures)); words = refl }
+unfolding keywords kind_items
+returns-4 c = record { kind = k_bin op_div; is = keyword_is _ (past3 c.before.before.before (lookup-here _ _ _ _ c.if4.true c.before.same4.ensures)); words = refl }
 
 returns-5 : tie.Need-returns-5
-unfolding keywords kindItems
-returns-5 c = record { kind = kBin opMod; is = keyword-is _ (past4 c.before.before.before (lookup-here _ _ _ _ c.if5.true c.before.same5.ensures)); words = refl }
+unfolding keywords kind_items
+returns-5 c = record { kind = k_bin op_mod; is = keyword_is _ (past4 c.before.before.before (lookup-here _ _ _ _ c.if5.true c.before.same5.ensures)); words = refl }
 
 returns-6 : tie.Need-returns-6
 returns-6 c = rest-says _ c.relation.result (past5 c.before refl) c.relation.ensures

@@ -3,9 +3,9 @@ use mathlib.Core.Bool.{true, false}
 use lib.ListN.{drop}
 use Rattle.reading.specs.Bytes.{Maybe, lookup}
 use Rattle.reading.proofs.Bytes.{lookup-here, lookup-later, lookup-none}
-use Rattle.grammar.specs.Expr.{kIff, kImp, kindItems}
+use Rattle.grammar.specs.Expr.{k_iff, k_imp, kind_items}
 use Rattle.grammar.specs.Names.{Form, keywords}
-use Rattle.forms.proofs.FormCode.{keyword-is, keyword-not}
+use Rattle.forms.proofs.FormCode.{keyword_is, keyword_not}
 use Rattle.forms.proofs.keywords.connective.Statement.{statement}
 use Rattle.forms.proofs.keywords.connective.Tie as tie
 
@@ -22,24 +22,24 @@ unfolding keywords
 past3 c e = past2 c.before.before.before (lookup-later _ _ _ _ c.if3.false c.before.same3.ensures e)
 
 returns : tie.Need-returns
-unfolding keywords kindItems
-returns c = record { kind = kIff; is = keyword-is _ (lookup-here _ _ _ _ c.if1.true c.before.same.ensures); words = refl }
+unfolding keywords kind_items
+returns c = record { kind = k_iff; is = keyword_is _ (lookup-here _ _ _ _ c.if1.true c.before.same.ensures); words = refl }
 
 returns-2 : tie.Need-returns-2
-unfolding keywords kindItems
-returns-2 c = record { kind = kImp; is = keyword-is _ (past1 c.before.before.before (lookup-here _ _ _ _ c.if2.true c.before.same2.ensures)); words = refl }
+unfolding keywords kind_items
+returns-2 c = record { kind = k_imp; is = keyword_is _ (past1 c.before.before.before (lookup-here _ _ _ _ c.if2.true c.before.same2.ensures)); words = refl }
 
 returns-3 : tie.Need-returns-3
 unfolding keywords
-returns-3 c = keyword-is _ (past2 c.before.before.before (lookup-here _ _ _ _ c.if3.true c.before.same3.ensures))
+returns-3 c = keyword_is _ (past2 c.before.before.before (lookup-here _ _ _ _ c.if3.true c.before.same3.ensures))
 
 returns-4 : tie.Need-returns-4
 unfolding keywords
-returns-4 c = keyword-not true c.before.begins-with.ensures c.if4.true (past3 c.before.before.before (lookup-none _))
+returns-4 c = keyword_not true c.before.begins-with.ensures c.if4.true (past3 c.before.before.before (lookup-none _))
 
 returns-5 : tie.Need-returns-5
 unfolding keywords
-returns-5 c = keyword-not false c.before.begins-with.ensures c.if4.false (past3 c.before.before.before (lookup-none _))
+returns-5 c = keyword_not false c.before.begins-with.ensures c.if4.false (past3 c.before.before.before (lookup-none _))
 
 -- All needs in their order. Those that hold by computing, or that ask nothing, have no lemma of their own.
 pub connective-spec : {M : Type 1} → statement M

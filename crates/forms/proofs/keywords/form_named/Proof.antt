@@ -2,9 +2,9 @@ use mathlib.Core.Path.{◌≡◌, refl}
 use lib.ListN.{drop}
 use Rattle.reading.specs.Bytes.{Maybe, lookup}
 use Rattle.reading.proofs.Bytes.{lookup-here, lookup-later}
-use Rattle.grammar.specs.Expr.{kAnd, kIf, kNot, kOr, kindItems}
+use Rattle.grammar.specs.Expr.{k_and, k_if, k_not, k_or, kind_items}
 use Rattle.grammar.specs.Names.{Form, keywords}
-use Rattle.forms.proofs.FormCode.{keyword-is, rest-says}
+use Rattle.forms.proofs.FormCode.{keyword_is, rest-says}
 use Rattle.forms.proofs.keywords.form_named.Statement.{statement}
 use Rattle.forms.proofs.keywords.form_named.Tie as tie
 
@@ -42,35 +42,35 @@ past8 c e = past7 c.before.before.before (lookup-later _ _ _ _ c.if8.false c.bef
 
 returns : tie.Need-returns
 unfolding keywords
-returns c = keyword-is _ (lookup-here _ _ _ _ c.if1.true c.before.same.ensures)
+returns c = keyword_is _ (lookup-here _ _ _ _ c.if1.true c.before.same.ensures)
 
 returns-2 : tie.Need-returns-2
 unfolding keywords
-returns-2 c = keyword-is _ (past1 c.before.before.before (lookup-here _ _ _ _ c.if2.true c.before.same2.ensures))
+returns-2 c = keyword_is _ (past1 c.before.before.before (lookup-here _ _ _ _ c.if2.true c.before.same2.ensures))
 
 returns-3 : tie.Need-returns-3
 unfolding keywords
-returns-3 c = keyword-is _ (past2 c.before.before.before (lookup-here _ _ _ _ c.if3.true c.before.same3.ensures))
+returns-3 c = keyword_is _ (past2 c.before.before.before (lookup-here _ _ _ _ c.if3.true c.before.same3.ensures))
 
 returns-4 : tie.Need-returns-4
-unfolding keywords kindItems
-returns-4 c = record { kind = kNot; is = keyword-is _ (past3 c.before.before.before (lookup-here _ _ _ _ c.if4.true c.before.same4.ensures)); words = refl }
+unfolding keywords kind_items
+returns-4 c = record { kind = k_not; is = keyword_is _ (past3 c.before.before.before (lookup-here _ _ _ _ c.if4.true c.before.same4.ensures)); words = refl }
 
 returns-5 : tie.Need-returns-5
-unfolding keywords kindItems
-returns-5 c = record { kind = kOr; is = keyword-is _ (past4 c.before.before.before (lookup-here _ _ _ _ c.if5.true c.before.same5.ensures)); words = λ n. refl }
+unfolding keywords kind_items
+returns-5 c = record { kind = k_or; is = keyword_is _ (past4 c.before.before.before (lookup-here _ _ _ _ c.if5.true c.before.same5.ensures)); words = λ n. refl }
 
 returns-6 : tie.Need-returns-6
-unfolding keywords kindItems
-returns-6 c = record { kind = kAnd; is = keyword-is _ (past5 c.before.before.before (lookup-here _ _ _ _ c.if6.true c.before.same6.ensures)); words = λ n. refl }
+unfolding keywords kind_items
+returns-6 c = record { kind = k_and; is = keyword_is _ (past5 c.before.before.before (lookup-here _ _ _ _ c.if6.true c.before.same6.ensures)); words = λ n. refl }
 
 returns-7 : tie.Need-returns-7
 unfolding keywords
-returns-7 c = keyword-is _ (past6 c.before.before.before (lookup-here _ _ _ _ c.if7.true c.before.same7.ensures))
+returns-7 c = keyword_is _ (past6 c.before.before.before (lookup-here _ _ _ _ c.if7.true c.before.same7.ensures))
 
 returns-8 : tie.Need-returns-8
-unfolding keywords kindItems
-returns-8 c = record { kind = kIf; is = keyword-is _ (past7 c.before.before.before (lookup-here _ _ _ _ c.if8.true c.before.same8.ensures)); words = refl }
+unfolding keywords kind_items
+returns-8 c = record { kind = k_if; is = keyword_is _ (past7 c.before.before.before (lookup-here _ _ _ _ c.if8.true c.before.same8.ensures)); words = refl }
 
 returns-9 : tie.Need-returns-9
 returns-9 c = rest-says _ c.arithmetic.result (past8 c.before refl) c.arithmetic.ensures

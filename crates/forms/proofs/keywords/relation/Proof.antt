@@ -2,9 +2,9 @@ use mathlib.Core.Path.{◌≡◌, refl}
 use lib.ListN.{drop}
 use Rattle.reading.specs.Bytes.{Maybe, lookup}
 use Rattle.reading.proofs.Bytes.{lookup-here, lookup-later}
-use Rattle.grammar.specs.Expr.{kAtom, relEq, relGe, relGt, relLe, relLt, relNe, kindItems}
+use Rattle.grammar.specs.Expr.{k_atom, rel_eq, rel_ge, rel_gt, rel_le, rel_lt, rel_ne, kind_items}
 use Rattle.grammar.specs.Names.{Form, keywords}
-use Rattle.forms.proofs.FormCode.{keyword-is, rest-says}
+use Rattle.forms.proofs.FormCode.{keyword_is, rest-says}
 use Rattle.forms.proofs.keywords.relation.Statement.{statement}
 use Rattle.forms.proofs.keywords.relation.Tie as tie
 
@@ -33,28 +33,28 @@ unfolding keywords
 past6 c e = past5 c.before.before.before (lookup-later _ _ _ _ c.if6.false c.before.same6.ensures e)
 
 returns : tie.Need-returns
-unfolding keywords kindItems
-returns c = record { kind = kAtom relEq; is = keyword-is _ (lookup-here _ _ _ _ c.if1.true c.before.same.ensures); words = refl }
+unfolding keywords kind_items
+returns c = record { kind = k_atom rel_eq; is = keyword_is _ (lookup-here _ _ _ _ c.if1.true c.before.same.ensures); words = refl }
 
 returns-2 : tie.Need-returns-2
-unfolding keywords kindItems
-returns-2 c = record { kind = kAtom relNe; is = keyword-is _ (past1 c.before.before.before (lookup-here _ _ _ _ c.if2.true c.before.same2.ensures)); words = refl }
+unfolding keywords kind_items
+returns-2 c = record { kind = k_atom rel_ne; is = keyword_is _ (past1 c.before.before.before (lookup-here _ _ _ _ c.if2.true c.before.same2.ensures)); words = refl }
 
 returns-3 : tie.Need-returns-3
-unfolding keywords kindItems
-returns-3 c = record { kind = kAtom relLt; is = keyword-is _ (past2 c.before.before.before (lookup-here _ _ _ _ c.if3.true c.before.same3.ensures)); words = refl }
+unfolding keywords kind_items
+returns-3 c = record { kind = k_atom rel_lt; is = keyword_is _ (past2 c.before.before.before (lookup-here _ _ _ _ c.if3.true c.before.same3.ensures)); words = refl }
 
 returns-4 : tie.Need-returns-4
-unfolding keywords kindItems
-returns-4 c = record { kind = kAtom relLe; is = keyword-is _ (past3 c.before.before.before (lookup-here _ _ _ _ c.if4.true c.before.same4.ensures)); words = refl }
+unfolding keywords kind_items
+returns-4 c = record { kind = k_atom rel_le; is = keyword_is _ (past3 c.before.before.before (lookup-here _ _ _ _ c.if4.true c.before.same4.ensures)); words = refl }
 
 returns-5 : tie.Need-returns-5
-unfolding keywords kindItems
-returns-5 c = record { kind = kAtom relGt; is = keyword-is _ (past4 c.before.before.before (lookup-here _ _ _ _ c.if5.true c.before.same5.ensures)); words = refl }
+unfolding keywords kind_items
+returns-5 c = record { kind = k_atom rel_gt; is = keyword_is _ (past4 c.before.before.before (lookup-here _ _ _ _ c.if5.true c.before.same5.ensures)); words = refl }
 
 returns-6 : tie.Need-returns-6
-unfolding keywords kindItems
-returns-6 c = record { kind = kAtom relGe; is = keyword-is _ (past5 c.before.before.before (lookup-here _ _ _ _ c.if6.true c.before.same6.ensures)); words = refl }
+unfolding keywords kind_items
+returns-6 c = record { kind = k_atom rel_ge; is = keyword_is _ (past5 c.before.before.before (lookup-here _ _ _ _ c.if6.true c.before.same6.ensures)); words = refl }
 
 returns-7 : tie.Need-returns-7
 returns-7 c = rest-says _ c.connective.result (past6 c.before refl) c.connective.ensures

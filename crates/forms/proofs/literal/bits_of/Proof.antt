@@ -1,6 +1,6 @@
 use mathlib.Core.Path.{sym, ◌∙◌}
 use borrow.Author.Tests.{not-true, not-false}
-use Rattle.forms.proofs.LiteralBits.{bits-not, bits-there, bits_are}
+use Rattle.forms.proofs.LiteralBits.{bits_not, bits_there, bits_are}
 use native.Mathlib.Omega.{arith}
 use borrow.Author.Rules.{rules}
 use Rattle.forms.proofs.literal.bits_of.Statement.{statement}
@@ -13,13 +13,13 @@ begins-with-requires : tie.Need-begins-with-requires
 begins-with-requires c κs = search rules
 
 returns : tie.Need-returns
-returns c = bits-not _ (sym c.before.begins-with.ensures ∙ not-true _ c.if1.true)
+returns c = bits_not _ (sym c.before.begins-with.ensures ∙ not-true _ c.if1.true)
 
 sub-magnitude : tie.Need-overflow-sub-magnitude
-sub-magnitude c = omega (arith, bits-there _ (sym c.before.begins-with.ensures ∙ not-false _ c.if1.false))
+sub-magnitude c = omega (arith, bits_there _ (sym c.before.begins-with.ensures ∙ not-false _ c.if1.false))
 
 part-magnitude-start : tie.Need-slice-bounds-magnitude-start
-part-magnitude-start c = omega (arith, bits-there _ (sym c.before.begins-with.ensures ∙ not-false _ c.if1.false))
+part-magnitude-start c = omega (arith, bits_there _ (sym c.before.begins-with.ensures ∙ not-false _ c.if1.false))
 
 part-magnitude-end : tie.Need-slice-bounds-magnitude-end
 part-magnitude-end c = search rules

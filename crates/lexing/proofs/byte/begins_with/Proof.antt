@@ -1,14 +1,14 @@
 use lib.ListN.{length}
-use Rattle.reading.specs.Bytes.{sameBytes}
+use Rattle.reading.specs.Bytes.{same_bytes}
 use Rattle.lexing.proofs.Lexing.Parts.{front}
 use mathlib.Core.Path.{sym, ◌∙◌, ap}
-use Rattle.reading.proofs.Bytes.{begins-take, begins-longer}
+use Rattle.reading.proofs.Bytes.{begins-take, begins_longer}
 use borrow.Author.Rules.{rules}
 use Rattle.lexing.proofs.byte.begins_with.Statement.{statement}
 use Rattle.lexing.proofs.byte.begins_with.Tie as tie
 
 returns : tie.Need-returns
-returns c = sym (begins-longer _ _ c.if1.true)
+returns c = sym (begins_longer _ _ c.if1.true)
 
 sub_same : tie.Need-overflow-sub-same
 sub_same c = search rules
@@ -25,7 +25,7 @@ same-requires c κs = search rules
 returns-2 : tie.Need-returns-2
 returns-2 c =
     let a = c.before.before.before.before.before.args in
-    c.same.ensures ∙ ap (sameBytes a.w.now) (front a.s.now (length a.w.now)) ∙ sym (begins-take a.w.now a.s.now)
+    c.same.ensures ∙ ap (same_bytes a.w.now) (front a.s.now (length a.w.now)) ∙ sym (begins-take a.w.now a.s.now)
 
 pub begins-with-spec : {M : Type 1} → statement M
 begins-with-spec =

@@ -3,7 +3,7 @@ use mathlib.Core.Path.{◌≡◌, refl}
 use native.Mathlib.Omega.{arith}
 use lib.ListN.{length, drop}
 use Rattle.reading.specs.Bytes.{before, starts_with}
-use Rattle.reading.proofs.Bytes.{before-stop, before_more, before-end, starts-yes, starts-no}
+use Rattle.reading.proofs.Bytes.{before_stop, before_more, before-end, starts-yes, starts-no}
 use Rattle.lexing.proofs.byte.find.Statement.{statement}
 use Rattle.lexing.proofs.byte.find.Tie as tie
 
@@ -22,7 +22,7 @@ shared-slice-read-if1 c = omega arith
 returns : tie.Need-returns invariant-loop decreases-loop
 returns c =
     let a = c.before.before.before.before.args in
-    (omega (arith, before-stop (starts_with a.byte) a.text.now c.before.before.before.loop.i (omega arith) (starts-yes a.text.now c.before.before.before.loop.i a.byte c.if1.true)), omega arith)
+    (omega (arith, before_stop (starts_with a.byte) a.text.now c.before.before.before.loop.i (omega arith) (starts-yes a.text.now c.before.before.before.loop.i a.byte c.if1.true)), omega arith)
 
 add-i : tie.Need-overflow-add-i invariant-loop decreases-loop
 add-i c = omega arith

@@ -2,13 +2,13 @@ use Prim.Native.Nat.{◌≤◌, ◌-◌, ◌+◌}
 use mathlib.Core.Path.{◌≡◌, refl, sym, ◌∙◌}
 use native.Mathlib.Omega.{arith}
 use lib.ListN.{length, drop, get_or}
-use Rattle.reading.specs.Bytes.{sameBytes}
-use Rattle.reading.proofs.Bytes.{same_length, same-apart, same_more, same-differ, same_end, same-last}
+use Rattle.reading.specs.Bytes.{same_bytes}
+use Rattle.reading.proofs.Bytes.{same_length, same-apart, same_more, same_differ, same_end, same-last}
 use Rattle.lexing.proofs.byte.same.Statement.{statement}
 use Rattle.lexing.proofs.byte.same.Tie as tie
 
 abbrev invariant-loop : tie.invariant-loop
-invariant-loop a b n last i₀ i = (last + 1 ≡ length a) × (length a ≡ length b) × (get_or a last 0 ≡ get_or b last 0) × (i ≤ last) × (sameBytes a b ≡ sameBytes (drop i a) (drop i b))
+invariant-loop a b n last i₀ i = (last + 1 ≡ length a) × (length a ≡ length b) × (get_or a last 0 ≡ get_or b last 0) × (i ≤ last) × (same_bytes a b ≡ same_bytes (drop i a) (drop i b))
 
 abbrev decreases-loop : tie.decreases-loop
 decreases-loop a b n last i₀ i = last - i
@@ -43,7 +43,7 @@ shared-slice-read-if4-2 c = omega arith
 returns-4 : tie.Need-returns-4 invariant-loop decreases-loop
 returns-4 c =
     let v = c.before.before.before.before.loop.invariant in
-    sym (v.4 ∙ same-differ _ _ c.before.before.before.before.loop.i (omega arith) (omega arith) c.if4.true)
+    sym (v.4 ∙ same_differ _ _ c.before.before.before.before.loop.i (omega arith) (omega arith) c.if4.true)
 
 add-i : tie.Need-overflow-add-i invariant-loop decreases-loop
 add-i c = omega arith

@@ -1,5 +1,5 @@
 use mathlib.Core.Path.{ap, ◌∙◌}
-use Rattle.reading.specs.Decimal.{isUnsignedDecimal, isDecimal}
+use Rattle.reading.specs.Decimal.{is_unsigned_decimal, is_decimal}
 use Rattle.lexing.proofs.Lexing.Parts.{tail_at}
 use borrow.Author.Rules.{rules}
 use Rattle.lexing.proofs.decimal.is_decimal.Statement.{statement}
@@ -21,8 +21,8 @@ is-unsigned-requires : tie.Need-is-unsigned-requires
 is-unsigned-requires c κs = search rules
 
 returns : tie.Need-returns
-unfolding isDecimal
-returns c = c.is-unsigned.ensures ∙ ap isUnsignedDecimal (tail_at c.before.before.before.before.args.t.now _ _ c.before.before.sign-bytes.ensures.0)
+unfolding is_decimal
+returns c = c.is-unsigned.ensures ∙ ap is_unsigned_decimal (tail_at c.before.before.before.before.args.t.now _ _ c.before.before.sign-bytes.ensures.0)
 
 pub is-decimal-spec : {M : Type 1} → statement M
 is-decimal-spec =

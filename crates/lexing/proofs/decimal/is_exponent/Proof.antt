@@ -3,8 +3,8 @@ use mathlib.Core.List.{List}
 use mathlib.Core.Path.{ap, ◌∙◌}
 use native.Mathlib.Omega.{arith}
 use lib.ListN.{drop}
-use Rattle.reading.specs.Number.{signBytes}
-use Rattle.reading.specs.Decimal.{someDigits}
+use Rattle.reading.specs.Number.{sign_bytes}
+use Rattle.reading.specs.Decimal.{some_digits}
 use Rattle.lexing.proofs.Lexing.Parts.{tail}
 use Rattle.lexing.proofs.Lexing.Decimals.{exponent-end, exponent_small, exponent-large, exponent-no}
 use borrow.Author.Rules.{rules}
@@ -30,7 +30,7 @@ signed-digits-requires : tie.Need-signed-digits-requires
 signed-digits-requires c κs = search rules
 
 returns-2 : tie.Need-returns-2
-returns-2 c = exponent_small _ (omega arith) _ c.before.before.if2.true (c.signed-digits.ensures ∙ ap (λ (s : List ℕ). someDigits (drop (signBytes s) s)) (tail c.before.before.before.before.before.before.args.t.now 1))
+returns-2 c = exponent_small _ (omega arith) _ c.before.before.if2.true (c.signed-digits.ensures ∙ ap (λ (s : List ℕ). some_digits (drop (sign_bytes s) s)) (tail c.before.before.before.before.before.before.args.t.now 1))
 
 sub-signed-digits-2 : tie.Need-overflow-sub-signed-digits-2
 sub-signed-digits-2 c = search rules
@@ -45,7 +45,7 @@ signed-digits-requires-2 : tie.Need-signed-digits-requires-2
 signed-digits-requires-2 c κs = search rules
 
 returns-3 : tie.Need-returns-3
-returns-3 c = exponent-large _ (omega arith) _ c.before.before.before.if2.false c.before.before.if3.true (c.signed-digits2.ensures ∙ ap (λ (s : List ℕ). someDigits (drop (signBytes s) s)) (tail c.before.before.before.before.before.before.before.args.t.now 1))
+returns-3 c = exponent-large _ (omega arith) _ c.before.before.before.if2.false c.before.before.if3.true (c.signed-digits2.ensures ∙ ap (λ (s : List ℕ). some_digits (drop (sign_bytes s) s)) (tail c.before.before.before.before.before.before.before.args.t.now 1))
 
 returns-4 : tie.Need-returns-4
 returns-4 c = exponent-no _ (omega arith) c.before.if2.false c.if3.false

@@ -2,9 +2,9 @@ use Prim.Native.Nat.{◌+◌}
 use mathlib.Core.Path.{sym, ap, ◌∙◌}
 use native.Mathlib.Omega.{arith}
 use lib.Seq.{drop-drop}
-use Rattle.reading.specs.Decimal.{leadingDigits, isExponent}
+use Rattle.reading.specs.Decimal.{leading_digits, is_exponent}
 use Rattle.lexing.proofs.Lexing.Parts.{tail}
-use Rattle.lexing.proofs.Lexing.Decimals.{fraction_end, fraction-alone, fraction-point, fraction-none, fraction-whole}
+use Rattle.lexing.proofs.Lexing.Decimals.{fraction_end, fraction_alone, fraction_point, fraction_none, fraction_whole}
 use borrow.Author.Rules.{rules}
 use Rattle.lexing.proofs.decimal.is_fraction.Statement.{statement}
 use Rattle.lexing.proofs.decimal.is_fraction.Tie as tie
@@ -34,7 +34,7 @@ add-if3 : tie.Need-overflow-add-if3
 add-if3 c = search rules
 
 returns-2 : tie.Need-returns-2
-returns-2 c = fraction-alone _ _ (omega arith) _ c.before.before.before.if2.true (c.before.leading-digits.ensures.0 ∙ ap leadingDigits (tail c.before.before.before.before.before.before.before.args.t.now (c.before.before.before.before.before.before.before.args.n + 1))) c.if3.true
+returns-2 c = fraction_alone _ _ (omega arith) _ c.before.before.before.if2.true (c.before.leading-digits.ensures.0 ∙ ap leading_digits (tail c.before.before.before.before.before.before.before.args.t.now (c.before.before.before.before.before.before.before.args.n + 1))) c.if3.true
 
 add-is-exponent : tie.Need-overflow-add-is-exponent
 add-is-exponent c = search rules
@@ -59,11 +59,11 @@ returns-3 c =
     let t = c.before.before.before.before.before.before.before.before.before.args.t.now in
     let n = c.before.before.before.before.before.before.before.before.before.args.n in
     let m = c.before.before.before.leading-digits.result in
-    fraction-point _ _ (omega arith) _ _ c.before.before.before.before.before.if2.true (c.before.before.before.leading-digits.ensures.0 ∙ ap leadingDigits (tail c.before.before.before.before.before.before.before.before.before.args.t.now (c.before.before.before.before.before.before.before.before.before.args.n + 1))) c.before.before.if3.false
-    (c.is-exponent.ensures ∙ ap isExponent (tail t (n + 1 + m) ∙ sym (drop-drop m (n + 1) t)))
+    fraction_point _ _ (omega arith) _ _ c.before.before.before.before.before.if2.true (c.before.before.before.leading-digits.ensures.0 ∙ ap leading_digits (tail c.before.before.before.before.before.before.before.before.before.args.t.now (c.before.before.before.before.before.before.before.before.before.args.n + 1))) c.before.before.if3.false
+    (c.is-exponent.ensures ∙ ap is_exponent (tail t (n + 1 + m) ∙ sym (drop-drop m (n + 1) t)))
 
 returns-4 : tie.Need-returns-4
-returns-4 c = fraction-none _ _ (omega arith) c.before.if2.false c.if4.true
+returns-4 c = fraction_none _ _ (omega arith) c.before.if2.false c.if4.true
 
 sub-is-exponent-2 : tie.Need-overflow-sub-is-exponent-2
 sub-is-exponent-2 c = search rules
@@ -78,7 +78,7 @@ is-exponent-requires-2 : tie.Need-is-exponent-requires-2
 is-exponent-requires-2 c κs = search rules
 
 returns-5 : tie.Need-returns-5
-returns-5 c = fraction-whole _ _ (omega arith) _ c.before.before.before.if2.false c.before.before.if4.false (c.is-exponent2.ensures ∙ ap isExponent (tail c.before.before.before.before.before.before.before.args.t.now c.before.before.before.before.before.before.before.args.n))
+returns-5 c = fraction_whole _ _ (omega arith) _ c.before.before.before.if2.false c.before.before.if4.false (c.is-exponent2.ensures ∙ ap is_exponent (tail c.before.before.before.before.before.before.before.args.t.now c.before.before.before.before.before.before.before.args.n))
 
 pub is-fraction-spec : {M : Type 1} → statement M
 is-fraction-spec =

@@ -4,14 +4,14 @@ use mathlib.Core.Path.{◌≡◌, sym, ap, ◌∙◌}
 use native.Mathlib.Omega.{arith}
 use lib.ListN.{length, drop}
 use Rattle.reading.specs.Bytes.{before}
-use Rattle.reading.specs.Decimal.{noDigit}
-use Rattle.reading.proofs.Bytes.{before-stop, before_more, before-end}
-use Rattle.lexing.proofs.Lexing.Decimals.{no_digit}
+use Rattle.reading.specs.Decimal.{no_digit}
+use Rattle.reading.proofs.Bytes.{before_stop, before_more, before-end}
+use Rattle.lexing.proofs.Lexing.Decimals.{no_digit_lem}
 use Rattle.lexing.proofs.decimal.leading_digits.Statement.{statement}
 use Rattle.lexing.proofs.decimal.leading_digits.Tie as tie
 
 abbrev invariant-loop : tie.invariant-loop
-invariant-loop t i₀ i = (i ≤ length t) × (before noDigit t ≡ i + before noDigit (drop i t))
+invariant-loop t i₀ i = (i ≤ length t) × (before no_digit t ≡ i + before no_digit (drop i t))
 
 abbrev decreases-loop : tie.decreases-loop
 decreases-loop t i₀ i = length t - i
@@ -29,7 +29,7 @@ is-digit-requires : tie.Need-is-digit-requires invariant-loop decreases-loop
 is-digit-requires c κs = omega arith
 
 returns : tie.Need-returns invariant-loop decreases-loop
-returns c = (omega (arith, before-stop noDigit c.before.before.before.before.before.before.before.args.t.now c.before.before.before.before.before.loop.i (omega arith) (sym c.if1.true ∙ ap not c.before.is_digit.ensures ∙ no_digit _ c.before.before.before.before.before.loop.i _ c.before.before.byte-to-long.ensures.0)), omega arith)
+returns c = (omega (arith, before_stop no_digit c.before.before.before.before.before.before.before.args.t.now c.before.before.before.before.before.loop.i (omega arith) (sym c.if1.true ∙ ap not c.before.is_digit.ensures ∙ no_digit_lem _ c.before.before.before.before.before.loop.i _ c.before.before.byte-to-long.ensures.0)), omega arith)
 
 add-i : tie.Need-overflow-add-i invariant-loop decreases-loop
 add-i c = omega arith
@@ -38,10 +38,10 @@ loop-less : tie.Need-loop-smaller invariant-loop decreases-loop
 loop-less c = omega arith
 
 loop-again : tie.Need-loop-preserved invariant-loop decreases-loop
-loop-again c = (omega arith, omega (arith, before_more noDigit c.before.before.before.before.before.before.before.args.t.now c.before.before.before.before.before.loop.i (omega arith) (sym c.if1.false ∙ ap not c.before.is_digit.ensures ∙ no_digit _ c.before.before.before.before.before.loop.i _ c.before.before.byte-to-long.ensures.0)))
+loop-again c = (omega arith, omega (arith, before_more no_digit c.before.before.before.before.before.before.before.args.t.now c.before.before.before.before.before.loop.i (omega arith) (sym c.if1.false ∙ ap not c.before.is_digit.ensures ∙ no_digit_lem _ c.before.before.before.before.before.loop.i _ c.before.before.byte-to-long.ensures.0)))
 
 returns-2 : tie.Need-returns-2 invariant-loop decreases-loop
-returns-2 c = (omega (arith, before-end noDigit c.before.before.before.args.t.now c.before.loop.i (omega arith)), omega arith)
+returns-2 c = (omega (arith, before-end no_digit c.before.before.before.args.t.now c.before.loop.i (omega arith)), omega arith)
 
 pub leading-digits-spec : {M : Type 1} → statement M
 leading-digits-spec =

@@ -1,5 +1,5 @@
 use mathlib.Core.Path.{ap, ◌∙◌}
-use Rattle.reading.specs.Decimal.{someDigits}
+use Rattle.reading.specs.Decimal.{some_digits}
 use Rattle.lexing.proofs.Lexing.Parts.{tail_at}
 use borrow.Author.Rules.{rules}
 use Rattle.lexing.proofs.decimal.signed_digits.Statement.{statement}
@@ -21,7 +21,7 @@ some-digits-requires : tie.Need-some-digits-requires
 some-digits-requires c κs = search rules
 
 returns : tie.Need-returns
-returns c = c.some-digits.ensures ∙ ap someDigits (tail_at c.before.before.before.before.args.t.now _ _ c.before.before.sign-bytes.ensures.0)
+returns c = c.some-digits.ensures ∙ ap some_digits (tail_at c.before.before.before.before.args.t.now _ _ c.before.before.sign-bytes.ensures.0)
 
 pub signed-digits-spec : {M : Type 1} → statement M
 signed-digits-spec =

@@ -2,7 +2,7 @@ use Prim.Native.Nat.{ℕ, ◌^◌}
 use mathlib.Core.Path.{refl, ap, ◌∙◌}
 use mathlib.Core.List.{List}
 use Rattle.reading.specs.Number.{digits, below}
-use Rattle.lexing.specs.Quads.{asMag}
+use Rattle.lexing.specs.Quads.{as_mag}
 use Rattle.lexing.proofs.Lexing.Parts.{tail}
 use Rattle.lexing.proofs.Lexing.Signs.{integer-none, integer-some}
 use borrow.Author.Rules.{rules}
@@ -35,7 +35,7 @@ signed-requires c κs = search rules
 
 returns-2 : tie.Need-returns-2
 returns-2 c =
-    let m = c.before.before.magnitude.ensures ∙ ap (λ (s : List ℕ). asMag (below (2 ^ 128) (digits 10 s))) (tail c.before.before.before.before.before.before.before.args.t.now c.before.before.before.before.sign-bytes.result) in
+    let m = c.before.before.magnitude.ensures ∙ ap (λ (s : List ℕ). as_mag (below (2 ^ 128) (digits 10 s))) (tail c.before.before.before.before.before.before.before.args.t.now c.before.before.before.before.sign-bytes.result) in
     integer-some _ _ _ _ _ c.before.before.before.before.sign-bytes.ensures.0 m refl c.signed.ensures
 
 pub integer-spec : {M : Type 1} → statement M

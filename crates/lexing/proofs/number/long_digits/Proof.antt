@@ -4,21 +4,21 @@ use native.Mathlib.Omega.{arith}
 use lib.ListN.{length, drop}
 use borrow.Author.Tests.{not-true, not-false}
 use Rattle.reading.specs.Number.{value_of, digits, below}
-use Rattle.lexing.specs.Quads.{asMag, as_wide, Fit}
-use Rattle.lexing.proofs.Lexing.Digits.{digitsFrom, digits-none, digits-some, from_end, from-bad, from_more, from-over, digit-range}
+use Rattle.lexing.specs.Quads.{as_mag, as_wide, Fit}
+use Rattle.lexing.proofs.Lexing.Digits.{digits_from, digits-none, digits-some, from_end, from_bad, from_more, from_over, digit_range}
 use Rattle.lexing.proofs.Lexing.Limbs.{grown-value, grown-over}
-use Rattle.lexing.proofs.Lexing.Mags.{mag-none, mag_is}
+use Rattle.lexing.proofs.Lexing.Mags.{mag_none, mag_is}
 use Rattle.lexing.proofs.number.long_digits.Statement.{statement}
 use Rattle.lexing.proofs.number.long_digits.Tie as tie
 
 abbrev invariant-loop : tie.invariant-loop
-invariant-loop t base q₀ i₀ q i = (i ≤ length t) × Fit (as_wide q) × (below (2 ^ 128) (digits base t) ≡ below (2 ^ 128) (digitsFrom base (value_of (as_wide q)) (drop i t)))
+invariant-loop t base q₀ i₀ q i = (i ≤ length t) × Fit (as_wide q) × (below (2 ^ 128) (digits base t) ≡ below (2 ^ 128) (digits_from base (value_of (as_wide q)) (drop i t)))
 
 abbrev decreases-loop : tie.decreases-loop
 decreases-loop t base q₀ i₀ q i = length t - i
 
 returns : tie.Need-returns invariant-loop decreases-loop
-returns c = mag-none _ (digits-none _ _ c.if1.true)
+returns c = mag_none _ (digits-none _ _ c.if1.true)
 
 loop-holds : tie.Need-loop-init invariant-loop decreases-loop
 unfolding value_of
@@ -34,16 +34,16 @@ is-digit-requires : tie.Need-is-digit-requires invariant-loop decreases-loop
 is-digit-requires c κs = omega arith
 
 returns-2 : tie.Need-returns-2 invariant-loop decreases-loop
-returns-2 c = mag-none _ (from-bad c.before.before.before.before.before.before.before.before.args.t.now c.before.before.before.before.before.loop.i _ (value_of (as_wide c.before.before.before.before.before.loop.q)) (omega arith) c.before.before.byte-to-long.result c.before.before.byte-to-long.ensures.0 (sym c.before.is_digit.ensures ∙ not-true _ c.if2.true)) ∙ sym (ap asMag c.before.before.before.before.before.loop.invariant.2)
+returns-2 c = mag_none _ (from_bad c.before.before.before.before.before.before.before.before.args.t.now c.before.before.before.before.before.loop.i _ (value_of (as_wide c.before.before.before.before.before.loop.q)) (omega arith) c.before.before.byte-to-long.result c.before.before.byte-to-long.ensures.0 (sym c.before.is_digit.ensures ∙ not-true _ c.if2.true)) ∙ sym (ap as_mag c.before.before.before.before.before.loop.invariant.2)
 
 sub-grow : tie.Need-overflow-sub-grow invariant-loop decreases-loop
-sub-grow c = omega (arith, digit-range c.before.before.before.before.before.before.before.before.args.base c.before.before.byte-to-long.result (sym c.before.is_digit.ensures ∙ not-false _ c.if2.false))
+sub-grow c = omega (arith, digit_range c.before.before.before.before.before.before.before.before.args.base c.before.before.byte-to-long.result (sym c.before.is_digit.ensures ∙ not-false _ c.if2.false))
 
 grow-requires : tie.Need-grow-requires invariant-loop decreases-loop
-grow-requires c κs = omega (arith, digit-range c.before.before.before.before.before.before.before.before.args.base c.before.before.byte-to-long.result (sym c.before.is_digit.ensures ∙ not-false _ c.if2.false))
+grow-requires c κs = omega (arith, digit_range c.before.before.before.before.before.before.before.before.args.base c.before.before.byte-to-long.result (sym c.before.is_digit.ensures ∙ not-false _ c.if2.false))
 
 returns-3 : tie.Need-returns-3 invariant-loop decreases-loop
-returns-3 c = sym (ap asMag (c.before.before.before.before.before.before.before.before.loop.invariant.2 ∙ ap (below (2 ^ 128)) (from_more c.before.before.before.before.before.before.before.before.before.before.before.args.t.now c.before.before.before.before.before.before.before.before.loop.i _ (value_of (as_wide c.before.before.before.before.before.before.before.before.loop.q)) (omega arith) c.before.before.before.before.before.byte-to-long.result c.before.before.before.before.before.byte-to-long.ensures.0 (sym c.before.before.before.before.is_digit.ensures ∙ not-false _ c.before.before.before.if2.false)) ∙ from-over _ (2 ^ 128) _ _ (omega arith) (grown-over _ _ _ _ _ c.before.before.grow.ensures c.if3.true)))
+returns-3 c = sym (ap as_mag (c.before.before.before.before.before.before.before.before.loop.invariant.2 ∙ ap (below (2 ^ 128)) (from_more c.before.before.before.before.before.before.before.before.before.before.before.args.t.now c.before.before.before.before.before.before.before.before.loop.i _ (value_of (as_wide c.before.before.before.before.before.before.before.before.loop.q)) (omega arith) c.before.before.before.before.before.byte-to-long.result c.before.before.before.before.before.byte-to-long.ensures.0 (sym c.before.before.before.before.is_digit.ensures ∙ not-false _ c.before.before.before.if2.false)) ∙ from_over _ (2 ^ 128) _ _ (omega arith) (grown-over _ _ _ _ _ c.before.before.grow.ensures c.if3.true)))
 
 add-i : tie.Need-overflow-add-i invariant-loop decreases-loop
 add-i c = omega arith
@@ -57,7 +57,7 @@ loop-again c =
     (omega arith, c.before.before.before.grow.ensures.fit, rw next (c.before.before.before.before.before.before.before.before.before.loop.invariant.2 ∙ ap (below (2 ^ 128)) (from_more c.before.before.before.before.before.before.before.before.before.before.before.before.args.t.now c.before.before.before.before.before.before.before.before.before.loop.i _ (value_of (as_wide c.before.before.before.before.before.before.before.before.before.loop.q)) (omega arith) c.before.before.before.before.before.before.byte-to-long.result c.before.before.before.before.before.before.byte-to-long.ensures.0 (sym c.before.before.before.before.before.is_digit.ensures ∙ not-false _ c.before.before.before.before.if2.false))))
 
 returns-4 : tie.Need-returns-4 invariant-loop decreases-loop
-returns-4 c = mag_is _ _ c.before.loop.invariant.1 (from_end c.before.before.before.before.args.t.now c.before.loop.i _ (value_of (as_wide c.before.loop.q)) (omega arith)) ∙ sym (ap asMag c.before.loop.invariant.2)
+returns-4 c = mag_is _ _ c.before.loop.invariant.1 (from_end c.before.before.before.before.args.t.now c.before.loop.i _ (value_of (as_wide c.before.loop.q)) (omega arith)) ∙ sym (ap as_mag c.before.loop.invariant.2)
 
 pub long-digits-spec : {M : Type 1} → statement M
 long-digits-spec =

@@ -3,7 +3,7 @@ use native.Mathlib.Omega.{arith}
 use Rattle.reading.specs.Number.{digits}
 use Rattle.lexing.specs.Quads.{QuickOf}
 use Rattle.lexing.specs.declared.number.Quick.{Quick}
-use Rattle.lexing.proofs.Lexing.Mags.{mag-none, mag-small}
+use Rattle.lexing.proofs.Lexing.Mags.{mag_none, mag_small}
 use borrow.Author.Rules.{rules}
 use Rattle.lexing.proofs.number.magnitude.Statement.{statement}
 use Rattle.lexing.proofs.number.magnitude.Tie as tie
@@ -27,10 +27,10 @@ long-digits-requires : tie.Need-long-digits-requires
 long-digits-requires c κs = search rules
 
 returns : tie.Need-returns
-returns c = mag-small _ _ _ (omega arith) c.quad-of.ensures (subst (λ (r : Quick). QuickOf r (digits c.before.before.before.before.before.before.args.base c.before.before.before.before.before.before.args.t.now)) c.before.before.n.given.1 c.before.before.before.before.short-digits.ensures)
+returns c = mag_small _ _ _ (omega arith) c.quad-of.ensures (subst (λ (r : Quick). QuickOf r (digits c.before.before.before.before.before.before.args.base c.before.before.before.before.before.before.args.t.now)) c.before.before.n.given.1 c.before.before.before.before.short-digits.ensures)
 
 returns-2 : tie.Need-returns-2
-returns-2 c = mag-none _ (subst (λ (r : Quick). QuickOf r (digits c.before.before.before.before.args.base c.before.before.before.before.args.t.now)) c.enum_told.given.1 c.before.before.short-digits.ensures)
+returns-2 c = mag_none _ (subst (λ (r : Quick). QuickOf r (digits c.before.before.before.before.args.base c.before.before.before.before.args.t.now)) c.enum_told.given.1 c.before.before.short-digits.ensures)
 
 returns-3 : tie.Need-returns-3
 returns-3 c = search rules

@@ -4,12 +4,12 @@ use native.Mathlib.Omega.{arith}
 use lib.ListN.{length, drop}
 use borrow.Author.Tests.{not-true, not-false}
 use Rattle.reading.specs.Number.{digits}
-use Rattle.lexing.proofs.Lexing.Digits.{digitsFrom, digits-none, digits-some, from_end, from-bad, from_more, digit-range, base-times}
+use Rattle.lexing.proofs.Lexing.Digits.{digits_from, digits-none, digits-some, from_end, from_bad, from_more, digit_range, base_times}
 use Rattle.lexing.proofs.number.short_digits.Statement.{statement}
 use Rattle.lexing.proofs.number.short_digits.Tie as tie
 
 abbrev invariant-loop : tie.invariant-loop
-invariant-loop t base v₀ i₀ v i = (i ≤ length t) × (digits base t ≡ digitsFrom base v (drop i t))
+invariant-loop t base v₀ i₀ v i = (i ≤ length t) × (digits base t ≡ digits_from base v (drop i t))
 
 abbrev decreases-loop : tie.decreases-loop
 decreases-loop t base v₀ i₀ v i = length t - i
@@ -30,19 +30,19 @@ is-digit-requires : tie.Need-is-digit-requires invariant-loop decreases-loop
 is-digit-requires c κs = omega arith
 
 returns-2 : tie.Need-returns-2 invariant-loop decreases-loop
-returns-2 c = c.before.before.before.before.before.loop.invariant.1 ∙ from-bad _ c.before.before.before.before.before.loop.i _ c.before.before.before.before.before.loop.v (omega arith) c.before.before.byte-to-long.result c.before.before.byte-to-long.ensures.0 (sym c.before.is_digit.ensures ∙ not-true _ c.if2.true)
+returns-2 c = c.before.before.before.before.before.loop.invariant.1 ∙ from_bad _ c.before.before.before.before.before.loop.i _ c.before.before.before.before.before.loop.v (omega arith) c.before.before.byte-to-long.result c.before.before.byte-to-long.ensures.0 (sym c.before.is_digit.ensures ∙ not-true _ c.if2.true)
 
 returns-3 : tie.Need-returns-3 invariant-loop decreases-loop
 returns-3 c = tt
 
 mul-v : tie.Need-overflow-mul-v invariant-loop decreases-loop
-mul-v c = omega (arith, digit-range c.before.before.before.before.before.before.before.before.before.args.base c.before.before.before.byte-to-long.result (sym c.before.before.is_digit.ensures ∙ not-false _ c.before.if2.false), base-times c.before.before.before.before.before.before.before.before.before.args.base c.before.before.before.before.before.before.loop.v (omega arith))
+mul-v c = omega (arith, digit_range c.before.before.before.before.before.before.before.before.before.args.base c.before.before.before.byte-to-long.result (sym c.before.before.is_digit.ensures ∙ not-false _ c.before.if2.false), base_times c.before.before.before.before.before.before.before.before.before.args.base c.before.before.before.before.before.before.loop.v (omega arith))
 
 sub-v : tie.Need-overflow-sub-v invariant-loop decreases-loop
-sub-v c = omega (arith, digit-range c.before.before.before.before.before.before.before.before.before.args.base c.before.before.before.byte-to-long.result (sym c.before.before.is_digit.ensures ∙ not-false _ c.before.if2.false), base-times c.before.before.before.before.before.before.before.before.before.args.base c.before.before.before.before.before.before.loop.v (omega arith))
+sub-v c = omega (arith, digit_range c.before.before.before.before.before.before.before.before.before.args.base c.before.before.before.byte-to-long.result (sym c.before.before.is_digit.ensures ∙ not-false _ c.before.if2.false), base_times c.before.before.before.before.before.before.before.before.before.args.base c.before.before.before.before.before.before.loop.v (omega arith))
 
 add-v : tie.Need-overflow-add-v invariant-loop decreases-loop
-add-v c = omega (arith, digit-range c.before.before.before.before.before.before.before.before.before.args.base c.before.before.before.byte-to-long.result (sym c.before.before.is_digit.ensures ∙ not-false _ c.before.if2.false), base-times c.before.before.before.before.before.before.before.before.before.args.base c.before.before.before.before.before.before.loop.v (omega arith))
+add-v c = omega (arith, digit_range c.before.before.before.before.before.before.before.before.before.args.base c.before.before.before.byte-to-long.result (sym c.before.before.is_digit.ensures ∙ not-false _ c.before.if2.false), base_times c.before.before.before.before.before.before.before.before.before.args.base c.before.before.before.before.before.before.loop.v (omega arith))
 
 add-i : tie.Need-overflow-add-i invariant-loop decreases-loop
 add-i c = omega arith

@@ -2,7 +2,7 @@ use Prim.Native.Nat.{ℕ, ◌^◌}
 use mathlib.Core.Path.{ap, ◌∙◌}
 use mathlib.Core.List.{List}
 use Rattle.reading.specs.Number.{digits, below, unsigned}
-use Rattle.lexing.specs.Quads.{asMag}
+use Rattle.lexing.specs.Quads.{as_mag}
 use Rattle.lexing.proofs.Lexing.Parts.{tail_at}
 use borrow.Author.Rules.{rules}
 use Rattle.lexing.proofs.number.unsigned.Statement.{statement}
@@ -27,7 +27,7 @@ returns : tie.Need-returns
 unfolding unsigned
 returns c =
     let a = c.before.before.before.before.args in
-    c.magnitude.ensures ∙ ap (λ (s : List ℕ). asMag (below (2 ^ 128) (digits a.base s))) (tail_at a.t.now _ _ c.before.before.plus-bytes.ensures.0)
+    c.magnitude.ensures ∙ ap (λ (s : List ℕ). as_mag (below (2 ^ 128) (digits a.base s))) (tail_at a.t.now _ _ c.before.before.plus-bytes.ensures.0)
 
 pub unsigned-spec : {M : Type 1} → statement M
 unsigned-spec =

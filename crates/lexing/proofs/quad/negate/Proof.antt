@@ -1,5 +1,5 @@
 use mathlib.Core.Path.{ap}
-use Rattle.lexing.specs.Quads.{asQuad, as_wide}
+use Rattle.lexing.specs.Quads.{as_quad, as_wide}
 use Rattle.lexing.proofs.Lexing.Limbs.{flipped}
 use borrow.Author.Rules.{rules}
 use Rattle.lexing.proofs.quad.negate.Statement.{statement}
@@ -23,7 +23,7 @@ returns c =
     let y = c.before.before.flip2 in
     let z = c.before.flip3 in
     let w = c.flip4 in
-    ap asQuad (flipped (as_wide c.before.before.before.before.args.q) (record { a = x.result.lo; b = y.result.lo; c = z.result.lo; d = w.result.lo }) _ _ _ _ (record { a = x.ensures.2; b = y.ensures.2; c = z.ensures.2; d = w.ensures.2 }) w.ensures.1 x.ensures.0 y.ensures.0 z.ensures.0 w.ensures.0)
+    ap as_quad (flipped (as_wide c.before.before.before.before.args.q) (record { a = x.result.lo; b = y.result.lo; c = z.result.lo; d = w.result.lo }) _ _ _ _ (record { a = x.ensures.2; b = y.ensures.2; c = z.ensures.2; d = w.ensures.2 }) w.ensures.1 x.ensures.0 y.ensures.0 z.ensures.0 w.ensures.0)
 
 pub negate-spec : {M : Type 1} → statement M
 negate-spec =

@@ -1,6 +1,6 @@
 use mathlib.Core.Path.{ap}
 use native.Mathlib.Omega.{arith}
-use Rattle.lexing.specs.Quads.{asQuad}
+use Rattle.lexing.specs.Quads.{as_quad}
 use Rattle.lexing.proofs.Lexing.Limbs.{wide-small}
 use borrow.Author.Rules.{rules}
 use Rattle.lexing.proofs.quad.quad_of.Statement.{statement}
@@ -13,7 +13,7 @@ cast-t5 : tie.Need-overflow-cast-t5
 cast-t5 c = search rules
 
 returns : tie.Need-returns
-returns c = ap asQuad (wide-small _ (omega arith))
+returns c = ap as_quad (wide-small _ (omega arith))
 
 pub quad-of-spec : {M : Type 1} → statement M
 quad-of-spec = tie.close (tie.spec cast-t3 cast-t5 returns)

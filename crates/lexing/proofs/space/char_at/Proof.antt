@@ -1,5 +1,5 @@
 use native.Mathlib.Omega.{arith}
-use Rattle.lexing.proofs.Lexing.White.{char-one, char-two, char-three, char-four}
+use Rattle.lexing.proofs.Lexing.White.{char_one, char_two, char_three, char_four}
 use borrow.Author.Rules.{rules}
 use Rattle.lexing.proofs.space.char_at.Statement.{statement}
 use Rattle.lexing.proofs.space.char_at.Tie as tie
@@ -8,7 +8,7 @@ byte-at-requires : tie.Need-byte-at-requires
 byte-at-requires c κs = search rules
 
 returns : tie.Need-returns
-returns c = char-one _ c.before.before.before.args.at _ c.before.byte_at.ensures.0 c.if1.true
+returns c = char_one _ c.before.before.before.args.at _ c.before.byte_at.ensures.0 c.if1.true
 
 add-byte-at : tie.Need-overflow-add-byte-at
 add-byte-at c = search rules
@@ -23,7 +23,7 @@ add-result : tie.Need-overflow-add-result
 add-result c = search rules
 
 returns-2 : tie.Need-returns-2
-returns-2 c = char-two _ c.before.before.before.before.before.args.at _ c.before.before.before.byte_at.ensures.0 _ c.before.byte-at2.ensures.0 (omega arith) (omega arith)
+returns-2 c = char_two _ c.before.before.before.before.before.args.at _ c.before.before.before.byte_at.ensures.0 _ c.before.byte-at2.ensures.0 (omega arith) (omega arith)
 
 add-byte-at-2 : tie.Need-overflow-add-byte-at-2
 add-byte-at-2 c = search rules
@@ -44,7 +44,7 @@ add-result-3 : tie.Need-overflow-add-result-3
 add-result-3 c = search rules
 
 returns-3 : tie.Need-returns-3
-returns-3 c = char-three _ c.before.before.before.before.before.before.before.args.at _ c.before.before.before.before.before.byte_at.ensures.0 _ _ c.before.before.before.byte-at2.ensures.0 c.before.byte-at3.ensures.0 (omega arith) (omega arith)
+returns-3 c = char_three _ c.before.before.before.before.before.before.before.args.at _ c.before.before.before.before.before.byte_at.ensures.0 _ _ c.before.before.before.byte-at2.ensures.0 c.before.byte-at3.ensures.0 (omega arith) (omega arith)
 
 add-byte-at-3 : tie.Need-overflow-add-byte-at-3
 add-byte-at-3 c = search rules
@@ -71,7 +71,7 @@ add-result-6 : tie.Need-overflow-add-result-6
 add-result-6 c = search rules
 
 returns-4 : tie.Need-returns-4
-returns-4 c = char-four _ c.before.before.before.before.before.before.before.before.args.at _ c.before.before.before.before.before.before.byte_at.ensures.0 _ _ _ c.before.before.before.before.byte-at2.ensures.0 c.before.before.byte-at3.ensures.0 c.byte-at4.ensures.0 (omega arith)
+returns-4 c = char_four _ c.before.before.before.before.before.before.before.before.args.at _ c.before.before.before.before.before.before.byte_at.ensures.0 _ _ _ c.before.before.before.before.byte-at2.ensures.0 c.before.before.byte-at3.ensures.0 c.byte-at4.ensures.0 (omega arith)
 
 pub char-at-spec : {M : Type 1} → statement M
 char-at-spec =

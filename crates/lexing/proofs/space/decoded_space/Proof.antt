@@ -1,5 +1,5 @@
 use mathlib.Core.Path.{sym, ap, ◌∙◌}
-use Rattle.reading.specs.Space.{isWhite}
+use Rattle.reading.specs.Space.{is_white}
 use Rattle.lexing.proofs.Lexing.White.{space-white, space-short, space-other}
 use borrow.Author.Rules.{rules}
 use Rattle.lexing.proofs.space.decoded_space.Statement.{statement}
@@ -24,10 +24,10 @@ is-white-requires : tie.Need-is-white-requires
 is-white-requires c κs = search rules
 
 returns-2 : tie.Need-returns-2
-returns-2 c = space-white _ c.before.before.before.before.before.before.before.args.at _ c.before.before.before.before.char-bytes.ensures c.before.before.before.if1.false (sym c.if2.true ∙ c.before.is_white.ensures ∙ ap isWhite c.before.before.char-at.ensures)
+returns-2 c = space-white _ c.before.before.before.before.before.before.before.args.at _ c.before.before.before.before.char-bytes.ensures c.before.before.before.if1.false (sym c.if2.true ∙ c.before.is_white.ensures ∙ ap is_white c.before.before.char-at.ensures)
 
 returns-3 : tie.Need-returns-3
-returns-3 c = space-other _ (sym c.if2.false ∙ c.before.is_white.ensures ∙ ap isWhite c.before.before.char-at.ensures)
+returns-3 c = space-other _ (sym c.if2.false ∙ c.before.is_white.ensures ∙ ap is_white c.before.before.char-at.ensures)
 
 pub decoded-space-spec : {M : Type 1} → statement M
 decoded-space-spec =

@@ -1,5 +1,5 @@
 use mathlib.Core.Path.{refl}
-use Rattle.lexing.proofs.Lexing.White.{between, ends_open, ends_close, ends-quote, ends-other, ends-blank, ends-graphic}
+use Rattle.lexing.proofs.Lexing.White.{between, ends_open, ends_close, ends-quote, ends-other, ends-blank, ends_graphic}
 use borrow.Author.Rules.{rules}
 use Rattle.lexing.proofs.space.ends_atom.Statement.{statement}
 use Rattle.lexing.proofs.space.ends_atom.Tie as tie
@@ -10,7 +10,7 @@ shared-slice-read-b c = search rules
 returns : tie.Need-returns
 returns c =
     let b = between _ _ _ c.if1.true in
-    ends-graphic _ c.before.before.before.args.at _ refl c.before.before.before.requires b.0 b.1
+    ends_graphic _ c.before.before.before.args.at _ refl c.before.before.before.requires b.0 b.1
 
 returns-2 : tie.Need-returns-2
 returns-2 c = ends-blank _ c.before.before.before.before.args.at _ refl c.before.before.before.before.requires c.if2.true

@@ -1,6 +1,6 @@
 use mathlib.Core.Path.{refl, sym, ◌∙◌}
 use native.Mathlib.Omega.{arith}
-use Rattle.lexing.proofs.Lexing.White.{between, white-ascii, space-blank, space-ascii, space-graphic, space-middle, space-two, space-three}
+use Rattle.lexing.proofs.Lexing.White.{between, white-ascii, space-blank, space-ascii, space_graphic, space_middle, space-two, space-three}
 use borrow.Author.Rules.{rules}
 use Rattle.lexing.proofs.space.space_bytes.Statement.{statement}
 use Rattle.lexing.proofs.space.space_bytes.Tie as tie
@@ -14,7 +14,7 @@ returns c = space-blank _ c.before.before.before.args.at _ refl c.before.before.
 returns-2 : tie.Need-returns-2
 returns-2 c =
     let b = between _ _ _ c.if2.true in
-    space-graphic _ c.before.before.before.before.args.at _ refl c.before.before.before.before.requires b.1 (white-ascii _ b.0 b.1)
+    space_graphic _ c.before.before.before.before.args.at _ refl c.before.before.before.before.requires b.1 (white-ascii _ b.0 b.1)
 
 white-byte-requires : tie.Need-white-byte-requires
 white-byte-requires c κs = search rules
@@ -23,10 +23,10 @@ returns-3 : tie.Need-returns-3
 returns-3 c = space-ascii _ c.before.before.before.before.before.before.before.args.at _ refl c.before.before.before.before.before.before.before.requires c.before.before.if3.true (sym c.if4.true ∙ c.before.white-byte.ensures)
 
 returns-4 : tie.Need-returns-4
-returns-4 c = space-graphic _ c.before.before.before.before.before.before.before.args.at _ refl c.before.before.before.before.before.before.before.requires c.before.before.if3.true (sym c.if4.false ∙ c.before.white-byte.ensures)
+returns-4 c = space_graphic _ c.before.before.before.before.before.before.before.args.at _ refl c.before.before.before.before.before.before.before.requires c.before.before.if3.true (sym c.if4.false ∙ c.before.white-byte.ensures)
 
 returns-5 : tie.Need-returns-5
-returns-5 c = space-middle _ c.before.before.before.before.before.before.args.at _ refl c.before.before.before.before.before.before.requires (omega arith) (omega arith)
+returns-5 c = space_middle _ c.before.before.before.before.before.before.args.at _ refl c.before.before.before.before.before.before.requires (omega arith) (omega arith)
 
 decoded-space-requires : tie.Need-decoded-space-requires
 decoded-space-requires c κs = search rules

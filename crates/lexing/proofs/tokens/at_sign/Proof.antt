@@ -1,4 +1,4 @@
-use Rattle.lexing.proofs.Lexing.Leaves.{symbol-open, symbol-leaf}
+use Rattle.lexing.proofs.Lexing.Leaves.{symbol_open, symbol-leaf}
 use borrow.Author.Rules.{rules}
 use Rattle.lexing.proofs.tokens.at_sign.Statement.{statement}
 use Rattle.lexing.proofs.tokens.at_sign.Tie as tie
@@ -10,7 +10,7 @@ find-requires : tie.Need-find-requires
 find-requires c κs = search rules
 
 returns : tie.Need-returns
-returns c = symbol-open _ c.before.before.before.args.at _ c.before.find.ensures.0 c.if1.true
+returns c = symbol_open _ c.before.before.before.args.at _ c.before.find.ensures.0 c.if1.true
 
 add-spanned : tie.Need-overflow-add-spanned
 add-spanned c = search rules

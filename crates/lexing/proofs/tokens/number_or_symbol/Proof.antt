@@ -1,7 +1,7 @@
 use mathlib.Core.Path.{sym, ap, ◌∙◌}
-use Rattle.lexing.specs.Quads.{asInteger}
+use Rattle.lexing.specs.Quads.{as_integer}
 use Rattle.lexing.proofs.Lexing.Leaves.{coded-integer, coded-decimal, coded-symbol}
-use Rattle.lexing.proofs.Lexing.Letters.{letter-integer, letter-decimal}
+use Rattle.lexing.proofs.Lexing.Letters.{letter_integer, letter_decimal}
 use borrow.Author.Rules.{rules}
 use Rattle.lexing.proofs.tokens.number_or_symbol.Statement.{statement}
 use Rattle.lexing.proofs.tokens.number_or_symbol.Tie as tie
@@ -13,7 +13,7 @@ spanned-requires : tie.Need-spanned-requires
 spanned-requires c κs = search rules
 
 returns : tie.Need-returns
-returns c = c.spanned.ensures ∙ coded-symbol _ _ _ (ap asInteger (letter-integer _ c.before.if2.true)) (letter-decimal _ c.before.if2.true)
+returns c = c.spanned.ensures ∙ coded-symbol _ _ _ (ap as_integer (letter_integer _ c.before.if2.true)) (letter_decimal _ c.before.if2.true)
 
 integer-requires : tie.Need-integer-requires
 integer-requires c κs = search rules

@@ -1,4 +1,4 @@
-use Rattle.lexing.proofs.Lexing.Leaves.{quoted-open, quoted-leaf}
+use Rattle.lexing.proofs.Lexing.Leaves.{quoted_open, quoted-leaf}
 use borrow.Author.Rules.{rules}
 use Rattle.lexing.proofs.tokens.quoted.Statement.{statement}
 use Rattle.lexing.proofs.tokens.quoted.Tie as tie
@@ -10,7 +10,7 @@ find-requires : tie.Need-find-requires
 find-requires c κs = search rules
 
 returns : tie.Need-returns
-returns c = quoted-open _ c.before.before.before.args.at _ c.before.find.ensures.0 c.if1.true
+returns c = quoted_open _ c.before.before.before.args.at _ c.before.find.ensures.0 c.if1.true
 
 add-spanned : tie.Need-overflow-add-spanned
 add-spanned c = search rules

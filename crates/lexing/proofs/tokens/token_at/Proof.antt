@@ -1,10 +1,10 @@
 use mathlib.Core.Path.{refl, ap, ◌∙◌}
 use native.Mathlib.Omega.{arith}
 use lib.ListN.{drop, length-drop}
-use Rattle.reading.specs.Token.{tokenAt}
-use Rattle.lexing.specs.TokenWords.{asToken}
-use Rattle.reading.proofs.Picks.{pick-eq, pick-ne}
-use Rattle.reading.proofs.Token.{space-le}
+use Rattle.reading.specs.Token.{token_at}
+use Rattle.lexing.specs.TokenWords.{as_token}
+use Rattle.reading.proofs.Picks.{pick_eq, pick_ne}
+use Rattle.reading.proofs.Token.{space_le}
 use Rattle.lexing.proofs.Lexing.Leaves.{token-blank, token-leaf}
 use borrow.Author.Rules.{rules}
 use Rattle.lexing.proofs.tokens.token_at.Statement.{statement}
@@ -14,26 +14,26 @@ shared-slice-read-b : tie.Need-shared-slice-read-b
 shared-slice-read-b c = search rules
 
 returns : tie.Need-returns
-unfolding tokenAt
-returns c = ap (asToken _) (pick-eq _ c.if1.true refl)
+unfolding token_at
+returns c = ap (as_token _) (pick_eq _ c.if1.true refl)
 
 returns-2 : tie.Need-returns-2
-unfolding tokenAt
-returns-2 c = ap (asToken _) (pick-ne _ c.before.if1.false (pick-eq _ c.if2.true refl))
+unfolding token_at
+returns-2 c = ap (as_token _) (pick_ne _ c.before.if1.false (pick_eq _ c.if2.true refl))
 
 quoted-requires : tie.Need-quoted-requires
 quoted-requires c κs = search rules
 
 returns-3 : tie.Need-returns-3
-unfolding tokenAt
-returns-3 c = c.quoted.ensures ∙ ap (asToken _) (pick-ne _ c.before.before.before.if1.false (pick-ne _ c.before.before.if2.false (pick-eq _ c.before.if3.true refl)))
+unfolding token_at
+returns-3 c = c.quoted.ensures ∙ ap (as_token _) (pick_ne _ c.before.before.before.if1.false (pick_ne _ c.before.before.if2.false (pick_eq _ c.before.if3.true refl)))
 
 at-sign-requires : tie.Need-at-sign-requires
 at-sign-requires c κs = search rules
 
 returns-4 : tie.Need-returns-4
-unfolding tokenAt
-returns-4 c = c.at_sign.ensures ∙ ap (asToken _) (pick-ne _ c.before.before.before.before.if1.false (pick-ne _ c.before.before.before.if2.false (pick-ne _ c.before.before.if3.false (pick-eq _ c.before.if4.true refl))))
+unfolding token_at
+returns-4 c = c.at_sign.ensures ∙ ap (as_token _) (pick_ne _ c.before.before.before.before.if1.false (pick_ne _ c.before.before.before.if2.false (pick_ne _ c.before.before.if3.false (pick_eq _ c.before.if4.true refl))))
 
 space-bytes-requires : tie.Need-space-bytes-requires
 space-bytes-requires c κs = search rules
@@ -41,7 +41,7 @@ space-bytes-requires c κs = search rules
 add-t11 : tie.Need-overflow-add-t11
 add-t11 c =
     let a = c.before.before.before.before.before.before.before.before.args in
-    omega (arith, c.before.space-bytes.ensures, space-le (drop a.at a.text.now), length-drop a.at a.text.now)
+    omega (arith, c.before.space-bytes.ensures, space_le (drop a.at a.text.now), length-drop a.at a.text.now)
 
 returns-5 : tie.Need-returns-5
 returns-5 c = token-blank _ c.before.before.before.before.before.before.before.before.args.at c.before.before.before.before.before.before.before.before.requires.1 _ c.before.space-bytes.ensures c.before.before.before.before.before.if1.false c.before.before.before.before.if2.false c.before.before.before.if3.false c.before.before.if4.false c.if5.true

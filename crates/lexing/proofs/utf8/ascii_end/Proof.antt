@@ -2,13 +2,13 @@ use Prim.Native.Nat.{◌-◌, ◌≤◌}
 use mathlib.Core.Path.{◌≡◌, refl, ◌∙◌}
 use native.Mathlib.Omega.{arith}
 use lib.ListN.{length, drop}
-use Rattle.reading.specs.Utf8.{first, wellFormed}
+use Rattle.reading.specs.Utf8.{first, well_formed}
 use Rattle.lexing.proofs.Lexing.WellFormed.{formed-ascii}
 use Rattle.lexing.proofs.utf8.ascii_end.Statement.{statement}
 use Rattle.lexing.proofs.utf8.ascii_end.Tie as tie
 
 abbrev invariant-loop : tie.invariant-loop
-invariant-loop text from i₀ i = (from ≤ i) × (i ≤ length text) × (wellFormed first (drop from text) ≡ wellFormed first (drop i text))
+invariant-loop text from i₀ i = (from ≤ i) × (i ≤ length text) × (well_formed first (drop from text) ≡ well_formed first (drop i text))
 
 abbrev decreases-loop : tie.decreases-loop
 decreases-loop text from i₀ i = length text - i

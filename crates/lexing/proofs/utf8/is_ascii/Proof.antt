@@ -3,13 +3,13 @@ use mathlib.Core.Path.{◌≡◌, refl, sym, ap, ◌∙◌}
 use mathlib.Core.Bool.{Bool, ◌&&◌, and-true, and_assoc}
 use native.Mathlib.Omega.{arith}
 use lib.ListN.{length, drop}
-use Rattle.lexing.specs.Next.{allAscii}
+use Rattle.lexing.specs.Next.{all_ascii}
 use Rattle.lexing.proofs.Lexing.WellFormed.{ascii-end, ascii_more}
 use Rattle.lexing.proofs.utf8.is_ascii.Statement.{statement}
 use Rattle.lexing.proofs.utf8.is_ascii.Tie as tie
 
 abbrev invariant-loop : tie.invariant-loop
-invariant-loop text all₀ i₀ all i = (i ≤ length text) × (allAscii text ≡ (all && allAscii (drop i text)))
+invariant-loop text all₀ i₀ all i = (i ≤ length text) × (all_ascii text ≡ (all && all_ascii (drop i text)))
 
 abbrev decreases-loop : tie.decreases-loop
 decreases-loop text all₀ i₀ all i = length text - i

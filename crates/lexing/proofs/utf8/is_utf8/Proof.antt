@@ -2,14 +2,14 @@ use Prim.Native.Nat.{◌-◌, ◌≤◌}
 use mathlib.Core.Path.{◌≡◌, sym, ◌∙◌}
 use native.Mathlib.Omega.{arith}
 use lib.ListN.{length, drop}
-use Rattle.reading.specs.Utf8.{first, wellFormed, utf8}
+use Rattle.reading.specs.Utf8.{first, well_formed, utf8}
 use Rattle.lexing.proofs.Lexing.WellFormed.{formed-end, ends-false, ends-first, ascii-formed}
 use borrow.Author.Rules.{rules}
 use Rattle.lexing.proofs.utf8.is_utf8.Statement.{statement}
 use Rattle.lexing.proofs.utf8.is_utf8.Tie as tie
 
 abbrev invariant-loop : tie.invariant-loop
-invariant-loop text i₀ i = (i ≤ length text) × (wellFormed first text ≡ wellFormed first (drop i text))
+invariant-loop text i₀ i = (i ≤ length text) × (well_formed first text ≡ well_formed first (drop i text))
 
 abbrev decreases-loop : tie.decreases-loop
 decreases-loop text i₀ i = length text - i

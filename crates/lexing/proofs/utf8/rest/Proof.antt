@@ -2,13 +2,13 @@ use Prim.Native.Nat.{◌+◌, ◌-◌, ◌≤◌}
 use mathlib.Core.Path.{◌≡◌, refl, ap, ◌∙◌}
 use native.Mathlib.Omega.{arith}
 use lib.ListN.{length, drop}
-use Rattle.reading.specs.Utf8.{Expected, inside, wellFormed}
-use Rattle.lexing.proofs.Lexing.WellFormed.{formed-low, formed-high, formed-within, formed-end, come-none, come-more, ends-not, ends-before}
+use Rattle.reading.specs.Utf8.{Expected, inside, well_formed}
+use Rattle.lexing.proofs.Lexing.WellFormed.{formed-low, formed-high, formed-within, formed-end, come_none, come_more, ends-not, ends-before}
 use Rattle.lexing.proofs.utf8.rest.Statement.{statement}
 use Rattle.lexing.proofs.utf8.rest.Tie as tie
 
 abbrev invariant-loop : tie.invariant-loop
-invariant-loop text from lo hi more low₀ high₀ left₀ i₀ low high left i = (from ≤ i) × (i ≤ length text) × (wellFormed (inside lo hi more) (drop from text) ≡ wellFormed (inside low high left) (drop i text))
+invariant-loop text from lo hi more low₀ high₀ left₀ i₀ low high left i = (from ≤ i) × (i ≤ length text) × (well_formed (inside lo hi more) (drop from text) ≡ well_formed (inside low high left) (drop i text))
 
 abbrev decreases-loop : tie.decreases-loop
 decreases-loop text from lo hi more low₀ high₀ left₀ i₀ low high left i = length text - i
@@ -33,7 +33,7 @@ sub-result c = omega arith
 
 returns-3 : tie.Need-returns-3 invariant-loop decreases-loop
 returns-3 c = ends-before _ _ _ (c.before.before.before.before.before.loop.i + 1) _ (omega arith) (omega arith) (omega arith) (c.before.before.before.before.before.loop.invariant.2 ∙ formed-within c.before.before.before.before.before.before.args.text.now c.before.before.before.before.before.loop.i _ _ _ (omega arith) c.before.before.if1.false c.before.if2.false
-    ∙ ap (λ (e : Expected). wellFormed e (drop (c.before.before.before.before.before.loop.i + 1) c.before.before.before.before.before.before.args.text.now)) (come-none _ c.if3.true))
+    ∙ ap (λ (e : Expected). well_formed e (drop (c.before.before.before.before.before.loop.i + 1) c.before.before.before.before.before.before.args.text.now)) (come_none _ c.if3.true))
 
 sub-left : tie.Need-overflow-sub-left invariant-loop decreases-loop
 sub-left c = omega arith
@@ -46,7 +46,7 @@ loop-again c = (
   omega arith,
   omega arith,
   c.before.before.before.before.before.loop.invariant.2 ∙ formed-within c.before.before.before.before.before.before.args.text.now c.before.before.before.before.before.loop.i _ _ _ (omega arith) c.before.before.if1.false c.before.if2.false
-      ∙ ap (λ (e : Expected). wellFormed e (drop (c.before.before.before.before.before.loop.i + 1) c.before.before.before.before.before.before.args.text.now)) (come-more _ c.if3.false),
+      ∙ ap (λ (e : Expected). well_formed e (drop (c.before.before.before.before.before.loop.i + 1) c.before.before.before.before.before.before.args.text.now)) (come_more _ c.if3.false),
 )
 
 returns-4 : tie.Need-returns-4 invariant-loop decreases-loop

@@ -1,4 +1,4 @@
-use Rattle.parse.proofs.ReadTree.{tree-in, no-tree}
+use Rattle.parse.proofs.ReadTree.{tree_in, no-tree}
 use borrow.Author.Rules.{rules}
 use Rattle.parse.proofs.tree.tree_of.Statement.{statement}
 use Rattle.parse.proofs.tree.tree_of.Tie as tie
@@ -22,7 +22,7 @@ same-length-2 : tie.Need-same-length-2
 same-length-2 c = search rules
 
 returns-2 : tie.Need-returns-2
-returns-2 c = tree-in c.before.before.before.before.before.read_one.ensures.0 c.before.before.before.before.before.read_one.ensures.1 c.before.words.given.1
+returns-2 c = tree_in c.before.before.before.before.before.read_one.ensures.0 c.before.before.before.before.before.read_one.ensures.1 c.before.words.given.1
 
 pub tree-of-spec : {M : Type 1} → statement M
 tree-of-spec =

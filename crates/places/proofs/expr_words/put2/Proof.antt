@@ -1,5 +1,5 @@
 use mathlib.Core.Path.{refl}
-use Rattle.places.proofs.Puts.{puts-2}
+use Rattle.places.proofs.Puts.{puts_2}
 use borrow.Author.Rules.{rules}
 use Rattle.places.proofs.expr_words.put2.Statement.{statement}
 use Rattle.places.proofs.expr_words.put2.Tie as tie
@@ -20,7 +20,7 @@ same_length : tie.Need-same-length
 same_length c = search rules
 
 returns : tie.Need-returns
-returns c = record { is = refl; words = puts-2 _ _ _ _ c.before.before.before.before.before.before.put.ensures c.before.before.put2.ensures }
+returns c = record { is = refl; words = puts_2 _ _ _ _ c.before.before.before.before.before.before.put.ensures c.before.before.put2.ensures }
 
 pub put2-spec : {M : Type 1} → statement M
 put2-spec = tie.close (tie.spec put-requires add-put put-requires-2 add-result same_length returns)

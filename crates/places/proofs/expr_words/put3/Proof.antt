@@ -1,5 +1,5 @@
 use mathlib.Core.Path.{refl}
-use Rattle.places.proofs.Puts.{puts-3}
+use Rattle.places.proofs.Puts.{puts_3}
 use borrow.Author.Rules.{rules}
 use Rattle.places.proofs.expr_words.put3.Statement.{statement}
 use Rattle.places.proofs.expr_words.put3.Tie as tie
@@ -26,7 +26,7 @@ same_length : tie.Need-same-length
 same_length c = search rules
 
 returns : tie.Need-returns
-returns c = record { is = refl; words = puts-3 _ _ _ _ _ c.before.before.before.before.before.before.before.before.before.before.put.ensures c.before.before.before.before.before.before.put2.ensures c.before.before.put3.ensures }
+returns c = record { is = refl; words = puts_3 _ _ _ _ _ c.before.before.before.before.before.before.before.before.before.before.put.ensures c.before.before.before.before.before.before.put2.ensures c.before.before.put3.ensures }
 
 pub put3-spec : {M : Type 1} → statement M
 put3-spec =

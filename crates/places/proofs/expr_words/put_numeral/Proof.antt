@@ -3,7 +3,7 @@ use native.Mathlib.Omega.{arith}
 use Rattle.lexing.specs.Quads.{as_wide}
 use Rattle.lexing.proofs.Lexing.Signs.{value-under, value-over}
 use Rattle.places.proofs.Numerals.{numeral-plus, numeral-minus}
-use Rattle.places.proofs.Puts.{put-append}
+use Rattle.places.proofs.Puts.{put_append}
 use borrow.Author.Rules.{rules}
 use Rattle.places.proofs.expr_words.put_numeral.Statement.{statement}
 use Rattle.places.proofs.expr_words.put_numeral.Tie as tie
@@ -30,7 +30,7 @@ same-length-2 : tie.Need-same-length-2
 same-length-2 c = search rules
 
 returns-2 : tie.Need-returns-2
-returns-2 c count = (rw (numeral-minus count (as_wide c.before.before.before.before.before.before.before.before.before.before.before.before.args.q) (value-over _ c.before.before.before.before.before.before.before.before.before.if1.false) c.before.before.before.negate.ensures) (put-append (_ ∷ []) _ c.before.before.before.before.before.before.before.put1.ensures c.before.before.put-wide2.ensures), omega (arith, c.before.before.before.before.before.before.before.put1.ensures.is, c.before.before.put-wide2.ensures.is))
+returns-2 c count = (rw (numeral-minus count (as_wide c.before.before.before.before.before.before.before.before.before.before.before.before.args.q) (value-over _ c.before.before.before.before.before.before.before.before.before.if1.false) c.before.before.before.negate.ensures) (put_append (_ ∷ []) _ c.before.before.before.before.before.before.before.put1.ensures c.before.before.put-wide2.ensures), omega (arith, c.before.before.before.before.before.before.before.put1.ensures.is, c.before.before.put-wide2.ensures.is))
 
 pub put-numeral-spec : {M : Type 1} → statement M
 put-numeral-spec =

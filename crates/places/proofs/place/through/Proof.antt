@@ -1,4 +1,4 @@
-use Rattle.places.proofs.Spots.{two-there, list-there, Inwards, in_start, in-atom, in-many, in_one}
+use Rattle.places.proofs.Spots.{two-there, list-there, Inwards, in_start, in_atom_lem, in_many, in_one}
 use Rattle.places.specs.Spot.{Spot}
 use lib.ListN.{length}
 use Prim.Native.Nat.{◌-◌}
@@ -31,7 +31,7 @@ shared-slice-read-if2 : tie.Need-shared-slice-read-if2 invariant-loop decreases-
 shared-slice-read-if2 c = omega (arith, two-there (c.before.before.before.loop.invariant c.before.before.before.before.requires).spot)
 
 returns : tie.Need-returns invariant-loop decreases-loop
-returns c s = in-many _ _ _ s _ (c.before.before.before.before.loop.invariant s) c.before.before.if1.true c.if2.true
+returns c s = in_many _ _ _ s _ (c.before.before.before.before.loop.invariant s) c.before.before.if1.true c.if2.true
 
 add-p : tie.Need-overflow-add-p invariant-loop decreases-loop
 add-p c = omega (arith, list-there (c.before.before.before.before.loop.invariant c.before.before.before.before.before.requires).spot c.before.before.if1.true)
@@ -43,7 +43,7 @@ loop-again : tie.Need-loop-preserved invariant-loop decreases-loop
 loop-again c = λ s. in_one _ _ _ s _ (c.before.before.before.before.loop.invariant s) c.before.before.if1.true c.if2.false
 
 returns-2 : tie.Need-returns-2 invariant-loop decreases-loop
-returns-2 c s = in-atom _ _ _ s _ (c.before.before.loop.invariant s) c.if1.false
+returns-2 c s = in_atom_lem _ _ _ s _ (c.before.before.loop.invariant s) c.if1.false
 
 pub through-spec : {M : Type 1} → statement M
 through-spec =

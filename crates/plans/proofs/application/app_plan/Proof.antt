@@ -1,5 +1,5 @@
 use Rattle.std.proofs.Common.{◌+◌, sym, ◌∙◌, arith, rules}
-use Rattle.plans.proofs.Applied.{ap-many, head-spot, ap-two, ap-room, ap-atom, ap-short, inner-spot, second-spot, third-small, third-spot, in-call, in-short, in-bad, in-apply}
+use Rattle.plans.proofs.Applied.{ap-many, head-spot, ap-two, ap-room, ap-atom, ap-short, inner-spot, second-spot, third-small, third-spot, in_call, in_short, in_bad, in_apply}
 use Rattle.places.proofs.Spots.{spot-within, two-there}
 use Rattle.places.proofs.Inside.{node-list, node-other}
 use Rattle.places.proofs.SortPlace.{got-at, bad-at}
@@ -70,7 +70,7 @@ returns-3 c t us h =
     let two = c.before.before.before.before.before.before.if1.false in
     let js = c.before.before.before.words-at2.ensures (inner-spot h n two) in
     let x = sym (c.before.before.is-apply.ensures (second-spot h n two js)) ∙ c.before.if2.true in
-    in-short h n two js x _ c.if3.true
+    in_short h n two js x _ c.if3.true
 
 put3-requires : tie.Need-put3-requires
 put3-requires c κs = omega (arith, ap-room c.before.before.before.before.before.before.before.before.before.before.before.before.before.before.before.requires.listed)
@@ -118,7 +118,7 @@ returns-4 c t us h =
     let x = sym (c.before.before.before.before.before.before.before.before.before.before.before.before.before.is-apply.ensures (second-spot h n two js)) ∙ c.before.before.before.before.before.before.before.before.before.before.before.before.if2.true in
     let three = c.before.before.before.before.before.before.before.before.before.before.before.if3.false in
     let small = third-small h n two js x three (λ i. (c.before.before.before.before.before.before.before.before.before.before.before.before.before.before.before.before.before.before.before.before.before.before.before.shared-slice-known2.given i).fits) in
-    in-bad h n two js x three _ (bad-at (c.before.before.before.before.before.sort-at.ensures small) c.before.e.given.1)
+    in_bad h n two js x three _ (bad-at (c.before.before.before.before.before.sort-at.ensures small) c.before.e.given.1)
 
 same-length-2 : tie.Need-same-length-2
 same-length-2 c = search rules
@@ -131,7 +131,7 @@ returns-5 c t us h =
     let x = sym (c.before.before.before.before.before.before.before.before.before.before.before.before.before.before.is-apply.ensures (second-spot h n two js)) ∙ c.before.before.before.before.before.before.before.before.before.before.before.before.before.if2.true in
     let three = c.before.before.before.before.before.before.before.before.before.before.before.before.if3.false in
     let small = third-small h n two js x three (λ i. (c.before.before.before.before.before.before.before.before.before.before.before.before.before.before.before.before.before.before.before.before.before.before.before.before.shared-slice-known2.given i).fits) in
-    in-apply h n two js x three _ c.before.before.before.before.before.before.before.before.before.before.put3.ensures (got-at (c.before.before.before.before.before.before.sort-at.ensures small) c.before.before.u.given.1) (c.before.before.before.before.before.before.before.before.before.before.before.before.before.before.before.before.words-at.ensures (head-spot h)) c.word-to-length.ensures.0
+    in_apply h n two js x three _ c.before.before.before.before.before.before.before.before.before.before.put3.ensures (got-at (c.before.before.before.before.before.before.sort-at.ensures small) c.before.before.u.given.1) (c.before.before.before.before.before.before.before.before.before.before.before.before.before.before.before.before.words-at.ensures (head-spot h)) c.word-to-length.ensures.0
 
 sub-put3 : tie.Need-overflow-sub-put3
 sub-put3 c = omega (arith, ap-many c.before.before.before.before.before.before.before.before.before.before.before.before.before.before.requires.listed)
@@ -160,7 +160,7 @@ returns-6 c t us h =
     let two = c.before.before.before.before.before.before.before.before.before.before.before.if1.false in
     let js = c.before.before.before.before.before.before.before.before.words-at2.ensures (inner-spot h n two) in
     let x = sym (c.before.before.before.before.before.before.before.is-apply.ensures (second-spot h n two js)) ∙ c.before.before.before.before.before.before.if2.false in
-    in-call h n two _ x c.before.before.before.before.put32.ensures (c.before.before.before.before.before.before.before.before.before.words-at.ensures (head-spot h)) c.before.word-to-length2.ensures.0 c.word-to-length3.ensures.0
+    in_call h n two _ x c.before.before.before.before.put32.ensures (c.before.before.before.before.before.before.before.before.before.words-at.ensures (head-spot h)) c.before.word-to-length2.ensures.0 c.word-to-length3.ensures.0
 
 pub app-plan-spec : {M : Type 1} → statement M
 app-plan-spec =

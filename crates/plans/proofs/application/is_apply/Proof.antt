@@ -1,5 +1,5 @@
 use Rattle.std.proofs.Common.{ap, ◌∙◌, arith, rules}
-use Rattle.reading.specs.Bytes.{ascii, sameBytes}
+use Rattle.reading.specs.Bytes.{ascii, same_bytes}
 use Rattle.places.proofs.Spots.{two-there}
 use Rattle.plans.proofs.Applied.{apply-other, apply-here, symbol-there}
 use Rattle.plans.proofs.application.is_apply.Statement.{statement}
@@ -42,7 +42,7 @@ same-requires : tie.Need-same-requires
 same-requires c κs = search rules
 
 returns-2 : tie.Need-returns-2
-returns-2 c p = c.same.ensures ∙ ap (λ l. sameBytes l (ascii "apply")) c.before.before.bytes-at.ensures ∙ apply-here c.before.before.before.before.before.before.before.before.before.args.text.now p c.before.before.before.before.before.if1.false
+returns-2 c p = c.same.ensures ∙ ap (λ l. same_bytes l (ascii "apply")) c.before.before.bytes-at.ensures ∙ apply-here c.before.before.before.before.before.before.before.before.before.args.text.now p c.before.before.before.before.before.if1.false
 
 pub is-apply-spec : {M : Type 1} → statement M
 is-apply-spec =

@@ -2,7 +2,7 @@ use Rattle.std.proofs.Common.{◌≡◌, ◌-◌, length, refl, arith, rules}
 use borrow.Author.Tests.{not-true, not-false}
 use Rattle.plans.specs.BinderWords.{BinderRow}
 use Rattle.places.proofs.Spots.{spot-within}
-use Rattle.plans.proofs.BinderPairs.{Numbering, numbering_start, numbering-end, numbering-bad, numbering-refused, numbering-more, binder-spot, binder-room, sort-small, sort-within}
+use Rattle.plans.proofs.BinderPairs.{Numbering, numbering_start, numbering_end, numbering_bad, numbering_refused, numbering_more, binder-spot, binder-room, sort-small, sort-within}
 use Rattle.plans.proofs.binders.binder_words.Statement.{statement}
 use Rattle.plans.proofs.binders.binder_words.Tie as tie
 
@@ -25,7 +25,7 @@ returns : tie.Need-returns invariant-loop decreases-loop
 returns c h =
     let g = c.before.before.before.loop.invariant.1 h in
     let l = c.before.before.loop-test.true in
-    numbering-bad g l (c.before.is-pair.ensures (binder-spot g l)) (not-true _ c.if1.true)
+    numbering_bad g l (c.before.is-pair.ensures (binder-spot g l)) (not-true _ c.if1.true)
 
 low-requires : tie.Need-low-requires invariant-loop decreases-loop
 low-requires c κs = search rules
@@ -69,7 +69,7 @@ returns-2 c h =
     let l = c.before.before.before.before.before.before.before.before.before.before.before.before.before.before.before.loop-test.true in
     let x = c.before.before.before.before.before.before.before.before.before.before.before.before.before.before.is-pair.ensures (binder-spot g l) in
     let e = not-false c.before.before.before.before.before.before.before.before.before.before.before.before.before.before.is-pair.result c.before.before.before.before.before.before.before.before.before.before.before.before.before.if1.false in
-    numbering-refused g l x e c.before.before.before.before.before.before.before.before.before.before.before.low.ensures c.before.before.before.before.before.before.before.before.before.before.high.ensures c.before.before.before.before.before.before.before.before.before.put2.ensures (c.before.before.before.before.before.sort-at.ensures (sort-small g l x e)) c.before.e.given.1
+    numbering_refused g l x e c.before.before.before.before.before.before.before.before.before.before.before.low.ensures c.before.before.before.before.before.before.before.before.before.before.high.ensures c.before.before.before.before.before.before.before.before.before.put2.ensures (c.before.before.before.before.before.sort-at.ensures (sort-small g l x e)) c.before.e.given.1
 
 enum-known-x : tie.Need-enum-known-x invariant-loop decreases-loop
 enum-known-x c = search rules
@@ -99,14 +99,14 @@ loop-again c = (
       let l = c.before.before.before.before.before.before.before.before.before.before.before.before.before.before.before.before.before.loop-test.true in
       let x = c.before.before.before.before.before.before.before.before.before.before.before.before.before.before.before.before.is-pair.ensures (binder-spot g l) in
       let e = not-false c.before.before.before.before.before.before.before.before.before.before.before.before.before.before.before.before.is-pair.result c.before.before.before.before.before.before.before.before.before.before.before.before.before.before.before.if1.false in
-      numbering-more g l x e c.before.before.before.before.before.before.before.before.before.before.before.before.before.low.ensures c.before.before.before.before.before.before.before.before.before.before.before.before.high.ensures c.before.before.before.before.before.before.before.before.before.before.before.put2.ensures (c.before.before.before.before.before.before.before.sort-at.ensures (sort-small g l x e)) c.before.before.before.x.given.1 c.wrapping-add-u64.ensures (c.before.words-at.ensures (binder-spot g l))),
+      numbering_more g l x e c.before.before.before.before.before.before.before.before.before.before.before.before.before.low.ensures c.before.before.before.before.before.before.before.before.before.before.before.before.high.ensures c.before.before.before.before.before.before.before.before.before.before.before.put2.ensures (c.before.before.before.before.before.before.before.sort-at.ensures (sort-small g l x e)) c.before.before.before.x.given.1 c.wrapping-add-u64.ensures (c.before.words-at.ensures (binder-spot g l))),
 )
 
 same-length-3 : tie.Need-same-length-3 invariant-loop decreases-loop
 same-length-3 c = search (rules, c.before.loop.invariant.0)
 
 returns-3 : tie.Need-returns-3 invariant-loop decreases-loop
-returns-3 c h = numbering-end (c.before.loop.invariant.1 h) c.loop-test.false
+returns-3 c h = numbering_end (c.before.loop.invariant.1 h) c.loop-test.false
 
 pub binder-words-spec : {M : Type 1} → statement M
 binder-words-spec =

@@ -4,7 +4,7 @@ use Rattle.places.proofs.Spots.{spot-within, two-there}
 use Rattle.places.proofs.Rows.{lead-spot}
 use Rattle.plans.proofs.ListPlans.{head-within}
 use Rattle.places.proofs.Inside.{node-list, node-other}
-use Rattle.plans.proofs.LetPlans.{let-lone, let-pair, let-atom, let-few, let-name, let-other, let-there, made-alone, made-body}
+use Rattle.plans.proofs.LetPlans.{let_lone, let-pair, let-atom, let-few, let-name, let-other, let-there, made-alone, made-body}
 use Rattle.plans.proofs.lets.let_plan.Statement.{statement}
 use Rattle.plans.proofs.lets.let_plan.Tie as tie
 
@@ -18,7 +18,7 @@ shared-slice-read-n : tie.Need-shared-slice-read-n
 shared-slice-read-n c = omega (arith, head-within c.before.before.before.before.requires.name c.before.before.before.before.requires.others c.before.before.before.before.requires.listed)
 
 returns : tie.Need-returns
-returns c s us h count = rw (let-lone s us h c.if1.true) (refused refl)
+returns c s us h count = rw (let_lone s us h c.if1.true) (refused refl)
 
 add-through : tie.Need-overflow-add-through
 add-through c = omega (arith, head-within c.before.before.before.before.before.requires.name c.before.before.before.before.before.requires.others c.before.before.before.before.before.requires.listed)

@@ -1,6 +1,6 @@
 use Rattle.std.proofs.Common.{arith, rules}
 use Rattle.plans.proofs.ListPlans.{head-within, head-count}
-use Rattle.plans.proofs.NamedPlans.{minus-neg, minus-sub}
+use Rattle.plans.proofs.NamedPlans.{minus_neg, minus_sub}
 use Rattle.plans.proofs.lists.minus_plan.Statement.{statement}
 use Rattle.plans.proofs.lists.minus_plan.Tie as tie
 
@@ -23,7 +23,7 @@ same_length : tie.Need-same-length
 same_length c = search rules
 
 returns : tie.Need-returns
-returns c s us h count = rw c.behind.ensures (minus-neg _ count _ _ _ _ s us h _ _ c.before.before.before.before.before.if1.true c.before.before.before.put1.ensures)
+returns c s us h count = rw c.behind.ensures (minus_neg _ count _ _ _ _ s us h _ _ c.before.before.before.before.before.if1.true c.before.before.before.put1.ensures)
 
 put2-requires : tie.Need-put2-requires
 put2-requires c κs = search rules
@@ -35,7 +35,7 @@ same-length-2 : tie.Need-same-length-2
 same-length-2 c = search rules
 
 returns-2 : tie.Need-returns-2
-returns-2 c s us h count = rw c.behind2.ensures (minus-sub _ count _ _ _ _ s us h _ _ c.before.before.before.before.before.if1.false c.before.before.before.put2.ensures)
+returns-2 c s us h count = rw c.behind2.ensures (minus_sub _ count _ _ _ _ s us h _ _ c.before.before.before.before.before.if1.false c.before.before.before.put2.ensures)
 
 pub minus-plan-spec : {M : Type 1} → statement M
 minus-plan-spec =

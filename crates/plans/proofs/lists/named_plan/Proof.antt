@@ -1,10 +1,10 @@
 use Rattle.std.proofs.Common.{refl, subst, arith, rules}
-use Rattle.grammar.specs.Names.{minus, exists, letIn, lit}
+use Rattle.grammar.specs.Names.{minus, exists, let_in, lit}
 use Rattle.forms.specs.FormNames.{FormIs}
 use Rattle.grammar.specs.ParseExpr
 use Rattle.grammar.specs.ParseExpr.{form_of}
 use Rattle.plans.proofs.ListPlans.{head-within, head-count}
-use Rattle.plans.proofs.NamedPlans.{form-of, ctor-room, made_one, made-two, made-many, made-cast, made-ctor, made_other, made-apply}
+use Rattle.plans.proofs.NamedPlans.{form_of_lem, ctor-room, made_one, made-two, made-many, made-cast, made-ctor, made_other, made-apply}
 use Rattle.plans.proofs.lists.named_plan.Statement.{statement}
 use Rattle.plans.proofs.lists.named_plan.Tie as tie
 
@@ -87,10 +87,10 @@ enum-told-2 : tie.Need-enum-told-2
 enum-told-2 c = search rules
 
 add-t41 : tie.Need-overflow-add-t41
-add-t41 c = omega (arith, (ctor-room c.before.before.before.before.before.before.before.before.before.before.before.args.text.now 0 c.before.before.before.before.before.before.before.before.before.before.before.args.tree.now c.before.before.before.before.before.before.before.before.before.before.before.args.at c.before.before.before.before.before.before.before.before.before.before.before.args.w c.before.before.before.before.before.before.before.before.before.before.before.args.next c.before.before.before.before.before.before.before.before.before.before.before.requires.name c.before.before.before.before.before.before.before.before.before.before.before.requires.others c.before.before.before.before.before.before.before.before.before.before.before.requires.listed (subst (FormIs (form_of c.before.before.before.before.before.before.before.before.before.before.before.args.text.now c.before.before.before.before.before.before.before.before.before.before.before.requires.name)) c.before.enum-told2.given.1 (form-of c.before.before.before.before.before.before.before.before.before.before.before.args.text.now 0 c.before.before.before.before.before.before.before.before.before.before.before.args.tree.now c.before.before.before.before.before.before.before.before.before.before.before.args.at c.before.before.before.before.before.before.before.before.before.before.before.args.w c.before.before.before.before.before.before.before.before.before.before.before.args.next c.before.before.before.before.before.before.before.before.before.before.before.requires.name c.before.before.before.before.before.before.before.before.before.before.before.requires.others c.before.before.before.before.before.before.before.before.before.before.before.requires.listed c.before.before.before.form-named.result c.before.before.before.before.bytes-at.ensures c.before.before.before.form-named.ensures))).0)
+add-t41 c = omega (arith, (ctor-room c.before.before.before.before.before.before.before.before.before.before.before.args.text.now 0 c.before.before.before.before.before.before.before.before.before.before.before.args.tree.now c.before.before.before.before.before.before.before.before.before.before.before.args.at c.before.before.before.before.before.before.before.before.before.before.before.args.w c.before.before.before.before.before.before.before.before.before.before.before.args.next c.before.before.before.before.before.before.before.before.before.before.before.requires.name c.before.before.before.before.before.before.before.before.before.before.before.requires.others c.before.before.before.before.before.before.before.before.before.before.before.requires.listed (subst (FormIs (form_of c.before.before.before.before.before.before.before.before.before.before.before.args.text.now c.before.before.before.before.before.before.before.before.before.before.before.requires.name)) c.before.enum-told2.given.1 (form_of_lem c.before.before.before.before.before.before.before.before.before.before.before.args.text.now 0 c.before.before.before.before.before.before.before.before.before.before.before.args.tree.now c.before.before.before.before.before.before.before.before.before.before.before.args.at c.before.before.before.before.before.before.before.before.before.before.before.args.w c.before.before.before.before.before.before.before.before.before.before.before.args.next c.before.before.before.before.before.before.before.before.before.before.before.requires.name c.before.before.before.before.before.before.before.before.before.before.before.requires.others c.before.before.before.before.before.before.before.before.before.before.before.requires.listed c.before.before.before.form-named.result c.before.before.before.before.bytes-at.ensures c.before.before.before.form-named.ensures))).0)
 
 sub-t42 : tie.Need-overflow-sub-t42
-sub-t42 c = omega (arith, (ctor-room c.before.before.before.before.before.before.before.before.before.before.before.args.text.now 0 c.before.before.before.before.before.before.before.before.before.before.before.args.tree.now c.before.before.before.before.before.before.before.before.before.before.before.args.at c.before.before.before.before.before.before.before.before.before.before.before.args.w c.before.before.before.before.before.before.before.before.before.before.before.args.next c.before.before.before.before.before.before.before.before.before.before.before.requires.name c.before.before.before.before.before.before.before.before.before.before.before.requires.others c.before.before.before.before.before.before.before.before.before.before.before.requires.listed (subst (FormIs (form_of c.before.before.before.before.before.before.before.before.before.before.before.args.text.now c.before.before.before.before.before.before.before.before.before.before.before.requires.name)) c.before.enum-told2.given.1 (form-of c.before.before.before.before.before.before.before.before.before.before.before.args.text.now 0 c.before.before.before.before.before.before.before.before.before.before.before.args.tree.now c.before.before.before.before.before.before.before.before.before.before.before.args.at c.before.before.before.before.before.before.before.before.before.before.before.args.w c.before.before.before.before.before.before.before.before.before.before.before.args.next c.before.before.before.before.before.before.before.before.before.before.before.requires.name c.before.before.before.before.before.before.before.before.before.before.before.requires.others c.before.before.before.before.before.before.before.before.before.before.before.requires.listed c.before.before.before.form-named.result c.before.before.before.before.bytes-at.ensures c.before.before.before.form-named.ensures))).1)
+sub-t42 c = omega (arith, (ctor-room c.before.before.before.before.before.before.before.before.before.before.before.args.text.now 0 c.before.before.before.before.before.before.before.before.before.before.before.args.tree.now c.before.before.before.before.before.before.before.before.before.before.before.args.at c.before.before.before.before.before.before.before.before.before.before.before.args.w c.before.before.before.before.before.before.before.before.before.before.before.args.next c.before.before.before.before.before.before.before.before.before.before.before.requires.name c.before.before.before.before.before.before.before.before.before.before.before.requires.others c.before.before.before.before.before.before.before.before.before.before.before.requires.listed (subst (FormIs (form_of c.before.before.before.before.before.before.before.before.before.before.before.args.text.now c.before.before.before.before.before.before.before.before.before.before.before.requires.name)) c.before.enum-told2.given.1 (form_of_lem c.before.before.before.before.before.before.before.before.before.before.before.args.text.now 0 c.before.before.before.before.before.before.before.before.before.before.before.args.tree.now c.before.before.before.before.before.before.before.before.before.before.before.args.at c.before.before.before.before.before.before.before.before.before.before.before.args.w c.before.before.before.before.before.before.before.before.before.before.before.args.next c.before.before.before.before.before.before.before.before.before.before.before.requires.name c.before.before.before.before.before.before.before.before.before.before.before.requires.others c.before.before.before.before.before.before.before.before.before.before.before.requires.listed c.before.before.before.form-named.result c.before.before.before.before.bytes-at.ensures c.before.before.before.form-named.ensures))).1)
 
 put-name-requires : tie.Need-put-name-requires
 put-name-requires c κs = omega (arith, c.before.before.before.before.before.before.before.before.before.before.before.requires.listed.room)
@@ -129,59 +129,59 @@ same_length : tie.Need-same-length
 same_length c = search rules
 
 returns : tie.Need-returns
-returns c s us h = rw c.behind.ensures (made_one _ _ _ _ _ _ s us h _ _ (subst (FormIs (form_of c.before.before.before.before.before.before.before.before.before.before.before.before.before.before.before.before.args.text.now s)) c.before.before.before.before.before.before.kind.given.1 (form-of c.before.before.before.before.before.before.before.before.before.before.before.before.before.before.before.before.args.text.now 0 c.before.before.before.before.before.before.before.before.before.before.before.before.before.before.before.before.args.tree.now c.before.before.before.before.before.before.before.before.before.before.before.before.before.before.before.before.args.at c.before.before.before.before.before.before.before.before.before.before.before.before.before.before.before.before.args.w c.before.before.before.before.before.before.before.before.before.before.before.before.before.before.before.before.args.next s us h c.before.before.before.before.before.before.before.before.form-named.result c.before.before.before.before.before.before.before.before.before.bytes-at.ensures c.before.before.before.before.before.before.before.before.form-named.ensures)) c.before.before.before.put1.ensures)
+returns c s us h = rw c.behind.ensures (made_one _ _ _ _ _ _ s us h _ _ (subst (FormIs (form_of c.before.before.before.before.before.before.before.before.before.before.before.before.before.before.before.before.args.text.now s)) c.before.before.before.before.before.before.kind.given.1 (form_of_lem c.before.before.before.before.before.before.before.before.before.before.before.before.before.before.before.before.args.text.now 0 c.before.before.before.before.before.before.before.before.before.before.before.before.before.before.before.before.args.tree.now c.before.before.before.before.before.before.before.before.before.before.before.before.before.before.before.before.args.at c.before.before.before.before.before.before.before.before.before.before.before.before.before.before.before.before.args.w c.before.before.before.before.before.before.before.before.before.before.before.before.before.before.before.before.args.next s us h c.before.before.before.before.before.before.before.before.form-named.result c.before.before.before.before.before.before.before.before.before.bytes-at.ensures c.before.before.before.before.before.before.before.before.form-named.ensures)) c.before.before.before.put1.ensures)
 
 same-length-2 : tie.Need-same-length-2
 same-length-2 c = search rules
 
 returns-2 : tie.Need-returns-2
-returns-2 c s us h = rw c.behind2.ensures (made-two _ _ _ _ _ _ s us h _ _ (subst (FormIs (form_of c.before.before.before.before.before.before.before.before.before.before.before.before.before.before.before.before.args.text.now s)) c.before.before.before.before.before.before.kind2.given.1 (form-of c.before.before.before.before.before.before.before.before.before.before.before.before.before.before.before.before.args.text.now 0 c.before.before.before.before.before.before.before.before.before.before.before.before.before.before.before.before.args.tree.now c.before.before.before.before.before.before.before.before.before.before.before.before.before.before.before.before.args.at c.before.before.before.before.before.before.before.before.before.before.before.before.before.before.before.before.args.w c.before.before.before.before.before.before.before.before.before.before.before.before.before.before.before.before.args.next s us h c.before.before.before.before.before.before.before.before.form-named.result c.before.before.before.before.before.before.before.before.before.bytes-at.ensures c.before.before.before.before.before.before.before.before.form-named.ensures)) c.before.before.before.put2.ensures)
+returns-2 c s us h = rw c.behind2.ensures (made-two _ _ _ _ _ _ s us h _ _ (subst (FormIs (form_of c.before.before.before.before.before.before.before.before.before.before.before.before.before.before.before.before.args.text.now s)) c.before.before.before.before.before.before.kind2.given.1 (form_of_lem c.before.before.before.before.before.before.before.before.before.before.before.before.before.before.before.before.args.text.now 0 c.before.before.before.before.before.before.before.before.before.before.before.before.before.before.before.before.args.tree.now c.before.before.before.before.before.before.before.before.before.before.before.before.before.before.before.before.args.at c.before.before.before.before.before.before.before.before.before.before.before.before.before.before.before.before.args.w c.before.before.before.before.before.before.before.before.before.before.before.before.before.before.before.before.args.next s us h c.before.before.before.before.before.before.before.before.form-named.result c.before.before.before.before.before.before.before.before.before.bytes-at.ensures c.before.before.before.before.before.before.before.before.form-named.ensures)) c.before.before.before.put2.ensures)
 
 same-length-3 : tie.Need-same-length-3
 same-length-3 c = search rules
 
 returns-3 : tie.Need-returns-3
-returns-3 c s us h = rw c.behind3.ensures (made-many _ _ _ _ _ _ s us h _ _ (subst (FormIs (form_of c.before.before.before.before.before.before.before.before.before.before.before.before.before.before.before.before.before.args.text.now s)) c.before.before.before.before.before.before.before.kind3.given.1 (form-of c.before.before.before.before.before.before.before.before.before.before.before.before.before.before.before.before.before.args.text.now 0 c.before.before.before.before.before.before.before.before.before.before.before.before.before.before.before.before.before.args.tree.now c.before.before.before.before.before.before.before.before.before.before.before.before.before.before.before.before.before.args.at c.before.before.before.before.before.before.before.before.before.before.before.before.before.before.before.before.before.args.w c.before.before.before.before.before.before.before.before.before.before.before.before.before.before.before.before.before.args.next s us h c.before.before.before.before.before.before.before.before.before.form-named.result c.before.before.before.before.before.before.before.before.before.before.bytes-at.ensures c.before.before.before.before.before.before.before.before.before.form-named.ensures)) c.before.before.before.before.before.word-to-length.ensures.0 c.before.before.before.put22.ensures)
+returns-3 c s us h = rw c.behind3.ensures (made-many _ _ _ _ _ _ s us h _ _ (subst (FormIs (form_of c.before.before.before.before.before.before.before.before.before.before.before.before.before.before.before.before.before.args.text.now s)) c.before.before.before.before.before.before.before.kind3.given.1 (form_of_lem c.before.before.before.before.before.before.before.before.before.before.before.before.before.before.before.before.before.args.text.now 0 c.before.before.before.before.before.before.before.before.before.before.before.before.before.before.before.before.before.args.tree.now c.before.before.before.before.before.before.before.before.before.before.before.before.before.before.before.before.before.args.at c.before.before.before.before.before.before.before.before.before.before.before.before.before.before.before.before.before.args.w c.before.before.before.before.before.before.before.before.before.before.before.before.before.before.before.before.before.args.next s us h c.before.before.before.before.before.before.before.before.before.form-named.result c.before.before.before.before.before.before.before.before.before.before.bytes-at.ensures c.before.before.before.before.before.before.before.before.before.form-named.ensures)) c.before.before.before.before.before.word-to-length.ensures.0 c.before.before.before.put22.ensures)
 
 returns-4 : tie.Need-returns-4
-returns-4 c s us h = made-cast _ _ _ _ _ _ s us h _ _ (subst (FormIs (form_of c.before.before.before.before.before.before.before.before.before.before.before.args.text.now s)) c.before.enum_told.given.1 (form-of c.before.before.before.before.before.before.before.before.before.before.before.args.text.now 0 c.before.before.before.before.before.before.before.before.before.before.before.args.tree.now c.before.before.before.before.before.before.before.before.before.before.before.args.at c.before.before.before.before.before.before.before.before.before.before.before.args.w c.before.before.before.before.before.before.before.before.before.before.before.args.next s us h c.before.before.before.form-named.result c.before.before.before.before.bytes-at.ensures c.before.before.before.form-named.ensures)) refl refl c.only.ensures
+returns-4 c s us h = made-cast _ _ _ _ _ _ s us h _ _ (subst (FormIs (form_of c.before.before.before.before.before.before.before.before.before.before.before.args.text.now s)) c.before.enum_told.given.1 (form_of_lem c.before.before.before.before.before.before.before.before.before.before.before.args.text.now 0 c.before.before.before.before.before.before.before.before.before.before.before.args.tree.now c.before.before.before.before.before.before.before.before.before.before.before.args.at c.before.before.before.before.before.before.before.before.before.before.before.args.w c.before.before.before.before.before.before.before.before.before.before.before.args.next s us h c.before.before.before.form-named.result c.before.before.before.before.bytes-at.ensures c.before.before.before.form-named.ensures)) refl refl c.only.ensures
 
 same-length-4 : tie.Need-same-length-4
 same-length-4 c = search rules
 
 returns-5 : tie.Need-returns-5
-returns-5 c s us h = made-ctor _ _ _ _ _ _ s us h _ _ (subst (FormIs (form_of c.before.before.before.before.before.before.before.before.before.before.before.before.before.before.before.args.text.now s)) c.before.before.before.before.before.enum-told2.given.1 (form-of c.before.before.before.before.before.before.before.before.before.before.before.before.before.before.before.args.text.now 0 c.before.before.before.before.before.before.before.before.before.before.before.before.before.before.before.args.tree.now c.before.before.before.before.before.before.before.before.before.before.before.before.before.before.before.args.at c.before.before.before.before.before.before.before.before.before.before.before.before.before.before.before.args.w c.before.before.before.before.before.before.before.before.before.before.before.before.before.before.before.args.next s us h c.before.before.before.before.before.before.before.form-named.result c.before.before.before.before.before.before.before.before.bytes-at.ensures c.before.before.before.before.before.before.before.form-named.ensures)) c.before.before.before.put-name.ensures c.only2.ensures
+returns-5 c s us h = made-ctor _ _ _ _ _ _ s us h _ _ (subst (FormIs (form_of c.before.before.before.before.before.before.before.before.before.before.before.before.before.before.before.args.text.now s)) c.before.before.before.before.before.enum-told2.given.1 (form_of_lem c.before.before.before.before.before.before.before.before.before.before.before.before.before.before.before.args.text.now 0 c.before.before.before.before.before.before.before.before.before.before.before.before.before.before.before.args.tree.now c.before.before.before.before.before.before.before.before.before.before.before.before.before.before.before.args.at c.before.before.before.before.before.before.before.before.before.before.before.before.before.before.before.args.w c.before.before.before.before.before.before.before.before.before.before.before.before.before.before.before.args.next s us h c.before.before.before.before.before.before.before.form-named.result c.before.before.before.before.before.before.before.before.bytes-at.ensures c.before.before.before.before.before.before.before.form-named.ensures)) c.before.before.before.put-name.ensures c.only2.ensures
 
 same-length-5 : tie.Need-same-length-5
 same-length-5 c = search rules
 
 returns-6 : tie.Need-returns-6
-unfolding ParseExpr.parseForm
-returns-6 c s us h = made_other _ _ _ _ _ _ s us h _ _ c.before.before.minus-plan.result minus (subst (FormIs (form_of c.before.before.before.before.before.before.before.before.before.before.before.before.before.before.args.text.now s)) c.before.before.before.before.enum-told3.given.1 (form-of c.before.before.before.before.before.before.before.before.before.before.before.before.before.before.args.text.now 0 c.before.before.before.before.before.before.before.before.before.before.before.before.before.before.args.tree.now c.before.before.before.before.before.before.before.before.before.before.before.before.before.before.args.at c.before.before.before.before.before.before.before.before.before.before.before.before.before.before.args.w c.before.before.before.before.before.before.before.before.before.before.before.before.before.before.args.next s us h c.before.before.before.before.before.before.form-named.result c.before.before.before.before.before.before.before.bytes-at.ensures c.before.before.before.before.before.before.form-named.ensures)) (c.before.before.minus-plan.ensures s us h _)
+unfolding ParseExpr.parse_form
+returns-6 c s us h = made_other _ _ _ _ _ _ s us h _ _ c.before.before.minus-plan.result minus (subst (FormIs (form_of c.before.before.before.before.before.before.before.before.before.before.before.before.before.before.args.text.now s)) c.before.before.before.before.enum-told3.given.1 (form_of_lem c.before.before.before.before.before.before.before.before.before.before.before.before.before.before.args.text.now 0 c.before.before.before.before.before.before.before.before.before.before.before.before.before.before.args.tree.now c.before.before.before.before.before.before.before.before.before.before.before.before.before.before.args.at c.before.before.before.before.before.before.before.before.before.before.before.before.before.before.args.w c.before.before.before.before.before.before.before.before.before.before.before.before.before.before.args.next s us h c.before.before.before.before.before.before.form-named.result c.before.before.before.before.before.before.before.bytes-at.ensures c.before.before.before.before.before.before.form-named.ensures)) (c.before.before.minus-plan.ensures s us h _)
 
 same-length-6 : tie.Need-same-length-6
 same-length-6 c = search rules
 
 returns-7 : tie.Need-returns-7
-unfolding ParseExpr.parseForm
-returns-7 c s us h = made_other _ _ _ _ _ _ s us h _ _ c.before.before.exists-plan.result exists (subst (FormIs (form_of c.before.before.before.before.before.before.before.before.before.before.before.before.before.before.args.text.now s)) c.before.before.before.before.enum-told4.given.1 (form-of c.before.before.before.before.before.before.before.before.before.before.before.before.before.before.args.text.now 0 c.before.before.before.before.before.before.before.before.before.before.before.before.before.before.args.tree.now c.before.before.before.before.before.before.before.before.before.before.before.before.before.before.args.at c.before.before.before.before.before.before.before.before.before.before.before.before.before.before.args.w c.before.before.before.before.before.before.before.before.before.before.before.before.before.before.args.next s us h c.before.before.before.before.before.before.form-named.result c.before.before.before.before.before.before.before.bytes-at.ensures c.before.before.before.before.before.before.form-named.ensures)) (c.before.before.exists-plan.ensures s us h)
+unfolding ParseExpr.parse_form
+returns-7 c s us h = made_other _ _ _ _ _ _ s us h _ _ c.before.before.exists-plan.result exists (subst (FormIs (form_of c.before.before.before.before.before.before.before.before.before.before.before.before.before.before.args.text.now s)) c.before.before.before.before.enum-told4.given.1 (form_of_lem c.before.before.before.before.before.before.before.before.before.before.before.before.before.before.args.text.now 0 c.before.before.before.before.before.before.before.before.before.before.before.before.before.before.args.tree.now c.before.before.before.before.before.before.before.before.before.before.before.before.before.before.args.at c.before.before.before.before.before.before.before.before.before.before.before.before.before.before.args.w c.before.before.before.before.before.before.before.before.before.before.before.before.before.before.args.next s us h c.before.before.before.before.before.before.form-named.result c.before.before.before.before.before.before.before.bytes-at.ensures c.before.before.before.before.before.before.form-named.ensures)) (c.before.before.exists-plan.ensures s us h)
 
 same-length-7 : tie.Need-same-length-7
 same-length-7 c = search rules
 
 returns-8 : tie.Need-returns-8
-unfolding ParseExpr.parseForm
-returns-8 c s us h = made_other _ _ _ _ _ _ s us h _ _ c.before.before.let-plan.result letIn (subst (FormIs (form_of c.before.before.before.before.before.before.before.before.before.before.before.before.before.before.args.text.now s)) c.before.before.before.before.enum-told5.given.1 (form-of c.before.before.before.before.before.before.before.before.before.before.before.before.before.before.args.text.now 0 c.before.before.before.before.before.before.before.before.before.before.before.before.before.before.args.tree.now c.before.before.before.before.before.before.before.before.before.before.before.before.before.before.args.at c.before.before.before.before.before.before.before.before.before.before.before.before.before.before.args.w c.before.before.before.before.before.before.before.before.before.before.before.before.before.before.args.next s us h c.before.before.before.before.before.before.form-named.result c.before.before.before.before.before.before.before.bytes-at.ensures c.before.before.before.before.before.before.form-named.ensures)) (c.before.before.let-plan.ensures s us h _)
+unfolding ParseExpr.parse_form
+returns-8 c s us h = made_other _ _ _ _ _ _ s us h _ _ c.before.before.let-plan.result let_in (subst (FormIs (form_of c.before.before.before.before.before.before.before.before.before.before.before.before.before.before.args.text.now s)) c.before.before.before.before.enum-told5.given.1 (form_of_lem c.before.before.before.before.before.before.before.before.before.before.before.before.before.before.args.text.now 0 c.before.before.before.before.before.before.before.before.before.before.before.before.before.before.args.tree.now c.before.before.before.before.before.before.before.before.before.before.before.before.before.before.args.at c.before.before.before.before.before.before.before.before.before.before.before.before.before.before.args.w c.before.before.before.before.before.before.before.before.before.before.before.before.before.before.args.next s us h c.before.before.before.before.before.before.form-named.result c.before.before.before.before.before.before.before.bytes-at.ensures c.before.before.before.before.before.before.form-named.ensures)) (c.before.before.let-plan.ensures s us h _)
 
 same-length-8 : tie.Need-same-length-8
 same-length-8 c = search rules
 
 returns-9 : tie.Need-returns-9
-unfolding ParseExpr.parseForm
-returns-9 c s us h = made_other _ _ _ _ _ _ s us h _ _ c.before.before.lit-plan.result lit (subst (FormIs (form_of c.before.before.before.before.before.before.before.before.before.before.before.before.before.before.args.text.now s)) c.before.before.before.before.enum-told6.given.1 (form-of c.before.before.before.before.before.before.before.before.before.before.before.before.before.before.args.text.now 0 c.before.before.before.before.before.before.before.before.before.before.before.before.before.before.args.tree.now c.before.before.before.before.before.before.before.before.before.before.before.before.before.before.args.at c.before.before.before.before.before.before.before.before.before.before.before.before.before.before.args.w c.before.before.before.before.before.before.before.before.before.before.before.before.before.before.args.next s us h c.before.before.before.before.before.before.form-named.result c.before.before.before.before.before.before.before.bytes-at.ensures c.before.before.before.before.before.before.form-named.ensures)) (c.before.before.lit-plan.ensures s us h _)
+unfolding ParseExpr.parse_form
+returns-9 c s us h = made_other _ _ _ _ _ _ s us h _ _ c.before.before.lit-plan.result lit (subst (FormIs (form_of c.before.before.before.before.before.before.before.before.before.before.before.before.before.before.args.text.now s)) c.before.before.before.before.enum-told6.given.1 (form_of_lem c.before.before.before.before.before.before.before.before.before.before.before.before.before.before.args.text.now 0 c.before.before.before.before.before.before.before.before.before.before.before.before.before.before.args.tree.now c.before.before.before.before.before.before.before.before.before.before.before.before.before.before.args.at c.before.before.before.before.before.before.before.before.before.before.before.before.before.before.args.w c.before.before.before.before.before.before.before.before.before.before.before.before.before.before.args.next s us h c.before.before.before.before.before.before.form-named.result c.before.before.before.before.before.before.before.bytes-at.ensures c.before.before.before.before.before.before.form-named.ensures)) (c.before.before.lit-plan.ensures s us h _)
 
 returns-10 : tie.Need-returns-10
-returns-10 c s us h = made-apply _ _ _ _ _ _ s us h _ _ (subst (FormIs (form_of c.before.before.before.before.before.before.before.before.before.before.args.text.now s)) c.enum-told7.given.1 (form-of c.before.before.before.before.before.before.before.before.before.before.args.text.now 0 c.before.before.before.before.before.before.before.before.before.before.args.tree.now c.before.before.before.before.before.before.before.before.before.before.args.at c.before.before.before.before.before.before.before.before.before.before.args.w c.before.before.before.before.before.before.before.before.before.before.args.next s us h c.before.before.form-named.result c.before.before.before.bytes-at.ensures c.before.before.form-named.ensures))
+returns-10 c s us h = made-apply _ _ _ _ _ _ s us h _ _ (subst (FormIs (form_of c.before.before.before.before.before.before.before.before.before.before.args.text.now s)) c.enum-told7.given.1 (form_of_lem c.before.before.before.before.before.before.before.before.before.before.args.text.now 0 c.before.before.before.before.before.before.before.before.before.before.args.tree.now c.before.before.before.before.before.before.before.before.before.before.args.at c.before.before.before.before.before.before.before.before.before.before.args.w c.before.before.before.before.before.before.before.before.before.before.args.next s us h c.before.before.form-named.result c.before.before.before.bytes-at.ensures c.before.before.form-named.ensures))
 
 pub named-plan-spec : {M : Type 1} → statement M
 named-plan-spec =

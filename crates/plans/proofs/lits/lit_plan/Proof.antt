@@ -1,12 +1,12 @@
 use Rattle.std.proofs.Common.{sym, refl, ap, ◌∙◌, arith, rules}
-use Rattle.reading.specs.Answer.{orBad, malformed, badLiteral}
+use Rattle.reading.specs.Answer.{or_bad, malformed, bad_literal}
 use Rattle.sorts.specs.SortNames.{width_in}
-use Rattle.forms.specs.FormNames.{bitsIn}
+use Rattle.forms.specs.FormNames.{bits_in}
 use Rattle.plans.specs.Plans.{refused}
 use Rattle.places.proofs.Spots.{two-there}
 use Rattle.places.proofs.Rows.{lead-spot}
 use Rattle.plans.proofs.ListPlans.{head-within}
-use Rattle.plans.proofs.LitPlans.{lit-lone, lit-first, lit-kind, lit-there, lit-second, lit_refused, lit-two, lit-wide, lit-many, made_lit}
+use Rattle.plans.proofs.LitPlans.{lit_lone, lit-first, lit-kind, lit-there, lit-second, lit_refused, lit-two, lit-wide, lit-many, made_lit}
 use Rattle.plans.proofs.lits.lit_plan.Statement.{statement}
 use Rattle.plans.proofs.lits.lit_plan.Tie as tie
 
@@ -20,7 +20,7 @@ shared-slice-read-n : tie.Need-shared-slice-read-n
 shared-slice-read-n c = omega (arith, head-within c.before.before.before.before.requires.name c.before.before.before.before.requires.others c.before.before.before.before.requires.listed)
 
 returns : tie.Need-returns
-returns c s us h count = rw (lit-lone s us h c.if1.true) (refused refl)
+returns c s us h count = rw (lit_lone s us h c.if1.true) (refused refl)
 
 add-if2 : tie.Need-overflow-add-if2
 add-if2 c = omega (arith, two-there (lead-spot (lit-first c.before.before.before.before.before.requires.name c.before.before.before.before.before.requires.others c.before.before.before.before.before.requires.listed c.if1.false)))
@@ -68,7 +68,7 @@ enum-known-q : tie.Need-enum-known-q
 enum-known-q c = search rules
 
 returns-3 : tie.Need-returns-3
-returns-3 c s us h count = rw (lit-two s us h c.before.before.before.before.before.before.before.before.before.before.if1.false c.before.before.before.before.before.before.before.before.if2.false c.before.before.before.before.before.bytes-at.ensures (sym (ap bitsIn c.before.before.q.given.1) ∙ c.before.before.before.before.bits-of.ensures) c.if3.true) (refused refl)
+returns-3 c s us h count = rw (lit-two s us h c.before.before.before.before.before.before.before.before.before.before.if1.false c.before.before.before.before.before.before.before.before.if2.false c.before.before.before.before.before.bytes-at.ensures (sym (ap bits_in c.before.before.q.given.1) ∙ c.before.before.before.before.bits_of_lem.ensures) c.if3.true) (refused refl)
 
 add-width-at : tie.Need-overflow-add-width-at
 add-width-at c = omega (arith, lit-there c.before.before.before.before.before.before.before.before.before.before.before.before.before.before.before.requires.name c.before.before.before.before.before.before.before.before.before.before.before.before.before.before.before.requires.others c.before.before.before.before.before.before.before.before.before.before.before.before.before.before.before.requires.listed c.before.before.before.before.before.before.before.before.before.before.if1.false c.before.before.before.before.before.before.before.before.if2.false)
@@ -89,7 +89,7 @@ add-if4 : tie.Need-overflow-add-if4
 add-if4 c = omega (arith, c.word-to-length.ensures.1)
 
 returns-4 : tie.Need-returns-4
-returns-4 c s us h count = rw (lit-many s us h c.before.before.before.before.before.before.before.before.before.before.before.before.before.before.before.before.if1.false c.before.before.before.before.before.before.before.before.before.before.before.before.before.before.if2.false c.before.before.before.before.before.before.before.before.before.before.before.bytes-at.ensures (sym (ap bitsIn c.before.before.before.before.before.before.before.before.q.given.1) ∙ c.before.before.before.before.before.before.before.before.before.before.bits-of.ensures) c.before.before.before.before.before.before.if3.false (sym (ap (λ x. orBad malformed (width_in x)) c.before.before.before.width.given.1) ∙ c.before.before.before.before.before.width-at.ensures (lead-spot (lit-second s us h c.before.before.before.before.before.before.before.before.before.before.before.before.before.before.before.before.if1.false c.before.before.before.before.before.before.before.before.before.before.before.before.before.before.if2.false c.before.before.before.before.before.before.if3.false))) c.before.word-to-length.ensures.0 c.if4.true) (refused refl)
+returns-4 c s us h count = rw (lit-many s us h c.before.before.before.before.before.before.before.before.before.before.before.before.before.before.before.before.if1.false c.before.before.before.before.before.before.before.before.before.before.before.before.before.before.if2.false c.before.before.before.before.before.before.before.before.before.before.before.bytes-at.ensures (sym (ap bits_in c.before.before.before.before.before.before.before.before.q.given.1) ∙ c.before.before.before.before.before.before.before.before.before.before.bits_of_lem.ensures) c.before.before.before.before.before.before.if3.false (sym (ap (λ x. or_bad malformed (width_in x)) c.before.before.before.width.given.1) ∙ c.before.before.before.before.before.width-at.ensures (lead-spot (lit-second s us h c.before.before.before.before.before.before.before.before.before.before.before.before.before.before.before.before.if1.false c.before.before.before.before.before.before.before.before.before.before.before.before.before.before.if2.false c.before.before.before.before.before.before.if3.false))) c.before.word-to-length.ensures.0 c.if4.true) (refused refl)
 
 put-wide-requires : tie.Need-put-wide-requires
 put-wide-requires c κs = omega (arith, c.before.before.before.before.before.before.before.before.before.before.before.before.before.before.before.before.before.before.before.before.before.before.requires.listed.room)
@@ -98,19 +98,19 @@ put1-requires : tie.Need-put1-requires
 put1-requires c κs = omega (arith, c.before.before.before.before.before.before.before.before.before.before.before.before.before.before.before.before.before.before.before.before.before.before.before.before.before.before.requires.listed.room, c.before.before.before.put-wide.ensures.is)
 
 returns-5 : tie.Need-returns-5
-returns-5 c s us h count = rw (lit_refused s us h c.before.before.before.before.before.before.before.before.if1.false c.before.before.before.before.before.before.if2.false c.before.before.before.bytes-at.ensures malformed (sym (ap bitsIn c.enum_told.given.1) ∙ c.before.before.bits-of.ensures)) (refused refl)
+returns-5 c s us h count = rw (lit_refused s us h c.before.before.before.before.before.before.before.before.if1.false c.before.before.before.before.before.before.if2.false c.before.before.before.bytes-at.ensures malformed (sym (ap bits_in c.enum_told.given.1) ∙ c.before.before.bits_of_lem.ensures)) (refused refl)
 
 returns-6 : tie.Need-returns-6
-returns-6 c s us h count = rw (lit_refused s us h c.before.before.before.before.before.before.before.before.if1.false c.before.before.before.before.before.before.if2.false c.before.before.before.bytes-at.ensures badLiteral (sym (ap bitsIn c.enum-told2.given.1) ∙ c.before.before.bits-of.ensures)) (refused refl)
+returns-6 c s us h count = rw (lit_refused s us h c.before.before.before.before.before.before.before.before.if1.false c.before.before.before.before.before.before.if2.false c.before.before.before.bytes-at.ensures bad_literal (sym (ap bits_in c.enum-told2.given.1) ∙ c.before.before.bits_of_lem.ensures)) (refused refl)
 
 returns-7 : tie.Need-returns-7
-returns-7 c s us h count = rw (lit-wide s us h c.before.before.before.before.before.before.before.before.before.before.before.before.before.if1.false c.before.before.before.before.before.before.before.before.before.before.before.if2.false c.before.before.before.before.before.before.before.before.bytes-at.ensures (sym (ap bitsIn c.before.before.before.before.before.q.given.1) ∙ c.before.before.before.before.before.before.before.bits-of.ensures) c.before.before.before.if3.false (sym (ap (λ x. orBad malformed (width_in x)) c.enum-told3.given.1) ∙ c.before.before.width-at.ensures (lead-spot (lit-second s us h c.before.before.before.before.before.before.before.before.before.before.before.before.before.if1.false c.before.before.before.before.before.before.before.before.before.before.before.if2.false c.before.before.before.if3.false)))) (refused refl)
+returns-7 c s us h count = rw (lit-wide s us h c.before.before.before.before.before.before.before.before.before.before.before.before.before.if1.false c.before.before.before.before.before.before.before.before.before.before.before.if2.false c.before.before.before.before.before.before.before.before.bytes-at.ensures (sym (ap bits_in c.before.before.before.before.before.q.given.1) ∙ c.before.before.before.before.before.before.before.bits_of_lem.ensures) c.before.before.before.if3.false (sym (ap (λ x. or_bad malformed (width_in x)) c.enum-told3.given.1) ∙ c.before.before.width-at.ensures (lead-spot (lit-second s us h c.before.before.before.before.before.before.before.before.before.before.before.before.before.if1.false c.before.before.before.before.before.before.before.before.before.before.before.if2.false c.before.before.before.if3.false)))) (refused refl)
 
 same_length : tie.Need-same-length
 same_length c = search rules
 
 returns-8 : tie.Need-returns-8
-returns-8 c s us h count = made_lit s us h c.before.before.before.before.before.before.before.before.before.before.before.before.before.before.before.before.before.before.before.before.before.before.before.before.if1.false c.before.before.before.before.before.before.before.before.before.before.before.before.before.before.before.before.before.before.before.before.before.before.if2.false c.before.before.before.before.before.before.before.before.before.before.before.before.before.before.before.before.before.before.before.bytes-at.ensures (sym (ap bitsIn c.before.before.before.before.before.before.before.before.before.before.before.before.before.before.before.before.q.given.1) ∙ c.before.before.before.before.before.before.before.before.before.before.before.before.before.before.before.before.before.before.bits-of.ensures) c.before.before.before.before.before.before.before.before.before.before.before.before.before.before.if3.false count (sym (ap (λ x. orBad malformed (width_in x)) c.before.before.before.before.before.before.before.before.before.before.before.width.given.1) ∙ c.before.before.before.before.before.before.before.before.before.before.before.before.before.width-at.ensures (lead-spot (lit-second s us h c.before.before.before.before.before.before.before.before.before.before.before.before.before.before.before.before.before.before.before.before.before.before.before.before.if1.false c.before.before.before.before.before.before.before.before.before.before.before.before.before.before.before.before.before.before.before.before.before.before.if2.false c.before.before.before.before.before.before.before.before.before.before.before.before.before.before.if3.false))) c.before.before.before.before.before.before.before.before.before.word-to-length.ensures.0 c.before.before.before.before.before.before.before.before.if4.false c.before.before.before.before.before.before.put-wide.ensures c.before.before.put1.ensures
+returns-8 c s us h count = made_lit s us h c.before.before.before.before.before.before.before.before.before.before.before.before.before.before.before.before.before.before.before.before.before.before.before.before.if1.false c.before.before.before.before.before.before.before.before.before.before.before.before.before.before.before.before.before.before.before.before.before.before.if2.false c.before.before.before.before.before.before.before.before.before.before.before.before.before.before.before.before.before.before.before.bytes-at.ensures (sym (ap bits_in c.before.before.before.before.before.before.before.before.before.before.before.before.before.before.before.before.q.given.1) ∙ c.before.before.before.before.before.before.before.before.before.before.before.before.before.before.before.before.before.before.bits_of_lem.ensures) c.before.before.before.before.before.before.before.before.before.before.before.before.before.before.if3.false count (sym (ap (λ x. or_bad malformed (width_in x)) c.before.before.before.before.before.before.before.before.before.before.before.width.given.1) ∙ c.before.before.before.before.before.before.before.before.before.before.before.before.before.width-at.ensures (lead-spot (lit-second s us h c.before.before.before.before.before.before.before.before.before.before.before.before.before.before.before.before.before.before.before.before.before.before.before.before.if1.false c.before.before.before.before.before.before.before.before.before.before.before.before.before.before.before.before.before.before.before.before.before.before.if2.false c.before.before.before.before.before.before.before.before.before.before.before.before.before.before.if3.false))) c.before.before.before.before.before.before.before.before.before.word-to-length.ensures.0 c.before.before.before.before.before.before.before.before.if4.false c.before.before.before.before.before.before.put-wide.ensures c.before.before.put1.ensures
 
 pub lit-plan-spec : {M : Type 1} → statement M
 lit-plan-spec =

@@ -1,5 +1,5 @@
 use mathlib.Core.Path.{refl, ◌∙◌}
-use Rattle.grammar.specs.Expr.{bindItems}
+use Rattle.grammar.specs.Expr.{bind_items}
 use Rattle.replies.proofs.Outcomes.{bind-known}
 use Rattle.replies.proofs.Told.{counted-told, reply}
 use borrow.Author.Rules.{rules}
@@ -26,7 +26,7 @@ returns c =
     let a = c.before.before.before.before.before.before.before.before.before.before.before.before.args in
     let e = c.before.before.before.before.before.before.bind.ensures in
     let k = bind-known a.text.now a.tree.now a.out.now a.self.next in
-    let q = counted-told bindItems _ _ _ k _ e.0 in
+    let q = counted-told bind_items _ _ _ k _ e.0 in
     reply k (c.counted.ensures ∙ q.0, c.before.count-after.ensures ∙ q.1) e.1.0 refl e.1.1
 
 pub bind-spec : {M : Type 1} → statement M

@@ -1,5 +1,5 @@
 use mathlib.Core.Path.{refl, ◌∙◌}
-use Rattle.grammar.specs.Expr.{exprItems}
+use Rattle.grammar.specs.Expr.{expr_items}
 use Rattle.replies.proofs.Outcomes.{expr-known}
 use Rattle.replies.proofs.Told.{counted-told, reply}
 use borrow.Author.Rules.{rules}
@@ -26,7 +26,7 @@ returns c =
     let a = c.before.before.before.before.before.before.before.before.before.before.before.before.args in
     let e = c.before.before.before.before.before.before.expression.ensures in
     let k = expr-known a.text.now a.tree.now a.out.now a.self.next in
-    let q = counted-told exprItems _ _ _ k _ e.0 in
+    let q = counted-told expr_items _ _ _ k _ e.0 in
     reply k (c.counted.ensures ∙ q.0, c.before.count-after.ensures ∙ q.1) e.1.0 refl e.1.1
 
 pub expression-spec : {M : Type 1} → statement M

@@ -1,5 +1,5 @@
 use mathlib.Core.Path.{◌∙◌}
-use Rattle.flattening.specs.Operations.{flatItems}
+use Rattle.flattening.specs.Operations.{flat_items}
 use Rattle.replies.proofs.Outcomes.{solution-known}
 use Rattle.replies.proofs.Told.{counted-told, reply}
 use borrow.Author.Rules.{rules}
@@ -29,7 +29,7 @@ returns c =
     let a = c.before.before.before.before.before.before.before.before.before.before.before.before.before.before.before.before.args in
     let e = c.before.before.before.before.before.before.before.before.solution.ensures in
     let k = solution-known a.text.now a.tree.now a.out.now a.self.next a.draft.now in
-    let q = counted-told flatItems _ _ _ k _ e.0 in
+    let q = counted-told flat_items _ _ _ k _ e.0 in
     reply k (c.counted.ensures ∙ q.0, c.before.count-after.ensures ∙ q.1) e.1.0 e.1.1.0 e.1.1.1
 
 pub solution-spec : {M : Type 1} → statement M

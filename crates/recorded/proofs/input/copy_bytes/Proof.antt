@@ -4,14 +4,14 @@ use mathlib.Core.List.{[], ◌∷◌}
 use native.Mathlib.Omega.{arith}
 use lib.ListN.{length, drop, get_or}
 use Rattle.recorded.specs.Numbers.{most, digit}
-use Rattle.recorded.specs.Spelled.{bytesOnce}
+use Rattle.recorded.specs.Spelled.{bytes_once}
 use Rattle.recorded.proofs.Parts.{once-end, once-high, once-low, once_more, low-inside}
 use Rattle.recorded.proofs.Storing.{Left, left-all, left-more, left-none}
 use Rattle.recorded.proofs.input.copy_bytes.Statement.{statement}
 use Rattle.recorded.proofs.input.copy_bytes.Tie as tie
 
 abbrev invariant-loop : tie.invariant-loop
-invariant-loop lines at text₀ n i₀ len₀ text i len = (len ≤ most) × Left text₀ n (bytesOnce (drop at lines)) text len (bytesOnce (drop i lines))
+invariant-loop lines at text₀ n i₀ len₀ text i len = (len ≤ most) × Left text₀ n (bytes_once (drop at lines)) text len (bytes_once (drop i lines))
 
 abbrev decreases-loop : tie.decreases-loop
 decreases-loop lines at text₀ n i₀ len₀ text i len = length lines - i
@@ -70,7 +70,7 @@ loop-again : tie.Need-loop-preserved invariant-loop decreases-loop
 loop-again c =
     let l = c.before.before.before.before.before.before.before.before.before.before.before.before.before.before.before.args.lines.now in
     let i = c.before.before.before.before.before.before.before.before.before.before.before.before.loop.i in
-    (omega (arith, c.plus.ensures), left-more c.before.before.before.before.before.before.before.before.before.before.before.before.loop.invariant.1 ((16 * c.before.before.before.before.before.before.before.before.before.digit.result + c.before.before.before.before.before.before.digit2.result) ∷ []) (bytesOnce (drop (i + 2) l)) (once_more l i c.before.before.before.before.before.before.before.before.before.before.before.loop-test.true c.before.before.before.before.before.before.before.before.before.digit.result c.before.before.before.before.before.before.digit2.result c.before.before.before.before.before.before.before.before.before.digit.ensures (c.before.before.before.before.before.before.digit2.ensures ∙ ap digit c.before.before.before.before.before.before.before.byte_at.ensures) (omega arith) (omega arith)) (omega arith) c.before.before.before.put_byte.ensures c.plus.ensures)
+    (omega (arith, c.plus.ensures), left-more c.before.before.before.before.before.before.before.before.before.before.before.before.loop.invariant.1 ((16 * c.before.before.before.before.before.before.before.before.before.digit.result + c.before.before.before.before.before.before.digit2.result) ∷ []) (bytes_once (drop (i + 2) l)) (once_more l i c.before.before.before.before.before.before.before.before.before.before.before.loop-test.true c.before.before.before.before.before.before.before.before.before.digit.result c.before.before.before.before.before.before.digit2.result c.before.before.before.before.before.before.before.before.before.digit.ensures (c.before.before.before.before.before.before.digit2.ensures ∙ ap digit c.before.before.before.before.before.before.before.byte_at.ensures) (omega arith) (omega arith)) (omega arith) c.before.before.before.put_byte.ensures c.plus.ensures)
 
 same-length-3 : tie.Need-same-length-3 invariant-loop decreases-loop
 same-length-3 c = c.before.loop.invariant.1.kept

@@ -6,7 +6,7 @@ use native.Mathlib.Omega.{arith}
 use lib.ListN.{length, drop}
 use Rattle.recorded.specs.Numbers.{most}
 use Rattle.recorded.specs.Fields.{ends}
-use Rattle.recorded.specs.Spelled.{bytesIn, bytesOnce, again, times}
+use Rattle.recorded.specs.Spelled.{bytes_in, bytes_once, again, times}
 use Rattle.recorded.proofs.Places.{ends-inside}
 use Rattle.recorded.proofs.Parts.{spelled-more, spelled-last}
 use Rattle.recorded.proofs.Storing.{Left, left-all, left-more, left-none, stored-over}
@@ -14,7 +14,7 @@ use Rattle.recorded.proofs.input.put_bytes.Statement.{statement}
 use Rattle.recorded.proofs.input.put_bytes.Tie as tie
 
 abbrev invariant-loop : tie.invariant-loop
-invariant-loop lines at text₀ i₀ n₀ text i n = (n ≤ most) × Left text₀ 0 (bytesIn (drop at lines)) text n (bytesIn (drop i lines))
+invariant-loop lines at text₀ i₀ n₀ text i n = (n ≤ most) × Left text₀ 0 (bytes_in (drop at lines)) text n (bytes_in (drop i lines))
 
 abbrev decreases-loop : tie.decreases-loop
 decreases-loop lines at text₀ i₀ n₀ text i n = length lines - i
@@ -38,12 +38,12 @@ ends-requires : tie.Need-ends-requires invariant-loop decreases-loop
 ends-requires c κs = tt
 
 same_length : tie.Need-same-length invariant-loop decreases-loop
-unfolding bytesIn
-same_length c = (left-more c.before.before.before.before.before.before.before.before.before.loop.invariant.1 (again (times (drop c.before.before.before.before.before.before.before.before.before.loop.i c.before.before.before.before.before.before.before.before.before.before.before.before.args.lines.now)) (bytesOnce (drop c.before.before.before.before.before.before.before.before.before.loop.i c.before.before.before.before.before.before.before.before.before.before.before.before.args.lines.now))) [] (spelled-last bytesOnce c.before.before.before.before.before.before.before.before.before.before.before.before.args.lines.now c.before.before.before.before.before.before.before.before.before.loop.i c.before.before.before.end-from.ensures (λ z. c.if1.true (c.before.ends.ensures ∙ ap ends c.before.before.byte_at.ensures ∙ z))) (omega arith) (c.before.before.before.before.before.before.repeat-bytes.ensures.1 ∙ ap (λ (l : List ℕ). sets c.before.before.before.before.before.before.before.before.before.loop.text c.before.before.before.before.before.before.before.before.before.loop.n l) (ap (λ (t : ℕ). again t (bytesOnce (drop c.before.before.before.before.before.before.before.before.before.loop.i c.before.before.before.before.before.before.before.before.before.before.before.before.args.lines.now))) c.before.before.before.before.before.before.before.before.times.ensures)) (c.before.before.before.before.before.before.repeat-bytes.ensures.0 ∙ ap (λ (l : List ℕ). min most (c.before.before.before.before.before.before.before.before.before.loop.n + length l)) (ap (λ (t : ℕ). again t (bytesOnce (drop c.before.before.before.before.before.before.before.before.before.loop.i c.before.before.before.before.before.before.before.before.before.before.before.before.args.lines.now))) c.before.before.before.before.before.before.before.before.times.ensures))).kept
+unfolding bytes_in
+same_length c = (left-more c.before.before.before.before.before.before.before.before.before.loop.invariant.1 (again (times (drop c.before.before.before.before.before.before.before.before.before.loop.i c.before.before.before.before.before.before.before.before.before.before.before.before.args.lines.now)) (bytes_once (drop c.before.before.before.before.before.before.before.before.before.loop.i c.before.before.before.before.before.before.before.before.before.before.before.before.args.lines.now))) [] (spelled-last bytes_once c.before.before.before.before.before.before.before.before.before.before.before.before.args.lines.now c.before.before.before.before.before.before.before.before.before.loop.i c.before.before.before.end-from.ensures (λ z. c.if1.true (c.before.ends.ensures ∙ ap ends c.before.before.byte_at.ensures ∙ z))) (omega arith) (c.before.before.before.before.before.before.repeat-bytes.ensures.1 ∙ ap (λ (l : List ℕ). sets c.before.before.before.before.before.before.before.before.before.loop.text c.before.before.before.before.before.before.before.before.before.loop.n l) (ap (λ (t : ℕ). again t (bytes_once (drop c.before.before.before.before.before.before.before.before.before.loop.i c.before.before.before.before.before.before.before.before.before.before.before.before.args.lines.now))) c.before.before.before.before.before.before.before.before.times.ensures)) (c.before.before.before.before.before.before.repeat-bytes.ensures.0 ∙ ap (λ (l : List ℕ). min most (c.before.before.before.before.before.before.before.before.before.loop.n + length l)) (ap (λ (t : ℕ). again t (bytes_once (drop c.before.before.before.before.before.before.before.before.before.loop.i c.before.before.before.before.before.before.before.before.before.before.before.before.args.lines.now))) c.before.before.before.before.before.before.before.before.times.ensures))).kept
 
 returns : tie.Need-returns invariant-loop decreases-loop
-unfolding bytesIn
-returns c = stored-over (bytesIn (drop c.before.before.before.before.before.before.before.before.before.before.before.before.args.at c.before.before.before.before.before.before.before.before.before.before.before.before.args.lines.now)) c.before.before.before.before.before.before.before.before.before.before.before.before.args.text.now (left-none (left-more c.before.before.before.before.before.before.before.before.before.loop.invariant.1 (again (times (drop c.before.before.before.before.before.before.before.before.before.loop.i c.before.before.before.before.before.before.before.before.before.before.before.before.args.lines.now)) (bytesOnce (drop c.before.before.before.before.before.before.before.before.before.loop.i c.before.before.before.before.before.before.before.before.before.before.before.before.args.lines.now))) [] (spelled-last bytesOnce c.before.before.before.before.before.before.before.before.before.before.before.before.args.lines.now c.before.before.before.before.before.before.before.before.before.loop.i c.before.before.before.end-from.ensures (λ z. c.if1.true (c.before.ends.ensures ∙ ap ends c.before.before.byte_at.ensures ∙ z))) (omega arith) (c.before.before.before.before.before.before.repeat-bytes.ensures.1 ∙ ap (λ (l : List ℕ). sets c.before.before.before.before.before.before.before.before.before.loop.text c.before.before.before.before.before.before.before.before.before.loop.n l) (ap (λ (t : ℕ). again t (bytesOnce (drop c.before.before.before.before.before.before.before.before.before.loop.i c.before.before.before.before.before.before.before.before.before.before.before.before.args.lines.now))) c.before.before.before.before.before.before.before.before.times.ensures)) (c.before.before.before.before.before.before.repeat-bytes.ensures.0 ∙ ap (λ (l : List ℕ). min most (c.before.before.before.before.before.before.before.before.before.loop.n + length l)) (ap (λ (t : ℕ). again t (bytesOnce (drop c.before.before.before.before.before.before.before.before.before.loop.i c.before.before.before.before.before.before.before.before.before.before.before.before.args.lines.now))) c.before.before.before.before.before.before.before.before.times.ensures))) refl (omega (arith, c.before.before.before.before.before.before.repeat-bytes.ensures.0 ∙ ap (λ (l : List ℕ). min most (c.before.before.before.before.before.before.before.before.before.loop.n + length l)) (ap (λ (t : ℕ). again t (bytesOnce (drop c.before.before.before.before.before.before.before.before.before.loop.i c.before.before.before.before.before.before.before.before.before.before.before.before.args.lines.now))) c.before.before.before.before.before.before.before.before.times.ensures))))
+unfolding bytes_in
+returns c = stored-over (bytes_in (drop c.before.before.before.before.before.before.before.before.before.before.before.before.args.at c.before.before.before.before.before.before.before.before.before.before.before.before.args.lines.now)) c.before.before.before.before.before.before.before.before.before.before.before.before.args.text.now (left-none (left-more c.before.before.before.before.before.before.before.before.before.loop.invariant.1 (again (times (drop c.before.before.before.before.before.before.before.before.before.loop.i c.before.before.before.before.before.before.before.before.before.before.before.before.args.lines.now)) (bytes_once (drop c.before.before.before.before.before.before.before.before.before.loop.i c.before.before.before.before.before.before.before.before.before.before.before.before.args.lines.now))) [] (spelled-last bytes_once c.before.before.before.before.before.before.before.before.before.before.before.before.args.lines.now c.before.before.before.before.before.before.before.before.before.loop.i c.before.before.before.end-from.ensures (λ z. c.if1.true (c.before.ends.ensures ∙ ap ends c.before.before.byte_at.ensures ∙ z))) (omega arith) (c.before.before.before.before.before.before.repeat-bytes.ensures.1 ∙ ap (λ (l : List ℕ). sets c.before.before.before.before.before.before.before.before.before.loop.text c.before.before.before.before.before.before.before.before.before.loop.n l) (ap (λ (t : ℕ). again t (bytes_once (drop c.before.before.before.before.before.before.before.before.before.loop.i c.before.before.before.before.before.before.before.before.before.before.before.before.args.lines.now))) c.before.before.before.before.before.before.before.before.times.ensures)) (c.before.before.before.before.before.before.repeat-bytes.ensures.0 ∙ ap (λ (l : List ℕ). min most (c.before.before.before.before.before.before.before.before.before.loop.n + length l)) (ap (λ (t : ℕ). again t (bytes_once (drop c.before.before.before.before.before.before.before.before.before.loop.i c.before.before.before.before.before.before.before.before.before.before.before.before.args.lines.now))) c.before.before.before.before.before.before.before.before.times.ensures))) refl (omega (arith, c.before.before.before.before.before.before.repeat-bytes.ensures.0 ∙ ap (λ (l : List ℕ). min most (c.before.before.before.before.before.before.before.before.before.loop.n + length l)) (ap (λ (t : ℕ). again t (bytes_once (drop c.before.before.before.before.before.before.before.before.before.loop.i c.before.before.before.before.before.before.before.before.before.before.before.before.args.lines.now))) c.before.before.before.before.before.before.before.before.times.ensures))))
 
 add-i : tie.Need-overflow-add-i invariant-loop decreases-loop
 add-i c = omega (arith, ends-inside c.before.before.before.before.before.before.before.before.before.before.before.before.args.lines.now c.before.before.before.end-from.result (sym (c.before.ends.ensures ∙ ap ends c.before.before.byte_at.ensures) ∙ c.if1.false))
@@ -52,9 +52,9 @@ loop-less : tie.Need-loop-smaller invariant-loop decreases-loop
 loop-less c = omega (arith, c.before.before.before.end-from.ensures, ends-inside c.before.before.before.before.before.before.before.before.before.before.before.before.args.lines.now c.before.before.before.end-from.result (sym (c.before.ends.ensures ∙ ap ends c.before.before.byte_at.ensures) ∙ c.if1.false))
 
 loop-again : tie.Need-loop-preserved invariant-loop decreases-loop
-unfolding bytesIn
+unfolding bytes_in
 loop-again c =
-    (omega (arith, c.before.before.before.before.before.before.repeat-bytes.ensures.0 ∙ ap (λ (l : List ℕ). min most (c.before.before.before.before.before.before.before.before.before.loop.n + length l)) (ap (λ (t : ℕ). again t (bytesOnce (drop c.before.before.before.before.before.before.before.before.before.loop.i c.before.before.before.before.before.before.before.before.before.before.before.before.args.lines.now))) c.before.before.before.before.before.before.before.before.times.ensures)), left-more c.before.before.before.before.before.before.before.before.before.loop.invariant.1 (again (times (drop c.before.before.before.before.before.before.before.before.before.loop.i c.before.before.before.before.before.before.before.before.before.before.before.before.args.lines.now)) (bytesOnce (drop c.before.before.before.before.before.before.before.before.before.loop.i c.before.before.before.before.before.before.before.before.before.before.before.before.args.lines.now))) (bytesIn (drop (c.before.before.before.end-from.result + 1) c.before.before.before.before.before.before.before.before.before.before.before.before.args.lines.now)) (spelled-more bytesOnce c.before.before.before.before.before.before.before.before.before.before.before.before.args.lines.now c.before.before.before.before.before.before.before.before.before.loop.i c.before.before.before.end-from.ensures (sym (c.before.ends.ensures ∙ ap ends c.before.before.byte_at.ensures) ∙ c.if1.false)) (omega arith) (c.before.before.before.before.before.before.repeat-bytes.ensures.1 ∙ ap (λ (l : List ℕ). sets c.before.before.before.before.before.before.before.before.before.loop.text c.before.before.before.before.before.before.before.before.before.loop.n l) (ap (λ (t : ℕ). again t (bytesOnce (drop c.before.before.before.before.before.before.before.before.before.loop.i c.before.before.before.before.before.before.before.before.before.before.before.before.args.lines.now))) c.before.before.before.before.before.before.before.before.times.ensures)) (c.before.before.before.before.before.before.repeat-bytes.ensures.0 ∙ ap (λ (l : List ℕ). min most (c.before.before.before.before.before.before.before.before.before.loop.n + length l)) (ap (λ (t : ℕ). again t (bytesOnce (drop c.before.before.before.before.before.before.before.before.before.loop.i c.before.before.before.before.before.before.before.before.before.before.before.before.args.lines.now))) c.before.before.before.before.before.before.before.before.times.ensures)))
+    (omega (arith, c.before.before.before.before.before.before.repeat-bytes.ensures.0 ∙ ap (λ (l : List ℕ). min most (c.before.before.before.before.before.before.before.before.before.loop.n + length l)) (ap (λ (t : ℕ). again t (bytes_once (drop c.before.before.before.before.before.before.before.before.before.loop.i c.before.before.before.before.before.before.before.before.before.before.before.before.args.lines.now))) c.before.before.before.before.before.before.before.before.times.ensures)), left-more c.before.before.before.before.before.before.before.before.before.loop.invariant.1 (again (times (drop c.before.before.before.before.before.before.before.before.before.loop.i c.before.before.before.before.before.before.before.before.before.before.before.before.args.lines.now)) (bytes_once (drop c.before.before.before.before.before.before.before.before.before.loop.i c.before.before.before.before.before.before.before.before.before.before.before.before.args.lines.now))) (bytes_in (drop (c.before.before.before.end-from.result + 1) c.before.before.before.before.before.before.before.before.before.before.before.before.args.lines.now)) (spelled-more bytes_once c.before.before.before.before.before.before.before.before.before.before.before.before.args.lines.now c.before.before.before.before.before.before.before.before.before.loop.i c.before.before.before.end-from.ensures (sym (c.before.ends.ensures ∙ ap ends c.before.before.byte_at.ensures) ∙ c.if1.false)) (omega arith) (c.before.before.before.before.before.before.repeat-bytes.ensures.1 ∙ ap (λ (l : List ℕ). sets c.before.before.before.before.before.before.before.before.before.loop.text c.before.before.before.before.before.before.before.before.before.loop.n l) (ap (λ (t : ℕ). again t (bytes_once (drop c.before.before.before.before.before.before.before.before.before.loop.i c.before.before.before.before.before.before.before.before.before.before.before.before.args.lines.now))) c.before.before.before.before.before.before.before.before.times.ensures)) (c.before.before.before.before.before.before.repeat-bytes.ensures.0 ∙ ap (λ (l : List ℕ). min most (c.before.before.before.before.before.before.before.before.before.loop.n + length l)) (ap (λ (t : ℕ). again t (bytes_once (drop c.before.before.before.before.before.before.before.before.before.loop.i c.before.before.before.before.before.before.before.before.before.before.before.before.args.lines.now))) c.before.before.before.before.before.before.before.before.times.ensures)))
 
 pub put-bytes-spec : {M : Type 1} → statement M
 put-bytes-spec =

@@ -5,7 +5,7 @@ use native.Mathlib.Omega.{arith}
 use lib.ListN.{length, drop}
 use Rattle.recorded.specs.Numbers.{most}
 use Rattle.recorded.specs.Fields.{ends}
-use Rattle.recorded.specs.Spelled.{words_in, wordOnce, again, times}
+use Rattle.recorded.specs.Spelled.{words_in, word_once, again, times}
 use Rattle.recorded.proofs.Places.{ends-inside}
 use Rattle.recorded.proofs.Parts.{spelled-more, spelled-last}
 use Rattle.recorded.proofs.Storing.{Left, left-all, left-more, left-none, stored-over}
@@ -35,11 +35,11 @@ ends-requires c κs = tt
 
 same_length : tie.Need-same-length invariant-loop decreases-loop
 unfolding words_in
-same_length c = (left-more c.before.before.before.before.before.before.before.before.loop.invariant.1 (again (times (drop c.before.before.before.before.before.before.before.before.loop.i c.before.before.before.before.before.before.before.before.before.before.before.args.lines.now)) (wordOnce (drop c.before.before.before.before.before.before.before.before.loop.i c.before.before.before.before.before.before.before.before.before.before.before.args.lines.now))) [] (spelled-last wordOnce c.before.before.before.before.before.before.before.before.before.before.before.args.lines.now c.before.before.before.before.before.before.before.before.loop.i c.before.before.before.end-from.ensures (λ z. c.if1.true (c.before.ends.ensures ∙ ap ends c.before.before.byte_at.ensures ∙ z))) (omega arith) c.before.before.before.before.before.before.put-part.ensures.1 c.before.before.before.before.before.before.put-part.ensures.0).kept
+same_length c = (left-more c.before.before.before.before.before.before.before.before.loop.invariant.1 (again (times (drop c.before.before.before.before.before.before.before.before.loop.i c.before.before.before.before.before.before.before.before.before.before.before.args.lines.now)) (word_once (drop c.before.before.before.before.before.before.before.before.loop.i c.before.before.before.before.before.before.before.before.before.before.before.args.lines.now))) [] (spelled-last word_once c.before.before.before.before.before.before.before.before.before.before.before.args.lines.now c.before.before.before.before.before.before.before.before.loop.i c.before.before.before.end-from.ensures (λ z. c.if1.true (c.before.ends.ensures ∙ ap ends c.before.before.byte_at.ensures ∙ z))) (omega arith) c.before.before.before.before.before.before.put-part.ensures.1 c.before.before.before.before.before.before.put-part.ensures.0).kept
 
 returns : tie.Need-returns invariant-loop decreases-loop
 unfolding words_in
-returns c = stored-over (words_in (drop c.before.before.before.before.before.before.before.before.before.before.before.args.at c.before.before.before.before.before.before.before.before.before.before.before.args.lines.now)) c.before.before.before.before.before.before.before.before.before.before.before.args.words.now (left-none (left-more c.before.before.before.before.before.before.before.before.loop.invariant.1 (again (times (drop c.before.before.before.before.before.before.before.before.loop.i c.before.before.before.before.before.before.before.before.before.before.before.args.lines.now)) (wordOnce (drop c.before.before.before.before.before.before.before.before.loop.i c.before.before.before.before.before.before.before.before.before.before.before.args.lines.now))) [] (spelled-last wordOnce c.before.before.before.before.before.before.before.before.before.before.before.args.lines.now c.before.before.before.before.before.before.before.before.loop.i c.before.before.before.end-from.ensures (λ z. c.if1.true (c.before.ends.ensures ∙ ap ends c.before.before.byte_at.ensures ∙ z))) (omega arith) c.before.before.before.before.before.before.put-part.ensures.1 c.before.before.before.before.before.before.put-part.ensures.0) refl (omega (arith, c.before.before.before.before.before.before.put-part.ensures.0)))
+returns c = stored-over (words_in (drop c.before.before.before.before.before.before.before.before.before.before.before.args.at c.before.before.before.before.before.before.before.before.before.before.before.args.lines.now)) c.before.before.before.before.before.before.before.before.before.before.before.args.words.now (left-none (left-more c.before.before.before.before.before.before.before.before.loop.invariant.1 (again (times (drop c.before.before.before.before.before.before.before.before.loop.i c.before.before.before.before.before.before.before.before.before.before.before.args.lines.now)) (word_once (drop c.before.before.before.before.before.before.before.before.loop.i c.before.before.before.before.before.before.before.before.before.before.before.args.lines.now))) [] (spelled-last word_once c.before.before.before.before.before.before.before.before.before.before.before.args.lines.now c.before.before.before.before.before.before.before.before.loop.i c.before.before.before.end-from.ensures (λ z. c.if1.true (c.before.ends.ensures ∙ ap ends c.before.before.byte_at.ensures ∙ z))) (omega arith) c.before.before.before.before.before.before.put-part.ensures.1 c.before.before.before.before.before.before.put-part.ensures.0) refl (omega (arith, c.before.before.before.before.before.before.put-part.ensures.0)))
 
 add-i : tie.Need-overflow-add-i invariant-loop decreases-loop
 add-i c = omega (arith, ends-inside c.before.before.before.before.before.before.before.before.before.before.before.args.lines.now c.before.before.before.end-from.result (sym (c.before.ends.ensures ∙ ap ends c.before.before.byte_at.ensures) ∙ c.if1.false))
@@ -50,7 +50,7 @@ loop-less c = omega (arith, c.before.before.before.end-from.ensures, ends-inside
 loop-again : tie.Need-loop-preserved invariant-loop decreases-loop
 unfolding words_in
 loop-again c =
-    (omega (arith, c.before.before.before.before.before.before.put-part.ensures.0), left-more c.before.before.before.before.before.before.before.before.loop.invariant.1 (again (times (drop c.before.before.before.before.before.before.before.before.loop.i c.before.before.before.before.before.before.before.before.before.before.before.args.lines.now)) (wordOnce (drop c.before.before.before.before.before.before.before.before.loop.i c.before.before.before.before.before.before.before.before.before.before.before.args.lines.now))) (words_in (drop (c.before.before.before.end-from.result + 1) c.before.before.before.before.before.before.before.before.before.before.before.args.lines.now)) (spelled-more wordOnce c.before.before.before.before.before.before.before.before.before.before.before.args.lines.now c.before.before.before.before.before.before.before.before.loop.i c.before.before.before.end-from.ensures (sym (c.before.ends.ensures ∙ ap ends c.before.before.byte_at.ensures) ∙ c.if1.false)) (omega arith) c.before.before.before.before.before.before.put-part.ensures.1 c.before.before.before.before.before.before.put-part.ensures.0)
+    (omega (arith, c.before.before.before.before.before.before.put-part.ensures.0), left-more c.before.before.before.before.before.before.before.before.loop.invariant.1 (again (times (drop c.before.before.before.before.before.before.before.before.loop.i c.before.before.before.before.before.before.before.before.before.before.before.args.lines.now)) (word_once (drop c.before.before.before.before.before.before.before.before.loop.i c.before.before.before.before.before.before.before.before.before.before.before.args.lines.now))) (words_in (drop (c.before.before.before.end-from.result + 1) c.before.before.before.before.before.before.before.before.before.before.before.args.lines.now)) (spelled-more word_once c.before.before.before.before.before.before.before.before.before.before.before.args.lines.now c.before.before.before.before.before.before.before.before.loop.i c.before.before.before.end-from.ensures (sym (c.before.ends.ensures ∙ ap ends c.before.before.byte_at.ensures) ∙ c.if1.false)) (omega arith) c.before.before.before.before.before.before.put-part.ensures.1 c.before.before.before.before.before.before.put-part.ensures.0)
 
 pub put-words-spec : {M : Type 1} → statement M
 put-words-spec =

@@ -3,13 +3,13 @@ use mathlib.Core.Path.{◌≡◌}
 use native.Mathlib.Omega.{arith}
 use lib.ListN.{drop}
 use Rattle.recorded.specs.Numbers.{most}
-use Rattle.recorded.specs.Spelled.{bytesOnce, again}
+use Rattle.recorded.specs.Spelled.{bytes_once, again}
 use Rattle.recorded.proofs.Storing.{Left, left-all, left-more, left-none, again-next, again-none}
 use Rattle.recorded.proofs.input.repeat_bytes.Statement.{statement}
 use Rattle.recorded.proofs.input.repeat_bytes.Tie as tie
 
 abbrev invariant-loop : tie.invariant-loop
-invariant-loop lines at times text₀ n len₀ k₀ text len k = (len ≤ most) × Left text₀ n (again times (bytesOnce (drop at lines))) text len (again (times - k) (bytesOnce (drop at lines)))
+invariant-loop lines at times text₀ n len₀ k₀ text len k = (len ≤ most) × Left text₀ n (again times (bytes_once (drop at lines))) text len (again (times - k) (bytes_once (drop at lines)))
 
 abbrev decreases-loop : tie.decreases-loop
 decreases-loop lines at times text₀ n len₀ k₀ text len k = times - k
@@ -30,7 +30,7 @@ loop-less c = omega arith
 
 loop-again : tie.Need-loop-preserved invariant-loop decreases-loop
 loop-again c =
-    let b = bytesOnce (drop c.before.before.before.before.before.before.before.before.args.at c.before.before.before.before.before.before.before.before.args.lines.now) in
+    let b = bytes_once (drop c.before.before.before.before.before.before.before.before.args.at c.before.before.before.before.before.before.before.before.args.lines.now) in
     let t = c.before.before.before.before.before.before.before.before.args.times in
     (omega (arith, c.before.before.copy-bytes.ensures.0), left-more c.before.before.before.before.before.loop.invariant.1 b (again (t - (c.before.before.before.before.before.loop.k + 1)) b) (again-next b (t - c.before.before.before.before.before.loop.k) (t - (c.before.before.before.before.before.loop.k + 1)) (omega arith)) (omega arith) c.before.before.copy-bytes.ensures.1 c.before.before.copy-bytes.ensures.0)
 

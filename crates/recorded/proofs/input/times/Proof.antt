@@ -1,7 +1,7 @@
 use mathlib.Core.Path.{sym, ◌∙◌}
 use native.Mathlib.Omega.{arith}
 use Rattle.recorded.proofs.Places.{byte_inside}
-use Rattle.recorded.proofs.Parts.{times-star, times-once}
+use Rattle.recorded.proofs.Parts.{times_star, times-once}
 use Rattle.recorded.proofs.input.times.Statement.{statement}
 use Rattle.recorded.proofs.input.times.Tie as tie
 
@@ -18,7 +18,7 @@ decimal-requires : tie.Need-decimal-requires
 decimal-requires c κs = tt
 
 returns : tie.Need-returns
-returns c = c.decimal.ensures ∙ times-star c.before.before.before.before.before.args.lines.now c.before.before.before.before.before.args.at c.before.before.before.end-from.ensures (sym c.before.before.byte_at.ensures ∙ c.before.if1.true)
+returns c = c.decimal.ensures ∙ times_star c.before.before.before.before.before.args.lines.now c.before.before.before.before.before.args.at c.before.before.before.end-from.ensures (sym c.before.before.byte_at.ensures ∙ c.before.if1.true)
 
 returns-2 : tie.Need-returns-2
 returns-2 c = times-once c.before.before.before.before.args.lines.now c.before.before.before.before.args.at c.before.before.end-from.ensures (λ z. c.if1.false (c.before.byte_at.ensures ∙ z))

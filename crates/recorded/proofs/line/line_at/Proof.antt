@@ -1,5 +1,5 @@
 use Rattle.recorded.specs.Fields.{line_at}
-use Rattle.recorded.proofs.Places.{field_next, number-in, field-first, line-equal}
+use Rattle.recorded.proofs.Places.{field_next, number_in_lem, field-first, line_equal}
 use Rattle.recorded.proofs.line.line_at.Statement.{statement}
 use Rattle.recorded.proofs.line.line_at.Tie as tie
 
@@ -83,7 +83,7 @@ returns c =
     let f10 = field_next s at 9 f9 c.before.before.before.before.before.before.before.before.before.before.before.next-field10.ensures in
     let f11 = field_next s at 10 f10 c.before.before.before.before.before.before.before.before.before.before.next-field11.ensures in
     let f12 = field_next s at 11 f11 c.next-field12.ensures in
-    line-equal c.before.before.before.before.before.before.before.before.before.byte_at.ensures (number-in s at 1 f1 c.before.before.before.before.before.before.before.before.decimal.ensures) (number-in s at 2 f2 c.before.before.before.before.before.before.before.decimal2.ensures) (number-in s at 3 f3 c.before.before.before.before.before.before.decimal3.ensures) (number-in s at 4 f4 c.before.before.before.before.before.decimal4.ensures) f5 (number-in s at 7 f7 c.before.before.before.before.decimal5.ensures) (number-in s at 8 f8 c.before.before.before.decimal6.ensures) (number-in s at 9 f9 c.before.before.decimal7.ensures) (number-in s at 10 f10 c.before.decimal8.ensures) f11 f12
+    line_equal c.before.before.before.before.before.before.before.before.before.byte_at.ensures (number_in_lem s at 1 f1 c.before.before.before.before.before.before.before.before.decimal.ensures) (number_in_lem s at 2 f2 c.before.before.before.before.before.before.before.decimal2.ensures) (number_in_lem s at 3 f3 c.before.before.before.before.before.before.decimal3.ensures) (number_in_lem s at 4 f4 c.before.before.before.before.before.decimal4.ensures) f5 (number_in_lem s at 7 f7 c.before.before.before.before.decimal5.ensures) (number_in_lem s at 8 f8 c.before.before.before.decimal6.ensures) (number_in_lem s at 9 f9 c.before.before.decimal7.ensures) (number_in_lem s at 10 f10 c.before.decimal8.ensures) f11 f12
 
 pub line-at-spec : {M : Type 1} → statement M
 line-at-spec =

@@ -2,13 +2,13 @@ use Prim.Native.Nat.{◌-◌, ◌≤◌}
 use mathlib.Core.Path.{◌≡◌, refl}
 use native.Mathlib.Omega.{arith}
 use lib.ListN.{length, drop, get_or}
-use Rattle.recorded.specs.Numbers.{numberFrom, most, decimal}
-use Rattle.recorded.proofs.Digits.{digit-small, number-end, number-stop, number-next, number-over}
+use Rattle.recorded.specs.Numbers.{number_from, most, decimal}
+use Rattle.recorded.proofs.Digits.{digit-small, number-end, number_stop, number-next, number-over}
 use Rattle.recorded.proofs.numbers.decimal.Statement.{statement}
 use Rattle.recorded.proofs.numbers.decimal.Tie as tie
 
 abbrev invariant-loop : tie.invariant-loop
-invariant-loop lines at value₀ i₀ value i = (value ≤ most) × (numberFrom 10 0 (drop at lines) ≡ numberFrom 10 value (drop i lines))
+invariant-loop lines at value₀ i₀ value i = (value ≤ most) × (number_from 10 0 (drop at lines) ≡ number_from 10 value (drop i lines))
 
 abbrev decreases-loop : tie.decreases-loop
 decreases-loop lines at value₀ i₀ value i = length lines - i
@@ -30,7 +30,7 @@ unfolding decimal
 returns c =
     let l = c.before.before.before.before.before.before.args.lines.now in
     let p = c.before.before.before.before.loop in
-    number-stop most 10 l c.before.before.before.before.before.before.args.at p.i p.value p.invariant.1 c.before.digit.result c.before.before.before.loop-test.true c.before.digit.ensures c.if1.true p.invariant.0
+    number_stop most 10 l c.before.before.before.before.before.before.args.at p.i p.value p.invariant.1 c.before.digit.result c.before.before.before.loop-test.true c.before.digit.ensures c.if1.true p.invariant.0
 
 returns-2 : tie.Need-returns-2 invariant-loop decreases-loop
 unfolding decimal

@@ -3,7 +3,7 @@ use mathlib.Core.Path.{◌≡◌, refl}
 use native.Mathlib.Omega.{arith}
 use lib.ListN.{length, drop}
 use Rattle.recorded.specs.Fields.{ends, up_to}
-use Rattle.recorded.proofs.Places.{upto-end, upto-stop, upto-more}
+use Rattle.recorded.proofs.Places.{upto-end, upto_stop, upto-more}
 use Rattle.recorded.proofs.numbers.end_from.Statement.{statement}
 use Rattle.recorded.proofs.numbers.end_from.Tie as tie
 
@@ -23,7 +23,7 @@ ends-requires : tie.Need-ends-requires invariant-loop decreases-loop
 ends-requires c κs = tt
 
 returns : tie.Need-returns invariant-loop decreases-loop
-returns c = omega (arith, c.before.before.before.before.loop.invariant, upto-stop c.before.before.before.before.before.before.args.k c.before.before.before.before.before.before.args.lines.now c.before.before.before.before.loop.i c.before.before.before.loop-test.true (omega (arith, c.before.ends.ensures, c.if1.true)))
+returns c = omega (arith, c.before.before.before.before.loop.invariant, upto_stop c.before.before.before.before.before.before.args.k c.before.before.before.before.before.before.args.lines.now c.before.before.before.before.loop.i c.before.before.before.loop-test.true (omega (arith, c.before.ends.ensures, c.if1.true)))
 
 add-i : tie.Need-overflow-add-i invariant-loop decreases-loop
 add-i c = omega arith

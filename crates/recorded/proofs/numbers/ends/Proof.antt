@@ -2,7 +2,7 @@ use native.Mathlib.Omega.{arith}
 use mathlib.Core.Path.{refl}
 use Rattle.recorded.specs.Fields.{ends}
 use Rattle.recorded.specs.Numbers.{digit}
-use Rattle.reading.proofs.Picks.{picks, pick-ne, pick-lt, pick-ge}
+use Rattle.reading.proofs.Picks.{picks, pick_ne, pick_lt, pick_ge}
 use Rattle.recorded.proofs.numbers.ends.Statement.{statement}
 use Rattle.recorded.proofs.numbers.ends.Tie as tie
 
@@ -27,11 +27,11 @@ digit-requires c κs = tt
 
 returns-5 : tie.Need-returns-5
 unfolding ends
-returns-5 c = pick-ne _ c.before.before.before.before.before.if1.false (pick-ne _ c.before.before.before.before.if2.false (pick-ne _ c.before.before.before.if3.false (pick-ne _ c.before.before.if4.false (pick-lt {a = digit c.before.before.before.before.before.before.args.b} {b = 16} _ (omega (arith, c.before.digit.ensures, c.if5.true)) refl))))
+returns-5 c = pick_ne _ c.before.before.before.before.before.if1.false (pick_ne _ c.before.before.before.before.if2.false (pick_ne _ c.before.before.before.if3.false (pick_ne _ c.before.before.if4.false (pick_lt {a = digit c.before.before.before.before.before.before.args.b} {b = 16} _ (omega (arith, c.before.digit.ensures, c.if5.true)) refl))))
 
 returns-6 : tie.Need-returns-6
 unfolding ends
-returns-6 c = pick-ne _ c.before.before.before.before.before.if1.false (pick-ne _ c.before.before.before.before.if2.false (pick-ne _ c.before.before.before.if3.false (pick-ne _ c.before.before.if4.false (pick-ge {a = digit c.before.before.before.before.before.before.args.b} {b = 16} _ (omega (arith, c.before.digit.ensures, c.if5.false)) refl))))
+returns-6 c = pick_ne _ c.before.before.before.before.before.if1.false (pick_ne _ c.before.before.before.before.if2.false (pick_ne _ c.before.before.before.if3.false (pick_ne _ c.before.before.if4.false (pick_ge {a = digit c.before.before.before.before.before.before.args.b} {b = 16} _ (omega (arith, c.before.digit.ensures, c.if5.false)) refl))))
 
 pub ends-spec : {M : Type 1} → statement M
 ends-spec =

@@ -2,13 +2,13 @@ use Prim.Native.Nat.{◌-◌, ◌^◌, ◌≤◌}
 use mathlib.Core.Path.{◌≡◌, refl}
 use native.Mathlib.Omega.{arith}
 use lib.ListN.{length, drop}
-use Rattle.recorded.specs.Numbers.{numberFrom, hexadecimal}
-use Rattle.recorded.proofs.Digits.{number-end, number-stop, number-next, number-over}
+use Rattle.recorded.specs.Numbers.{number_from, hexadecimal}
+use Rattle.recorded.proofs.Digits.{number-end, number_stop, number-next, number-over}
 use Rattle.recorded.proofs.numbers.hexadecimal.Statement.{statement}
 use Rattle.recorded.proofs.numbers.hexadecimal.Tie as tie
 
 abbrev invariant-loop : tie.invariant-loop
-invariant-loop lines at value₀ i₀ value i = (value ≤ (2 ^ 32 - 1)) × (numberFrom 16 0 (drop at lines) ≡ numberFrom 16 value (drop i lines))
+invariant-loop lines at value₀ i₀ value i = (value ≤ (2 ^ 32 - 1)) × (number_from 16 0 (drop at lines) ≡ number_from 16 value (drop i lines))
 
 abbrev decreases-loop : tie.decreases-loop
 decreases-loop lines at value₀ i₀ value i = length lines - i
@@ -27,7 +27,7 @@ unfolding hexadecimal
 returns c =
     let l = c.before.before.before.before.before.before.args.lines.now in
     let p = c.before.before.before.before.loop in
-    number-stop (2 ^ 32 - 1) 16 l c.before.before.before.before.before.before.args.at p.i p.value p.invariant.1 c.before.digit.result c.before.before.before.loop-test.true c.before.digit.ensures c.if1.true p.invariant.0
+    number_stop (2 ^ 32 - 1) 16 l c.before.before.before.before.before.before.args.at p.i p.value p.invariant.1 c.before.digit.result c.before.before.before.loop-test.true c.before.digit.ensures c.if1.true p.invariant.0
 
 returns-2 : tie.Need-returns-2 invariant-loop decreases-loop
 unfolding hexadecimal

@@ -1,7 +1,7 @@
 use native.Mathlib.Omega.{arith}
 use mathlib.Core.Path.{sym}
 use lib.Seq.{length-take-le}
-use Rattle.replay.proofs.Calling.{spelled-there, long-words, long-tree, long-draft, long-out, lend-done}
+use Rattle.replay.proofs.Calling.{spelled-there, long-words, long-tree, long-draft, long-out, lend_done}
 use borrow.Author.Rules.{rules}
 use Rattle.replay.proofs.call.lend.Statement.{statement}
 use Rattle.replay.proofs.call.lend.Tie as tie
@@ -54,7 +54,7 @@ asked-requires c κs = tt
 returns-5 : tie.Need-returns-5
 returns-5 c =
     let p = c.before.before.before.before.before.before.before.before.before.before.before.before.before.before.before.before.put-words.ensures in
-    lend-done c.before.before.before.before.before.before.before.before.before.before.before.before.before.before.before.before.before.before.before.before.args.lines.now c.before.before.before.before.before.before.before.before.before.before.before.before.before.before.before.before.before.before.before.before.args.line c.before.before.before.before.before.before.before.before.before.before.before.before.before.before.before.before.before.before.before.before.args.text.now c.before.before.before.before.before.before.before.before.before.before.before.before.before.before.before.before.before.before.before.before.args.reader.next p.0 c.before.before.before.before.before.before.before.before.before.before.before.before.before.before.if1.false c.before.before.before.before.before.before.before.before.before.before.before.before.if2.false c.before.before.before.before.before.before.before.before.before.before.if3.false c.before.before.before.before.before.before.before.before.if4.false (spelled-there _ _ p.0 p.1 (array-share-prefix-words c.before.before.before.before.before.before.before.before) (omega (arith, c.before.before.before.before.before.before.before.before.before.before.before.before.before.before.if1.false))) (slice-aggregate-asked-2 c.before.before.before.before.before.before) (slice-aggregate-asked-3 c.before.before.before.before.before) (slice-aggregate-asked-4 c.before.before.before.before) c.before.before.before.asked.ensures.0 c.before.before.before.asked.ensures.1
+    lend_done c.before.before.before.before.before.before.before.before.before.before.before.before.before.before.before.before.before.before.before.before.args.lines.now c.before.before.before.before.before.before.before.before.before.before.before.before.before.before.before.before.before.before.before.before.args.line c.before.before.before.before.before.before.before.before.before.before.before.before.before.before.before.before.before.before.before.before.args.text.now c.before.before.before.before.before.before.before.before.before.before.before.before.before.before.before.before.before.before.before.before.args.reader.next p.0 c.before.before.before.before.before.before.before.before.before.before.before.before.before.before.if1.false c.before.before.before.before.before.before.before.before.before.before.before.before.if2.false c.before.before.before.before.before.before.before.before.before.before.if3.false c.before.before.before.before.before.before.before.before.if4.false (spelled-there _ _ p.0 p.1 (array-share-prefix-words c.before.before.before.before.before.before.before.before) (omega (arith, c.before.before.before.before.before.before.before.before.before.before.before.before.before.before.if1.false))) (slice-aggregate-asked-2 c.before.before.before.before.before.before) (slice-aggregate-asked-3 c.before.before.before.before.before) (slice-aggregate-asked-4 c.before.before.before.before) c.before.before.before.asked.ensures.0 c.before.before.before.asked.ensures.1
 
 pub lend_spec : {M : Type 1} → statement M
 lend_spec =

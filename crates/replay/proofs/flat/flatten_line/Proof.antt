@@ -1,7 +1,7 @@
 use native.Mathlib.Omega.{arith}
 use mathlib.Core.Path.{sym}
 use lib.Seq.{length-take-le}
-use Rattle.replay.proofs.Calling.{spelled-there, flat-given, flat-words, flat_out, flat-done}
+use Rattle.replay.proofs.Calling.{spelled-there, flat_given, flat-words, flat_out, flat-done}
 use borrow.Author.Rules.{rules}
 use Rattle.replay.proofs.flat.flatten_line.Statement.{statement}
 use Rattle.replay.proofs.flat.flatten_line.Tie as tie
@@ -13,7 +13,7 @@ put-words-requires : tie.Need-put-words-requires
 put-words-requires c κs = tt
 
 returns : tie.Need-returns
-returns c = flat-given c.before.before.before.before.before.args.lines.now c.before.before.before.before.before.args.line c.before.before.put-words.ensures.0 c.if1.true
+returns c = flat_given c.before.before.before.before.before.args.lines.now c.before.before.before.before.before.args.line c.before.before.put-words.ensures.0 c.if1.true
 
 slice-aggregate-put-words-2 : tie.Need-slice-aggregate-put-words-2
 slice-aggregate-put-words-2 c = search rules

@@ -1,5 +1,5 @@
 use mathlib.Core.Path.{sym, ap}
-use Rattle.replay.specs.Called.{flatReply}
+use Rattle.replay.specs.Called.{flat_reply}
 use borrow.Author.Rules.{rules}
 use Rattle.replay.proofs.flat.reply.Statement.{statement}
 use Rattle.replay.proofs.flat.reply.Tie as tie
@@ -14,10 +14,10 @@ cast-t6 : tie.Need-overflow-cast-t6
 cast-t6 c = search rules
 
 returns : tie.Need-returns
-returns c = ap flatReply (sym c.before.answer.given.1)
+returns c = ap flat_reply (sym c.before.answer.given.1)
 
 returns-2 : tie.Need-returns-2
-returns-2 c = ap flatReply (sym c.before.answer2.given.1)
+returns-2 c = ap flat_reply (sym c.before.answer2.given.1)
 
 pub reply-spec : {M : Type 1} → statement M
 reply-spec = tie.close (tie.spec enum-known-answer enum-known-answer-2 cast-t6 returns returns-2)

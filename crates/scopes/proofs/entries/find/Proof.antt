@@ -1,6 +1,6 @@
 use Rattle.std.proofs.Common.{◌-◌, arith, rules}
 use Rattle.scopes.specs.Scopes.{OpenScopes}
-use Rattle.scopes.proofs.ScopeNames.{Search, search-start, search-end, search-pairs, search-hit, search-more, wraps}
+use Rattle.scopes.proofs.ScopeNames.{Search, search_start, search_end, search_pairs, search_hit, search_more, wraps}
 use Rattle.scopes.proofs.entries.find.Statement.{statement}
 use Rattle.scopes.proofs.entries.find.Tie as tie
 
@@ -11,7 +11,7 @@ abbrev decreases-loop : tie.decreases-loop
 decreases-loop text tree scopes depth count start len d₀ d = d
 
 loop-holds : tie.Need-loop-init invariant-loop decreases-loop
-loop-holds c = λ h. search-start _ _ _ _ h _
+loop-holds c = λ h. search_start _ _ _ _ h _
 
 sub-d : tie.Need-overflow-sub-d invariant-loop decreases-loop
 sub-d c = search rules
@@ -44,7 +44,7 @@ long-to-length-requires-2 : tie.Need-long-to-length-requires-2 invariant-loop de
 long-to-length-requires-2 c κs = search rules
 
 place-among-requires : tie.Need-place-among-requires invariant-loop decreases-loop
-place-among-requires c κs = search-pairs _ _ _ _ c.before.before.before.before.before.before.before.before.before.requires _ _ (c.before.before.before.before.before.loop.invariant c.before.before.before.before.before.before.before.before.before.requires) c.before.before.before.before.loop-test.true c.before.before.long-to-length.ensures c.long-to-length2.ensures
+place-among-requires c κs = search_pairs _ _ _ _ c.before.before.before.before.before.before.before.before.before.requires _ _ (c.before.before.before.before.before.loop.invariant c.before.before.before.before.before.before.before.before.before.requires) c.before.before.before.before.loop-test.true c.before.before.long-to-length.ensures c.long-to-length2.ensures
 
 mul-wrapping-add-u64 : tie.Need-overflow-mul-wrapping-add-u64 invariant-loop decreases-loop
 mul-wrapping-add-u64 c = omega (arith, (c.before.before.before.before.before.before.before.loop.invariant c.before.before.before.before.before.before.before.before.before.before.before.requires).within)
@@ -68,16 +68,16 @@ wrapping-add-u64-requires-2 : tie.Need-wrapping-add-u64-requires-2 invariant-loo
 wrapping-add-u64-requires-2 c κs = search rules
 
 returns : tie.Need-returns invariant-loop decreases-loop
-returns c h = search-hit _ _ _ _ h _ _ (c.before.before.before.before.before.before.before.before.before.before.before.loop.invariant h) c.before.before.before.before.before.before.before.before.before.before.loop-test.true c.before.before.before.before.before.before.before.before.long-to-length.ensures c.before.before.before.before.before.before.long-to-length2.ensures c.before.before.before.before.before.place-among.ensures _ c.before.before.before.before.if1.true (wraps _ _ _ _ _ _ c.before.before.length-to-long.ensures c.before.wrapping-add-u64.ensures c.wrapping-add-u642.ensures)
+returns c h = search_hit _ _ _ _ h _ _ (c.before.before.before.before.before.before.before.before.before.before.before.loop.invariant h) c.before.before.before.before.before.before.before.before.before.before.loop-test.true c.before.before.before.before.before.before.before.before.long-to-length.ensures c.before.before.before.before.before.before.long-to-length2.ensures c.before.before.before.before.before.place-among.ensures _ c.before.before.before.before.if1.true (wraps _ _ _ _ _ _ c.before.before.length-to-long.ensures c.before.wrapping-add-u64.ensures c.wrapping-add-u642.ensures)
 
 loop-less : tie.Need-loop-smaller invariant-loop decreases-loop
 loop-less c = omega arith
 
 loop-again : tie.Need-loop-preserved invariant-loop decreases-loop
-loop-again c = λ h. search-more _ _ _ _ h _ _ (c.before.before.before.before.before.before.before.loop.invariant h) c.before.before.before.before.before.before.loop-test.true c.before.before.before.before.long-to-length.ensures c.before.before.long-to-length2.ensures c.before.place-among.ensures c.if1.false
+loop-again c = λ h. search_more _ _ _ _ h _ _ (c.before.before.before.before.before.before.before.loop.invariant h) c.before.before.before.before.before.before.loop-test.true c.before.before.before.before.long-to-length.ensures c.before.before.long-to-length2.ensures c.before.place-among.ensures c.if1.false
 
 returns-2 : tie.Need-returns-2 invariant-loop decreases-loop
-returns-2 c h = search-end _ _ _ _ h _ _ (c.before.loop.invariant h) _ c.loop-test.false
+returns-2 c h = search_end _ _ _ _ h _ _ (c.before.loop.invariant h) _ c.loop-test.false
 
 pub find_spec : {M : Type 1} → statement M
 find_spec =

@@ -1,8 +1,8 @@
 use mathlib.Core.Path.{sym, refl}
 use Rattle.reading.specs.Answer.{unwritable}
-use Rattle.writing.proofs.Wrote.{wrote-seq}
+use Rattle.writing.proofs.Wrote.{wrote_seq}
 use Rattle.smtnames.proofs.Tells.{tells-to, tells-no, tells_as}
-use Rattle.smtfronts.proofs.FrontsSteps.{bits-refused, bits-taken}
+use Rattle.smtfronts.proofs.FrontsSteps.{bits_refused, bits_taken}
 use borrow.Author.Rules.{rules}
 use Rattle.smtfronts.proofs.fronts.bits.Statement.{statement}
 use Rattle.smtfronts.proofs.fronts.bits.Tie as tie
@@ -20,7 +20,7 @@ fits-requires c κs = search rules
 
 -- src/fronts.rt:142:9
 returns : tie.Need-returns
-returns c = tells_as (sym (bits-refused _ _ c.before.fits2.ensures c.if1.true)) (tells-no unwritable refl)
+returns c = tells_as (sym (bits_refused _ _ c.before.fits2.ensures c.if1.true)) (tells-no unwritable refl)
 
 -- src/fronts.rt:144:19
 slice-aggregate-bytes : tie.Need-slice-aggregate-bytes
@@ -53,12 +53,12 @@ same_length c = search rules
 -- src/fronts.rt:138:1
 returns-2 : tie.Need-returns-2
 returns-2 c =
-    tells_as (sym (bits-taken _ _ c.before.before.before.before.before.before.before.before.before.before.before.before.before.before.before.before.before.before.before.before.before.before.fits2.ensures c.before.before.before.before.before.before.before.before.before.before.before.before.before.before.before.before.before.before.before.before.before.if1.false))
+    tells_as (sym (bits_taken _ _ c.before.before.before.before.before.before.before.before.before.before.before.before.before.before.before.before.before.before.before.before.before.before.fits2.ensures c.before.before.before.before.before.before.before.before.before.before.before.before.before.before.before.before.before.before.before.before.before.if1.false))
     (tells-to
-    (wrote-seq _ _ c.before.before.before.before.before.before.before.before.before.before.before.before.before.before.before.before.before.before.bytes.ensures
-    (wrote-seq _ _ c.before.before.before.before.before.before.before.before.before.before.before.before.before.before.decimal.ensures
-    (wrote-seq _ _ c.before.before.before.before.before.before.before.before.before.before.byte.ensures
-    (wrote-seq _ _ c.before.before.before.before.before.before.decimal-word.ensures c.before.before.byte2.ensures)))))
+    (wrote_seq _ _ c.before.before.before.before.before.before.before.before.before.before.before.before.before.before.before.before.before.before.bytes.ensures
+    (wrote_seq _ _ c.before.before.before.before.before.before.before.before.before.before.before.before.before.before.decimal.ensures
+    (wrote_seq _ _ c.before.before.before.before.before.before.before.before.before.before.byte.ensures
+    (wrote_seq _ _ c.before.before.before.before.before.before.decimal-word.ensures c.before.before.byte2.ensures)))))
 
 pub bits-spec : {M : Type 1} → statement M
 bits-spec =

@@ -1,6 +1,6 @@
 use mathlib.Core.Path.{sym}
 use Rattle.writing.proofs.Wrote.{wrote_none}
-use Rattle.smtnames.proofs.Tells.{part-put, part-gone, tells-to, tells_as, tells-seq, tells-end, tells-stop}
+use Rattle.smtnames.proofs.Tells.{part-put, part-gone, tells-to, tells_as, tells_seq, tells-end, tells_stop}
 use Rattle.smtfronts.proofs.FrontsSteps.{exists-none, exists-some}
 use borrow.Author.Rules.{rules}
 use Rattle.smtfronts.proofs.fronts.exists_front.Statement.{statement}
@@ -47,7 +47,7 @@ same_length c = search rules
 returns-2 : tie.Need-returns-2
 returns-2 c limit bs m e =
     tells_as (sym (exists-some limit _ _ _ _ bs e c.before.before.before.before.before.before.before.before.before.before.before.before.before.before.before.before.if1.false))
-    (tells-seq _ c.before.before.before.before.before.before.before.before.before.before.before.before.before.bytes.ensures (tells-end _ (part-put (c.before.before.before.before.before.before.before.before.before.vars.ensures limit bs m e) c.before.before.before.before.before.p.given.1) c.before.before.byte.ensures))
+    (tells_seq _ c.before.before.before.before.before.before.before.before.before.before.before.before.before.bytes.ensures (tells-end _ (part-put (c.before.before.before.before.before.before.before.before.before.vars.ensures limit bs m e) c.before.before.before.before.before.p.given.1) c.before.before.byte.ensures))
 
 -- src/fronts.rt:206:1
 same-length-2 : tie.Need-same-length-2
@@ -57,7 +57,7 @@ same-length-2 c = search rules
 returns-3 : tie.Need-returns-3
 returns-3 c limit bs m e =
     tells_as (sym (exists-some limit _ _ _ _ bs e c.before.before.before.before.before.before.before.before.before.before.before.before.if1.false))
-    (tells-seq _ c.before.before.before.before.before.before.before.before.before.bytes.ensures (tells-stop _ (part-gone (c.before.before.before.before.before.vars.ensures limit bs m e) c.before.r.given.1)))
+    (tells_seq _ c.before.before.before.before.before.before.before.before.before.bytes.ensures (tells_stop _ (part-gone (c.before.before.before.before.before.vars.ensures limit bs m e) c.before.r.given.1)))
 
 pub exists-front-spec : {M : Type 1} → statement M
 exists-front-spec =

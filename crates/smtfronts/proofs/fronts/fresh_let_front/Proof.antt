@@ -1,5 +1,5 @@
-use Rattle.smtfronts.specs.Fronts.{letFreshText}
-use Rattle.writing.proofs.Wrote.{wrote-seq}
+use Rattle.smtfronts.specs.Fronts.{let_fresh_text}
+use Rattle.writing.proofs.Wrote.{wrote_seq}
 use borrow.Author.Rules.{rules}
 use Rattle.smtfronts.proofs.fronts.fresh_let_front.Statement.{statement}
 use Rattle.smtfronts.proofs.fronts.fresh_let_front.Tie as tie
@@ -20,8 +20,8 @@ same_length : tie.Need-same-length
 same_length c = search rules
 
 returns : tie.Need-returns
-unfolding letFreshText
-returns c = wrote-seq _ _ c.before.before.before.before.before.before.before.before.before.before.bytes.ensures (wrote-seq _ _ c.before.before.before.before.before.before.fresh.ensures c.before.before.byte.ensures)
+unfolding let_fresh_text
+returns c = wrote_seq _ _ c.before.before.before.before.before.before.before.before.before.before.bytes.ensures (wrote_seq _ _ c.before.before.before.before.before.before.fresh.ensures c.before.before.byte.ensures)
 
 pub fresh-let-front-spec : {M : Type 1} → statement M
 fresh-let-front-spec =

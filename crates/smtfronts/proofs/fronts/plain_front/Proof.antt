@@ -1,7 +1,7 @@
 use mathlib.Core.Path.{refl}
 use Rattle.reading.specs.Answer.{unwritable}
 use Rattle.smtnames.proofs.Tells.{tells-to, tells-no}
-use Rattle.smtfronts.proofs.FrontsSteps.{node-as, numbered-as}
+use Rattle.smtfronts.proofs.FrontsSteps.{node_as, numbered_as}
 use borrow.Author.Rules.{rules}
 use Rattle.smtfronts.proofs.fronts.plain_front.Statement.{statement}
 use Rattle.smtfronts.proofs.fronts.plain_front.Tie as tie
@@ -154,118 +154,118 @@ same_length : tie.Need-same-length
 same_length c = search rules
 
 returns : tie.Need-returns
-returns c h = node-as _ _ c.before.before.before.before.before.node.given.1 (tells-to c.before.before.decimal.ensures)
+returns c h = node_as _ _ c.before.before.before.before.before.node.given.1 (tells-to c.before.before.decimal.ensures)
 
 same-length-2 : tie.Need-same-length-2
 same-length-2 c = search rules
 
 returns-2 : tie.Need-returns-2
-returns-2 c h = node-as _ _ c.before.before.before.before.before.node2.given.1 (tells-to c.before.before.boolean.ensures)
+returns-2 c h = node_as _ _ c.before.before.before.before.before.node2.given.1 (tells-to c.before.before.boolean.ensures)
 
 same-length-3 : tie.Need-same-length-3
 same-length-3 c = search rules
 
 returns-3 : tie.Need-returns-3
-returns-3 c h = node-as _ _ c.before.before.before.before.before.node3.given.1 c.before.before.string.ensures
+returns-3 c h = node_as _ _ c.before.before.before.before.before.node3.given.1 c.before.before.string.ensures
 
 same-length-4 : tie.Need-same-length-4
 same-length-4 c = search rules
 
 returns-4 : tie.Need-returns-4
-returns-4 c h = node-as _ _ c.before.before.before.before.before.node4.given.1 c.before.before.bits.ensures
+returns-4 c h = node_as _ _ c.before.before.before.before.before.node4.given.1 c.before.before.bits.ensures
 
 same-length-5 : tie.Need-same-length-5
 same-length-5 c = search rules
 
 returns-5 : tie.Need-returns-5
-returns-5 c h = node-as _ _ c.before.before.before.before.before.node5.given.1 (tells-to c.before.before.fresh.ensures)
+returns-5 c h = node_as _ _ c.before.before.before.before.before.node5.given.1 (tells-to c.before.before.fresh.ensures)
 
 same-length-6 : tie.Need-same-length-6
 same-length-6 c = search rules
 
 returns-6 : tie.Need-returns-6
-returns-6 c h = node-as _ _ c.before.before.before.before.before.node6.given.1 c.before.before.name.ensures
+returns-6 c h = node_as _ _ c.before.before.before.before.before.node6.given.1 c.before.before.name.ensures
 
 same-length-7 : tie.Need-same-length-7
 same-length-7 c = search rules
 
 returns-7 : tie.Need-returns-7
-returns-7 c h = node-as _ _ c.before.before.before.before.before.enum_told.given.1 (tells-to c.before.before.bytes.ensures)
+returns-7 c h = node_as _ _ c.before.before.before.before.before.enum_told.given.1 (tells-to c.before.before.bytes.ensures)
 
 same-length-8 : tie.Need-same-length-8
 same-length-8 c = search rules
 
 returns-8 : tie.Need-returns-8
-returns-8 c h = node-as _ _ c.before.before.before.before.before.node7.given.1 (tells-to (c.before.before.operator.ensures (numbered-as c.before.before.before.before.before.node7.given.1 h)))
+returns-8 c h = node_as _ _ c.before.before.before.before.before.node7.given.1 (tells-to (c.before.before.operator.ensures (numbered_as c.before.before.before.before.before.node7.given.1 h)))
 
 same-length-9 : tie.Need-same-length-9
 same-length-9 c = search rules
 
 returns-9 : tie.Need-returns-9
-returns-9 c h = node-as _ _ c.before.before.before.before.before.enum-told2.given.1 (tells-to c.before.before.bytes2.ensures)
+returns-9 c h = node_as _ _ c.before.before.before.before.before.enum-told2.given.1 (tells-to c.before.before.bytes2.ensures)
 
 same-length-10 : tie.Need-same-length-10
 same-length-10 c = search rules
 
 returns-10 : tie.Need-returns-10
-returns-10 c h = node-as _ _ c.before.before.before.before.before.before.enum-told3.given.1 (tells-to c.before.before.folded.ensures)
+returns-10 c h = node_as _ _ c.before.before.before.before.before.before.enum-told3.given.1 (tells-to c.before.before.folded.ensures)
 
 same-length-11 : tie.Need-same-length-11
 same-length-11 c = search rules
 
 returns-11 : tie.Need-returns-11
-returns-11 c h = node-as _ _ c.before.before.before.before.before.before.enum-told4.given.1 (tells-to c.before.before.folded2.ensures)
+returns-11 c h = node_as _ _ c.before.before.before.before.before.before.enum-told4.given.1 (tells-to c.before.before.folded2.ensures)
 
 same-length-12 : tie.Need-same-length-12
 same-length-12 c = search rules
 
 returns-12 : tie.Need-returns-12
-returns-12 c h = node-as _ _ c.before.before.before.before.before.enum-told5.given.1 (tells-to c.before.before.bytes3.ensures)
+returns-12 c h = node_as _ _ c.before.before.before.before.before.enum-told5.given.1 (tells-to c.before.before.bytes3.ensures)
 
 same-length-13 : tie.Need-same-length-13
 same-length-13 c = search rules
 
 returns-13 : tie.Need-returns-13
-returns-13 c h = node-as _ _ c.before.before.before.before.before.enum-told6.given.1 (tells-to c.before.before.bytes4.ensures)
+returns-13 c h = node_as _ _ c.before.before.before.before.before.enum-told6.given.1 (tells-to c.before.before.bytes4.ensures)
 
 same-length-14 : tie.Need-same-length-14
 same-length-14 c = search rules
 
 returns-14 : tie.Need-returns-14
-returns-14 c h = node-as _ _ c.before.before.before.before.before.enum-told7.given.1 (tells-to c.before.before.bytes5.ensures)
+returns-14 c h = node_as _ _ c.before.before.before.before.before.enum-told7.given.1 (tells-to c.before.before.bytes5.ensures)
 
 same-length-15 : tie.Need-same-length-15
 same-length-15 c = search rules
 
 returns-15 : tie.Need-returns-15
-returns-15 c h = node-as _ _ c.before.before.before.before.before.node8.given.1 (tells-to (c.before.before.relation.ensures (numbered-as c.before.before.before.before.before.node8.given.1 h)))
+returns-15 c h = node_as _ _ c.before.before.before.before.before.node8.given.1 (tells-to (c.before.before.relation.ensures (numbered_as c.before.before.before.before.before.node8.given.1 h)))
 
 same-length-16 : tie.Need-same-length-16
 same-length-16 c = search rules
 
 returns-16 : tie.Need-returns-16
-returns-16 c h = node-as _ _ c.before.before.before.before.before.node9.given.1 c.before.before.let-front.ensures
+returns-16 c h = node_as _ _ c.before.before.before.before.before.node9.given.1 c.before.before.let-front.ensures
 
 returns-17 : tie.Need-returns-17
-returns-17 c h = node-as _ _ c.enum-told8.given.1 (tells-no unwritable refl)
+returns-17 c h = node_as _ _ c.enum-told8.given.1 (tells-no unwritable refl)
 
 same-length-17 : tie.Need-same-length-17
 same-length-17 c = search rules
 
 returns-18 : tie.Need-returns-18
-returns-18 c h = node-as _ _ c.before.before.before.before.before.node10.given.1 c.before.before.test-front.ensures
+returns-18 c h = node_as _ _ c.before.before.before.before.before.node10.given.1 c.before.before.test_front.ensures
 
 returns-19 : tie.Need-returns-19
-returns-19 c h = node-as _ _ c.enum-told9.given.1 (tells-no unwritable refl)
+returns-19 c h = node_as _ _ c.enum-told9.given.1 (tells-no unwritable refl)
 
 same-length-18 : tie.Need-same-length-18
 same-length-18 c = search rules
 
 returns-20 : tie.Need-returns-20
-returns-20 c h = node-as _ _ c.before.before.before.before.before.node11.given.1 (tells-to c.before.before.fresh-let-front.ensures)
+returns-20 c h = node_as _ _ c.before.before.before.before.before.node11.given.1 (tells-to c.before.before.fresh-let-front.ensures)
 
 returns-21 : tie.Need-returns-21
-returns-21 c h = node-as _ _ c.enum-told10.given.1 (tells-no unwritable refl)
+returns-21 c h = node_as _ _ c.enum-told10.given.1 (tells-no unwritable refl)
 
 pub plain-front-spec : {M : Type 1} → statement M
 plain-front-spec =

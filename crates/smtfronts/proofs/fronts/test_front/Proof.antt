@@ -1,4 +1,4 @@
-use Rattle.smtnames.proofs.Tells.{piece-put, piece-gone, tells-seq, tells-end, tells-stop}
+use Rattle.smtnames.proofs.Tells.{piece_put, piece_gone, tells_seq, tells-end, tells_stop}
 use borrow.Author.Rules.{rules}
 use Rattle.smtfronts.proofs.fronts.test_front.Statement.{statement}
 use Rattle.smtfronts.proofs.fronts.test_front.Tie as tie
@@ -41,7 +41,7 @@ same_length c = search rules
 
 -- src/fronts.rt:82:1
 returns : tie.Need-returns
-returns c = tells-seq _ c.before.before.before.before.before.before.before.before.before.before.before.before.before.before.bytes.ensures (tells-end _ (piece-put c.before.before.before.before.before.before.before.before.before.before.name.ensures c.before.before.before.before.before.before.p.given.1) c.before.before.bytes2.ensures)
+returns c = tells_seq _ c.before.before.before.before.before.before.before.before.before.before.before.before.before.before.bytes.ensures (tells-end _ (piece_put c.before.before.before.before.before.before.before.before.before.before.name.ensures c.before.before.before.before.before.before.p.given.1) c.before.before.bytes2.ensures)
 
 -- src/fronts.rt:82:1
 same-length-2 : tie.Need-same-length-2
@@ -49,7 +49,7 @@ same-length-2 c = search rules
 
 -- src/fronts.rt:82:1
 returns-2 : tie.Need-returns-2
-returns-2 c = tells-seq _ c.before.before.before.before.before.before.before.before.before.bytes.ensures (tells-stop _ (piece-gone c.before.before.before.before.before.name.ensures c.before.r.given.1))
+returns-2 c = tells_seq _ c.before.before.before.before.before.before.before.before.before.bytes.ensures (tells_stop _ (piece_gone c.before.before.before.before.before.name.ensures c.before.r.given.1))
 
 pub test-front-spec : {M : Type 1} → statement M
 test-front-spec =

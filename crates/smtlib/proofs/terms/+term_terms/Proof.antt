@@ -3,7 +3,7 @@ use borrow.Author.Rules.{rules}
 use mathlib.Core.Path.{◌≡◌, refl, sym, ◌∙◌}
 use lib.ListN.{length}
 use Rattle.grammar.specs.Expr.{Exprs, enil, econs}
-use Rattle.judging.specs.Judge.{reads, several, exprDeep}
+use Rattle.judging.specs.Judge.{reads, several, expr_deep}
 use Rattle.smtlib.proofs.TermSteps.{LeftTerms, terms-all, terms-done, terms-gone, terms-next, term-no-room, term-no-header, front-gone, operands-gone, operands-done, applied-none, arguments-gone, callee-gone, applied-done}
 use Prim.Native.Nat.{ℕ, ◌<◌, ◌+◌, ◌*◌}
 use borrow.Fn.Kinds.{In}
@@ -281,7 +281,7 @@ term-returns-10 : (t : ℕ) → term-lts.Need-returns-10 (term-claims t) (term-a
 term-returns-10 t c = term-no-header _ _ _ _ _ _ c.before.before.before.before.if1.false (sym c.before.r5.given.1 ∙ c.before.before.before.head.ensures)
 
 abbrev terms-Inv-loop : terms-lts.invariant-loop
-terms-Inv-loop words at n room in-let text out₀ place a₀ p₀ i₀ out a p i = (length out ≡ length out₀) × ((es : Exprs) (m : ℕ) → several (exprDeep (length text) room) enil econs n words at ≡ reads es m → LeftTerms text words room n i a p in-let out out₀ place es m)
+terms-Inv-loop words at n room in-let text out₀ place a₀ p₀ i₀ out a p i = (length out ≡ length out₀) × ((es : Exprs) (m : ℕ) → several (expr_deep (length text) room) enil econs n words at ≡ reads es m → LeftTerms text words room n i a p in-let out out₀ place es m)
 
 abbrev terms-μ-loop : terms-lts.decreases-loop
 terms-μ-loop words at n room in-let text out₀ place a₀ p₀ i₀ out a p i = i

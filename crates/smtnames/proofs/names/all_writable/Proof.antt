@@ -3,13 +3,13 @@ use Prim.Native.Nat.{◌-◌, ◌≤◌}
 use native.Mathlib.Omega.{arith}
 use mathlib.Core.Path.{◌≡◌, refl, sym, ◌∙◌}
 use lib.ListN.{length, drop}
-use Rattle.smt.specs.Writer.{allWritable}
+use Rattle.smt.specs.Writer.{all_writable}
 use Rattle.smtnames.proofs.NamePieces.{writable-none, writable-one, writable-not}
 use Rattle.smtnames.proofs.names.all_writable.Statement.{statement}
 use Rattle.smtnames.proofs.names.all_writable.Tie as tie
 
 abbrev invariant-loop : tie.invariant-loop
-invariant-loop part i₀ i = (i ≤ length part) × (allWritable part ≡ allWritable (drop i part))
+invariant-loop part i₀ i = (i ≤ length part) × (all_writable part ≡ all_writable (drop i part))
 
 abbrev decreases-loop : tie.decreases-loop
 decreases-loop part i₀ i = length part - i

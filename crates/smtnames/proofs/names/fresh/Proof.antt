@@ -2,7 +2,7 @@ use mathlib.Core.Path.{refl, ap, ◌∙◌}
 use mathlib.Core.List.{[], ◌∷◌, ◌++◌}
 use Rattle.reading.specs.Bytes.{ascii}
 use Rattle.writing.specs.Digits.{decimal}
-use Rattle.writing.proofs.Wrote.{wrote-seq, wrote_as}
+use Rattle.writing.proofs.Wrote.{wrote_seq, wrote_as}
 use Rattle.smtnames.proofs.NamePieces.{fresh-text}
 use borrow.Author.Rules.{rules}
 use Rattle.smtnames.proofs.names.fresh.Statement.{statement}
@@ -28,7 +28,7 @@ same_length c = search rules
 
 returns : tie.Need-returns
 returns c =
-    wrote_as (ap (λ k. ascii "|v " ++ (decimal k ++ (124 ∷ []))) c.before.before.before.before.before.before.before.before.quad.ensures ∙ fresh-text _) refl (wrote-seq _ _ c.before.before.before.before.before.before.before.before.before.before.before.bytes.ensures (wrote-seq _ _ c.before.before.before.before.before.before.decimal.ensures c.before.before.byte.ensures))
+    wrote_as (ap (λ k. ascii "|v " ++ (decimal k ++ (124 ∷ []))) c.before.before.before.before.before.before.before.before.quad.ensures ∙ fresh-text _) refl (wrote_seq _ _ c.before.before.before.before.before.before.before.before.before.before.before.bytes.ensures (wrote_seq _ _ c.before.before.before.before.before.before.decimal.ensures c.before.before.byte.ensures))
 
 pub fresh-spec : {M : Type 1} → statement M
 fresh-spec =

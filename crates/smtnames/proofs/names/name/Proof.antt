@@ -1,4 +1,4 @@
-use Rattle.smtnames.proofs.Tells.{put, put_as, gone-as, put-told, gone-told, put-seq, gone-first, gone-behind, piece-put, piece-gone}
+use Rattle.smtnames.proofs.Tells.{put, put_as, gone_as, put-told, gone-told, put_seq, gone-first, gone-behind, piece_put, piece_gone}
 use Rattle.smtnames.proofs.NamePieces.{name-text}
 use borrow.Author.Rules.{rules}
 use Rattle.smtnames.proofs.names.name.Statement.{statement}
@@ -30,14 +30,14 @@ same_length c = search rules
 
 returns : tie.Need-returns
 returns c =
-    put-told (put_as (name-text _ _ _) (put-seq (put c.before.before.before.before.before.before.before.before.before.before.before.before.before.before.before.before.before.before.before.before.before.byte.ensures) (put-seq (put c.before.before.before.before.before.before.before.before.before.before.before.before.before.before.before.before.before.byte2.ensures) (put-seq (put c.before.before.before.before.before.before.before.before.before.before.before.before.before.byte3.ensures) (put-seq (piece-put c.before.before.before.before.before.before.before.before.before.span.ensures c.before.before.before.before.before.p.given.1) (put c.before.before.byte4.ensures))))))
+    put-told (put_as (name-text _ _ _) (put_seq (put c.before.before.before.before.before.before.before.before.before.before.before.before.before.before.before.before.before.before.before.before.before.byte.ensures) (put_seq (put c.before.before.before.before.before.before.before.before.before.before.before.before.before.before.before.before.before.byte2.ensures) (put_seq (put c.before.before.before.before.before.before.before.before.before.before.before.before.before.byte3.ensures) (put_seq (piece_put c.before.before.before.before.before.before.before.before.before.span.ensures c.before.before.before.before.before.p.given.1) (put c.before.before.byte4.ensures))))))
 
 same-length-2 : tie.Need-same-length-2
 same-length-2 c = search rules
 
 returns-2 : tie.Need-returns-2
 returns-2 c =
-    gone-told (gone-as (name-text _ _ _) (gone-behind (put c.before.before.before.before.before.before.before.before.before.before.before.before.before.before.before.before.before.byte.ensures) (gone-behind (put c.before.before.before.before.before.before.before.before.before.before.before.before.before.byte2.ensures) (gone-behind (put c.before.before.before.before.before.before.before.before.before.byte3.ensures) (gone-first _ (piece-gone c.before.before.before.before.before.span.ensures c.before.r.given.1))))))
+    gone-told (gone_as (name-text _ _ _) (gone-behind (put c.before.before.before.before.before.before.before.before.before.before.before.before.before.before.before.before.before.byte.ensures) (gone-behind (put c.before.before.before.before.before.before.before.before.before.before.before.before.before.byte2.ensures) (gone-behind (put c.before.before.before.before.before.before.before.before.before.byte3.ensures) (gone-first _ (piece_gone c.before.before.before.before.before.span.ensures c.before.r.given.1))))))
 
 pub name-spec : {M : Type 1} → statement M
 name-spec =

@@ -1,5 +1,5 @@
 use mathlib.Core.Path.{refl, sym, ◌∙◌}
-use Rattle.smtnames.proofs.Tells.{put, gone, put_as, gone-as, put-told, gone-told}
+use Rattle.smtnames.proofs.Tells.{put, gone, put_as, gone_as, put-told, gone-told}
 use Rattle.smtnames.proofs.NamePieces.{part-is, bytes_good, bytes-bad}
 use borrow.Author.Rules.{rules}
 use Rattle.smtnames.proofs.names.span.Statement.{statement}
@@ -36,7 +36,7 @@ returns : tie.Need-returns
 returns c = put-told (put_as (bytes_good _ _ (part-is _ _ _ c.before.before.before.before.before.before.before.before.inside.ensures c.before.before.before.before.before.before.before.inside2.ensures) (sym c.before.before.before.before.before.all-writable.ensures ∙ c.before.before.before.before.if1.true)) (put c.before.before.bytes.ensures))
 
 returns-2 : tie.Need-returns-2
-returns-2 c = gone-told (gone-as (bytes-bad _ _ (part-is _ _ _ c.before.before.before.before.inside.ensures c.before.before.before.inside2.ensures) (sym c.before.all-writable.ensures ∙ c.if1.false)) (gone refl refl))
+returns-2 c = gone-told (gone_as (bytes-bad _ _ (part-is _ _ _ c.before.before.before.before.inside.ensures c.before.before.before.inside2.ensures) (sym c.before.all-writable.ensures ∙ c.if1.false)) (gone refl refl))
 
 pub span-spec : {M : Type 1} → statement M
 span-spec =

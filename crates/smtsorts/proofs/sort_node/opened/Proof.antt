@@ -1,5 +1,5 @@
 use mathlib.Core.Path.{refl, ap}
-use Rattle.smtsorts.specs.SortNode.{openText}
+use Rattle.smtsorts.specs.SortNode.{open_text}
 use Rattle.smtnames.proofs.Tells.{gone, gone-told, tells_as, tells-to}
 use borrow.Author.Rules.{rules}
 use Rattle.smtsorts.proofs.sort_node.opened.Statement.{statement}
@@ -66,46 +66,46 @@ same_length : tie.Need-same-length
 same_length c = search rules
 
 returns : tie.Need-returns
-returns c = tells_as (ap (openText _) c.before.before.before.before.before.enum_told.given.1) (tells-to c.before.before.bytes.ensures)
+returns c = tells_as (ap (open_text _) c.before.before.before.before.before.enum_told.given.1) (tells-to c.before.before.bytes.ensures)
 
 same-length-2 : tie.Need-same-length-2
 same-length-2 c = search rules
 
 returns-2 : tie.Need-returns-2
-returns-2 c = tells_as (ap (openText _) c.before.before.before.before.before.enum-told2.given.1) (tells-to c.before.before.bytes2.ensures)
+returns-2 c = tells_as (ap (open_text _) c.before.before.before.before.before.enum-told2.given.1) (tells-to c.before.before.bytes2.ensures)
 
 same-length-3 : tie.Need-same-length-3
 same-length-3 c = search rules
 
 returns-3 : tie.Need-returns-3
-returns-3 c = tells_as (ap (openText _) c.before.before.before.before.before.enum-told3.given.1) (tells-to c.before.before.bytes3.ensures)
+returns-3 c = tells_as (ap (open_text _) c.before.before.before.before.before.enum-told3.given.1) (tells-to c.before.before.bytes3.ensures)
 
 same-length-4 : tie.Need-same-length-4
 same-length-4 c = search rules
 
 returns-4 : tie.Need-returns-4
-returns-4 c = tells_as (ap (openText _) c.before.before.before.before.before.enum-told4.given.1) (tells-to c.before.before.bytes4.ensures)
+returns-4 c = tells_as (ap (open_text _) c.before.before.before.before.before.enum-told4.given.1) (tells-to c.before.before.bytes4.ensures)
 
 same-length-5 : tie.Need-same-length-5
 same-length-5 c = search rules
 
 returns-5 : tie.Need-returns-5
-returns-5 c = tells_as (ap (openText _) c.before.before.before.before.before.node.given.1) c.before.before.bit-vec.ensures
+returns-5 c = tells_as (ap (open_text _) c.before.before.before.before.before.node.given.1) c.before.before.bit-vec.ensures
 
 same-length-6 : tie.Need-same-length-6
 same-length-6 c = search rules
 
 returns-6 : tie.Need-returns-6
-returns-6 c = tells_as (ap (openText _) c.before.before.before.before.before.node2.given.1) c.before.before.array.ensures
+returns-6 c = tells_as (ap (open_text _) c.before.before.before.before.before.node2.given.1) c.before.before.array.ensures
 
 same-length-7 : tie.Need-same-length-7
 same-length-7 c = search rules
 
 returns-7 : tie.Need-returns-7
-returns-7 c = tells_as (ap (openText _) c.before.before.before.before.before.node3.given.1) c.before.before.«data».ensures
+returns-7 c = tells_as (ap (open_text _) c.before.before.before.before.before.node3.given.1) c.before.before.«data».ensures
 
 returns-8 : tie.Need-returns-8
-returns-8 c = tells_as (ap (openText _) c.enum-told5.given.1) (gone-told (gone refl refl))
+returns-8 c = tells_as (ap (open_text _) c.enum-told5.given.1) (gone-told (gone refl refl))
 
 pub opened-spec : {M : Type 1} → statement M
 opened-spec =

@@ -2,8 +2,8 @@ use mathlib.Core.Path.{ap, ◌∙◌}
 use Prim.Native.Nat.{ℕ, ◌+◌, ◌*◌, ◌^◌}
 use native.Mathlib.Omega.{arith}
 use lib.ListN.{get_or}
-use Rattle.smtnames.proofs.Tells.{put, put_as, gone-as, gone-told, put-seq, gone-first, gone-behind, part-put, part_end, part-gone, part-told}
-use Rattle.smtvars.proofs.VarTexts.{var-pieces}
+use Rattle.smtnames.proofs.Tells.{put, put_as, gone_as, gone-told, put_seq, gone-first, gone-behind, part-put, part_end, part-gone, part-told}
+use Rattle.smtvars.proofs.VarTexts.{var_pieces}
 use Rattle.sorttext.proofs.WordsRead.{binder-read}
 use borrow.Author.Rules.{rules}
 use Rattle.smtvars.proofs.vars.var.Statement.{statement}
@@ -58,7 +58,7 @@ returns-2 : tie.Need-returns-2
 returns-2 c limit b n e =
     let o = binder-read limit _ _ e in
     let s = c.before.before.before.before.before.before.before.before.before.sort.ensures limit b.sort n o.sorted in
-    part-told (part_end s c.before.before.before.before.before.e.given.1) (put_as (var-pieces _ b (c.before.before.before.before.before.before.before.before.before.before.before.before.before.before.before.before.before.before.before.before.before.before.before.words-to-long.ensures ∙ ap (λ (w : ℕ). get_or c.before.before.before.before.before.before.before.before.before.before.before.before.before.before.before.before.before.before.before.before.before.before.before.before.before.before.before.before.before.before.args.words.now c.before.before.before.before.before.before.before.before.before.before.before.before.before.before.before.before.before.before.before.before.before.before.before.before.before.before.before.before.before.before.args.at 0 + w * 2 ^ 32) c.before.before.before.before.before.before.before.before.before.before.before.before.before.before.before.before.before.before.before.before.before.before.before.before.word_at.ensures ∙ o.number)) (put-seq (put c.before.before.before.before.before.before.before.before.before.before.before.before.before.before.before.before.before.before.before.before.before.byte.ensures) (put-seq (put c.before.before.before.before.before.before.before.before.before.before.before.before.before.before.before.before.before.fresh.ensures) (put-seq (put c.before.before.before.before.before.before.before.before.before.before.before.before.before.byte2.ensures) (put-seq (part-put s c.before.before.before.before.before.e.given.1) (put c.before.before.byte3.ensures))))))
+    part-told (part_end s c.before.before.before.before.before.e.given.1) (put_as (var_pieces _ b (c.before.before.before.before.before.before.before.before.before.before.before.before.before.before.before.before.before.before.before.before.before.before.before.words-to-long.ensures ∙ ap (λ (w : ℕ). get_or c.before.before.before.before.before.before.before.before.before.before.before.before.before.before.before.before.before.before.before.before.before.before.before.before.before.before.before.before.before.before.args.words.now c.before.before.before.before.before.before.before.before.before.before.before.before.before.before.before.before.before.before.before.before.before.before.before.before.before.before.before.before.before.before.args.at 0 + w * 2 ^ 32) c.before.before.before.before.before.before.before.before.before.before.before.before.before.before.before.before.before.before.before.before.before.before.before.before.word_at.ensures ∙ o.number)) (put_seq (put c.before.before.before.before.before.before.before.before.before.before.before.before.before.before.before.before.before.before.before.before.before.byte.ensures) (put_seq (put c.before.before.before.before.before.before.before.before.before.before.before.before.before.before.before.before.before.fresh.ensures) (put_seq (put c.before.before.before.before.before.before.before.before.before.before.before.before.before.byte2.ensures) (put_seq (part-put s c.before.before.before.before.before.e.given.1) (put c.before.before.byte3.ensures))))))
 
 same-length-2 : tie.Need-same-length-2
 same-length-2 c = search rules
@@ -67,7 +67,7 @@ returns-3 : tie.Need-returns-3
 returns-3 c limit b n e =
     let o = binder-read limit _ _ e in
     let s = c.before.before.before.before.before.sort.ensures limit b.sort n o.sorted in
-    gone-told (gone-as (var-pieces _ b (c.before.before.before.before.before.before.before.before.before.before.before.before.before.before.before.before.before.before.before.words-to-long.ensures ∙ ap (λ (w : ℕ). get_or c.before.before.before.before.before.before.before.before.before.before.before.before.before.before.before.before.before.before.before.before.before.before.before.before.before.before.args.words.now c.before.before.before.before.before.before.before.before.before.before.before.before.before.before.before.before.before.before.before.before.before.before.before.before.before.before.args.at 0 + w * 2 ^ 32) c.before.before.before.before.before.before.before.before.before.before.before.before.before.before.before.before.before.before.before.before.word_at.ensures ∙ o.number)) (gone-behind (put c.before.before.before.before.before.before.before.before.before.before.before.before.before.before.before.before.before.byte.ensures) (gone-behind (put c.before.before.before.before.before.before.before.before.before.before.before.before.before.fresh.ensures) (gone-behind (put c.before.before.before.before.before.before.before.before.before.byte2.ensures) (gone-first _ (part-gone s c.before.r.given.1))))))
+    gone-told (gone_as (var_pieces _ b (c.before.before.before.before.before.before.before.before.before.before.before.before.before.before.before.before.before.before.before.words-to-long.ensures ∙ ap (λ (w : ℕ). get_or c.before.before.before.before.before.before.before.before.before.before.before.before.before.before.before.before.before.before.before.before.before.before.before.before.before.before.args.words.now c.before.before.before.before.before.before.before.before.before.before.before.before.before.before.before.before.before.before.before.before.before.before.before.before.before.before.args.at 0 + w * 2 ^ 32) c.before.before.before.before.before.before.before.before.before.before.before.before.before.before.before.before.before.before.before.before.word_at.ensures ∙ o.number)) (gone-behind (put c.before.before.before.before.before.before.before.before.before.before.before.before.before.before.before.before.before.byte.ensures) (gone-behind (put c.before.before.before.before.before.before.before.before.before.before.before.before.before.fresh.ensures) (gone-behind (put c.before.before.before.before.before.before.before.before.before.byte2.ensures) (gone-first _ (part-gone s c.before.r.given.1))))))
 
 pub var-spec : {M : Type 1} → statement M
 var-spec =

@@ -3,7 +3,7 @@ use native.Mathlib.Omega.{arith}
 use borrow.Author.Tests.{not-true, not-false}
 use Rattle.plans.specs.BinderWords.{BinderRow}
 use Rattle.places.proofs.Spots.{spot-within}
-use Rattle.solutions.proofs.ParamNames.{Pairing, pairing-start, pairing-end, pairing-bad, pairing-more, pair-spot}
+use Rattle.solutions.proofs.ParamNames.{Pairing, pairing_start, pairing_end, pairing_bad, pairing_more, pair-spot}
 use Rattle.solutions.proofs.parts.all_pairs.Statement.{statement}
 use Rattle.solutions.proofs.parts.all_pairs.Tie as tie
 
@@ -14,7 +14,7 @@ abbrev decreases-loop : tie.decreases-loop
 decreases-loop tree at n i₀ p₀ i p = n - i
 
 loop-holds : tie.Need-loop-init invariant-loop decreases-loop
-loop-holds c = λ h. pairing-start
+loop-holds c = λ h. pairing_start
 
 is-pair-requires : tie.Need-is-pair-requires invariant-loop decreases-loop
 is-pair-requires c κs = pair-spot (c.before.loop.invariant c.before.before.before.requires) c.loop-test.true
@@ -23,7 +23,7 @@ returns : tie.Need-returns invariant-loop decreases-loop
 returns c h =
     let g = c.before.before.before.loop.invariant h in
     let l = c.before.before.loop-test.true in
-    pairing-bad g l (c.before.is-pair.ensures (pair-spot g l)) (not-true _ c.if1.true)
+    pairing_bad g l (c.before.is-pair.ensures (pair-spot g l)) (not-true _ c.if1.true)
 
 words-at-requires : tie.Need-words-at-requires invariant-loop decreases-loop
 words-at-requires c κs = pair-spot (c.before.before.before.loop.invariant c.before.before.before.before.before.requires) c.before.before.loop-test.true
@@ -42,10 +42,10 @@ loop-again c =
     λ h.
     (let g = c.before.before.before.before.loop.invariant h in
     let l = c.before.before.before.loop-test.true in
-    pairing-more g l (c.before.before.is-pair.ensures (pair-spot g l)) (not-false c.before.before.is-pair.result c.before.if1.false) (c.words-at.ensures (pair-spot g l)))
+    pairing_more g l (c.before.before.is-pair.ensures (pair-spot g l)) (not-false c.before.before.is-pair.result c.before.if1.false) (c.words-at.ensures (pair-spot g l)))
 
 returns-2 : tie.Need-returns-2 invariant-loop decreases-loop
-returns-2 c h = pairing-end (c.before.loop.invariant h) c.loop-test.false
+returns-2 c h = pairing_end (c.before.loop.invariant h) c.loop-test.false
 
 pub all-pairs-spec : {M : Type 1} → statement M
 all-pairs-spec =

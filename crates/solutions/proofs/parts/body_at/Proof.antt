@@ -1,5 +1,5 @@
 use native.Mathlib.Omega.{arith}
-use Rattle.solutions.proofs.SolutionBody.{body-here, body_refused, body_twice, body-wrote}
+use Rattle.solutions.proofs.SolutionBody.{body-here, body_refused_lem, body_twice, body-wrote}
 use borrow.Author.Rules.{rules}
 use Rattle.solutions.proofs.parts.body_at.Statement.{statement}
 use Rattle.solutions.proofs.parts.body_at.Tie as tie
@@ -38,7 +38,7 @@ same-length-2 : tie.Need-same-length-2
 same-length-2 c = search rules
 
 returns-2 : tie.Need-returns-2
-returns-2 c h = body_refused h c.before.before.before.before.before.before.before.before.before.before.before.before.length-to-long.ensures (c.before.before.before.before.before.before.expr.ensures.1 (body-here h c.before.before.before.before.before.before.before.before.before.before.before.before.length-to-long.ensures _ (omega arith) c.before.before.before.before.before.before.before.before.before.before.opened.ensures.0 c.before.before.before.before.before.before.before.before.before.before.opened.ensures.1)) c.before.e.given.1
+returns-2 c h = body_refused_lem h c.before.before.before.before.before.before.before.before.before.before.before.before.length-to-long.ensures (c.before.before.before.before.before.before.expr.ensures.1 (body-here h c.before.before.before.before.before.before.before.before.before.before.before.before.length-to-long.ensures _ (omega arith) c.before.before.before.before.before.before.before.before.before.before.opened.ensures.0 c.before.before.before.before.before.before.before.before.before.before.opened.ensures.1)) c.before.e.given.1
 
 same-length-3 : tie.Need-same-length-3
 same-length-3 c = search rules

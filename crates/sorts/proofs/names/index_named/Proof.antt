@@ -1,7 +1,7 @@
 use mathlib.Core.Path.{sym, ◌∙◌, refl}
 use native.Mathlib.Omega.{arith}
 use borrow.Author.Tests.{not-true, not-false}
-use Rattle.sorts.proofs.NamedSorts.{index-not, index-long, index-bare, index-three, index_is}
+use Rattle.sorts.proofs.NamedSorts.{index-not, index-long, index_bare, index-three, index_is}
 use borrow.Author.Rules.{rules}
 use Rattle.sorts.proofs.names.index_named.Statement.{statement}
 use Rattle.sorts.proofs.names.index_named.Tie as tie
@@ -16,7 +16,7 @@ shared-slice-read-if2 : tie.Need-shared-slice-read-if2
 shared-slice-read-if2 c = omega (arith, index-long c.before.before.before.before.before.args.name.now (sym c.before.before.begins-with.ensures ∙ not-false _ c.before.if1.false))
 
 returns-2 : tie.Need-returns-2
-returns-2 c = index-bare _ (sym c.before.before.before.begins-with.ensures ∙ not-false _ c.before.before.if1.false) c.if2.true
+returns-2 c = index_bare _ (sym c.before.before.before.begins-with.ensures ∙ not-false _ c.before.before.if1.false) c.if2.true
 
 sub-u64-of : tie.Need-overflow-sub-u64-of
 sub-u64-of c = omega (arith, index-three c.before.before.before.before.before.before.args.name.now (sym c.before.before.before.begins-with.ensures ∙ not-false _ c.before.before.if1.false) c.if2.false)

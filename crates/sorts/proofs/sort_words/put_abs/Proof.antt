@@ -4,19 +4,19 @@ use native.Mathlib.Omega.{arith}
 use lib.ListN.{length}
 use Rattle.reading.specs.Answer.{over}
 use Rattle.reading.proofs.Over.{over-length}
-use Rattle.sorts.specs.Rows.{absWords}
-use Rattle.sorts.proofs.RowWords.{abs-next}
+use Rattle.sorts.specs.Rows.{abs_words}
+use Rattle.sorts.proofs.RowWords.{abs_next}
 use Rattle.sorts.proofs.sort_words.put_abs.Statement.{statement}
 use Rattle.sorts.proofs.sort_words.put_abs.Tie as tie
 
 abbrev invariant-loop : tie.invariant-loop
-invariant-loop out₀ n i₀ index₀ out i index = (i ≤ n) × (index ≡ i) × (out ≡ over (absWords 0 i) out₀)
+invariant-loop out₀ n i₀ index₀ out i index = (i ≤ n) × (index ≡ i) × (out ≡ over (abs_words 0 i) out₀)
 
 abbrev decreases-loop : tie.decreases-loop
 decreases-loop out₀ n i₀ index₀ out i index = n - i
 
 loop-holds : tie.Need-loop-init invariant-loop decreases-loop
-unfolding absWords over
+unfolding abs_words over
 loop-holds c = (omega arith, refl, refl)
 
 mul-put : tie.Need-overflow-mul-put invariant-loop decreases-loop
@@ -44,7 +44,7 @@ loop-less : tie.Need-loop-smaller invariant-loop decreases-loop
 loop-less c = omega arith
 
 loop-again : tie.Need-loop-preserved invariant-loop decreases-loop
-loop-again c = let l = c.before.before.before.before.before.before.before.before.before.loop in (omega arith, omega arith, abs-next l.i l.index _ _ _ _ l.invariant.1 l.invariant.2 c.before.before.before.before.before.before.put.ensures c.before.before.put2.ensures)
+loop-again c = let l = c.before.before.before.before.before.before.before.before.before.loop in (omega arith, omega arith, abs_next l.i l.index _ _ _ _ l.invariant.1 l.invariant.2 c.before.before.before.before.before.before.put.ensures c.before.before.put2.ensures)
 
 same_length : tie.Need-same-length invariant-loop decreases-loop
 same_length c = ap length c.before.loop.invariant.2 ∙ over-length _ _

@@ -1,8 +1,8 @@
 use mathlib.Core.Path.{sym, ap, ◌∙◌}
-use Rattle.reading.specs.Answer.{orBad, malformed}
+use Rattle.reading.specs.Answer.{or_bad, malformed}
 use Rattle.sorts.specs.SortNames.{width_in}
-use Rattle.grammar.specs.ParseSort.{sizeNamed}
-use Rattle.sorts.specs.Rows.{isGot}
+use Rattle.grammar.specs.ParseSort.{size_named}
+use Rattle.sorts.specs.Rows.{is_got}
 use Rattle.sorts.proofs.NamedSorts.{size-other, size-short, size-told}
 use borrow.Author.Rules.{rules}
 use Rattle.sorts.proofs.sorts.is_size.Statement.{statement}
@@ -36,10 +36,10 @@ enum-told-2 : tie.Need-enum-told-2
 enum-told-2 c = search rules
 
 returns-3 : tie.Need-returns-3
-returns-3 c ts e = ap (λ r. isGot (orBad malformed (width_in r))) (sym c.enum_told.given.1) ∙ size-told _ ts c.before.before.size-named.result e c.before.before.before.before.before.before.before.before.if1.false c.before.before.before.before.before.before.if2.false (c.before.before.size-named.ensures ∙ ap sizeNamed c.before.before.before.bytes-at.ensures)
+returns-3 c ts e = ap (λ r. is_got (or_bad malformed (width_in r))) (sym c.enum_told.given.1) ∙ size-told _ ts c.before.before.size-named.result e c.before.before.before.before.before.before.before.before.if1.false c.before.before.before.before.before.before.if2.false (c.before.before.size-named.ensures ∙ ap size_named c.before.before.before.bytes-at.ensures)
 
 returns-4 : tie.Need-returns-4
-returns-4 c ts e = ap (λ r. isGot (orBad malformed (width_in r))) (sym c.enum-told2.given.1) ∙ size-told _ ts c.before.before.size-named.result e c.before.before.before.before.before.before.before.before.if1.false c.before.before.before.before.before.before.if2.false (c.before.before.size-named.ensures ∙ ap sizeNamed c.before.before.before.bytes-at.ensures)
+returns-4 c ts e = ap (λ r. is_got (or_bad malformed (width_in r))) (sym c.enum-told2.given.1) ∙ size-told _ ts c.before.before.size-named.result e c.before.before.before.before.before.before.before.before.if1.false c.before.before.before.before.before.before.if2.false (c.before.before.size-named.ensures ∙ ap size_named c.before.before.before.bytes-at.ensures)
 
 pub is-size-spec : {M : Type 1} → statement M
 is-size-spec =

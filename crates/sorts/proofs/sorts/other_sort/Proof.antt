@@ -1,7 +1,7 @@
 use mathlib.Core.Path.{sym, ap, ◌∙◌, refl}
-use Rattle.reading.specs.Answer.{orBad, malformed}
+use Rattle.reading.specs.Answer.{or_bad, malformed}
 use Rattle.sorts.specs.SortNames.{width_in}
-use Rattle.sorts.proofs.NamedSorts.{other-size, other-bad, other-var, other-data}
+use Rattle.sorts.proofs.NamedSorts.{other-size, other-bad, other-var, other_data}
 use borrow.Author.Rules.{rules}
 use Rattle.sorts.proofs.sorts.other_sort.Statement.{statement}
 use Rattle.sorts.proofs.sorts.other_sort.Tie as tie
@@ -28,10 +28,10 @@ same_length : tie.Need-same-length
 same_length c = search rules
 
 returns : tie.Need-returns
-returns c = other-size _ _ _ _ (sym c.before.before.before.before.before.before.before.before.before.begins-with.ensures ∙ c.before.before.before.before.before.before.before.before.if1.true) (ap (λ r. orBad malformed (width_in r)) (sym c.before.before.before.before.before.width.given.1) ∙ c.before.before.before.before.before.before.before.size-named.ensures) c.before.before.put-size.ensures.0 c.before.before.put-size.ensures.1
+returns c = other-size _ _ _ _ (sym c.before.before.before.before.before.before.before.before.before.begins-with.ensures ∙ c.before.before.before.before.before.before.before.before.if1.true) (ap (λ r. or_bad malformed (width_in r)) (sym c.before.before.before.before.before.width.given.1) ∙ c.before.before.before.before.before.before.before.size-named.ensures) c.before.before.put-size.ensures.0 c.before.before.put-size.ensures.1
 
 returns-2 : tie.Need-returns-2
-returns-2 c = other-bad _ _ _ _ (sym c.before.before.before.before.begins-with.ensures ∙ c.before.before.before.if1.true) (ap (λ r. orBad malformed (width_in r)) (sym c.enum_told.given.1) ∙ c.before.before.size-named.ensures)
+returns-2 c = other-bad _ _ _ _ (sym c.before.before.before.before.begins-with.ensures ∙ c.before.before.before.if1.true) (ap (λ r. or_bad malformed (width_in r)) (sym c.enum_told.given.1) ∙ c.before.before.size-named.ensures)
 
 index-named-requires : tie.Need-index-named-requires
 index-named-requires c κs = tt
@@ -58,7 +58,7 @@ same-length-3 : tie.Need-same-length-3
 same-length-3 c = search rules
 
 returns-4 : tie.Need-returns-4
-returns-4 c = other-data _ _ _ _ (sym c.before.before.before.before.before.before.before.before.begins-with.ensures ∙ c.before.before.before.before.before.before.before.if1.false) (sym c.before.before.before.before.enum-told2.given.1 ∙ c.before.before.before.before.before.before.index-named.ensures) c.before.before.put-data.ensures.0 c.before.before.put-data.ensures.1
+returns-4 c = other_data _ _ _ _ (sym c.before.before.before.before.before.before.before.before.begins-with.ensures ∙ c.before.before.before.before.before.before.before.if1.false) (sym c.before.before.before.before.enum-told2.given.1 ∙ c.before.before.before.before.before.before.index-named.ensures) c.before.before.put-data.ensures.0 c.before.before.put-data.ensures.1
 
 pub other-sort-spec : {M : Type 1} → statement M
 other-sort-spec =

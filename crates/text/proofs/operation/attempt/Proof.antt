@@ -1,12 +1,12 @@
 use native.Mathlib.Omega.{arith}
 use borrow.Author.Tests.{not-true, not-false}
-use Rattle.text.proofs.Looping.Final.{too_long, not-utf8, scan-refused, scan-short, scan-all, scan-one}
+use Rattle.text.proofs.Looping.Final.{too_long_lem, not-utf8, scan_refused, scan_short, scan_all, scan_one}
 use borrow.Author.Rules.{rules}
 use Rattle.text.proofs.operation.attempt.Statement.{statement}
 use Rattle.text.proofs.operation.attempt.Tie as tie
 
 returns : tie.Need-returns
-returns c = too_long c.if1.true
+returns c = too_long_lem c.if1.true
 
 is-utf8-requires : tie.Need-is-utf8-requires
 is-utf8-requires c κs = search rules
@@ -29,7 +29,7 @@ same_length c = search rules
 returns-3 : tie.Need-returns-3
 returns-3 c =
     let s = c.before.before.before.before.before.before in
-    scan-short s.before.before.before.before.if1.false s.before.before.before.is-utf8.ensures (not-false _ s.before.before.if2.false) s.scan.ensures c.before.before.trees.given.1 (omega (arith, s.scan.auto))
+    scan_short s.before.before.before.before.if1.false s.before.before.before.is-utf8.ensures (not-false _ s.before.before.if2.false) s.scan.ensures c.before.before.trees.given.1 (omega (arith, s.scan.auto))
 
 same-length-2 : tie.Need-same-length-2
 same-length-2 c = search rules
@@ -37,7 +37,7 @@ same-length-2 c = search rules
 returns-4 : tie.Need-returns-4
 returns-4 c =
     let s = c.before.before.before.before.before.before.before in
-    scan-all s.before.before.before.before.if1.false s.before.before.before.is-utf8.ensures (not-false _ s.before.before.if2.false) s.scan.ensures c.before.before.before.trees.given.1 c.if4.true (omega (arith, s.scan.auto))
+    scan_all s.before.before.before.before.if1.false s.before.before.before.is-utf8.ensures (not-false _ s.before.before.if2.false) s.scan.ensures c.before.before.before.trees.given.1 c.if4.true (omega (arith, s.scan.auto))
 
 same-length-3 : tie.Need-same-length-3
 same-length-3 c = search rules
@@ -45,7 +45,7 @@ same-length-3 c = search rules
 returns-5 : tie.Need-returns-5
 returns-5 c =
     let s = c.before.before.before.before.before in
-    scan-refused s.before.before.before.before.if1.false s.before.before.before.is-utf8.ensures (not-false _ s.before.before.if2.false) s.scan.ensures c.before.n.given.1
+    scan_refused s.before.before.before.before.if1.false s.before.before.before.is-utf8.ensures (not-false _ s.before.before.if2.false) s.scan.ensures c.before.n.given.1
 
 same-length-4 : tie.Need-same-length-4
 same-length-4 c = search rules
@@ -53,7 +53,7 @@ same-length-4 c = search rules
 returns-6 : tie.Need-returns-6
 returns-6 c =
     let s = c.before.before.before.before.before.before.before in
-    scan-one s.before.before.before.before.if1.false s.before.before.before.is-utf8.ensures (not-false _ s.before.before.if2.false) s.scan.ensures c.before.before.before.trees.given.1 c.if4.false (omega (arith, s.scan.auto))
+    scan_one s.before.before.before.before.if1.false s.before.before.before.is-utf8.ensures (not-false _ s.before.before.if2.false) s.scan.ensures c.before.before.before.trees.given.1 c.if4.false (omega (arith, s.scan.auto))
 
 pub attempt-spec : {M : Type 1} → statement M
 attempt-spec =

@@ -5,7 +5,7 @@ use native.Mathlib.Omega.{arith}
 use borrow.Author.Rules.{rules}
 use borrow.Author.Tests.{not-true, not-false}
 use lib.ListN.{length}
-use Rattle.text.proofs.Looping.Turn.{Stands, start, kept, blanked, broken, opened, too-deep, unopened, at-tree, at-close, closed, at_leaf, worded, goes_on, one-read, ended-inside, ended-all, ended-none}
+use Rattle.text.proofs.Looping.Turn.{Stands, start, kept, blanked, broken, opened, too_deep_lem, unopened, at-tree, at_close, closed, at_leaf, worded, goes_on, one-read, ended-inside, ended-all, ended-none}
 use Rattle.text.proofs.scan.scan.Statement.{statement}
 use Rattle.text.proofs.scan.scan.Tie as tie
 
@@ -43,7 +43,7 @@ same_length c = kept c.before.before.before.before.before.loop.invariant
 returns : tie.Need-returns invariant-loop decreases-loop
 returns c =
     let a = c.before in
-    too-deep a.before.before.before.before.loop.invariant a.before.before.before.loop-test.true (sym a.before.before.token-at.ensures ∙ a.enum_told.given.1) c.if1.true
+    too_deep_lem a.before.before.before.before.loop.invariant a.before.before.before.loop-test.true (sym a.before.before.token-at.ensures ∙ a.enum_told.given.1) c.if1.true
 
 put-list-requires : tie.Need-put-list-requires invariant-loop decreases-loop
 put-list-requires c κs = search rules
@@ -104,13 +104,13 @@ array-read-off : tie.Need-array-read-off invariant-loop decreases-loop
 array-read-off c = search rules
 
 sub-put-list : tie.Need-overflow-sub-put-list invariant-loop decreases-loop
-sub-put-list c = omega (arith, at-close c.before.before.before.before.before.before.loop.invariant c.before.if2.false)
+sub-put-list c = omega (arith, at_close c.before.before.before.before.before.before.loop.invariant c.before.if2.false)
 
 sub-put-list-2 : tie.Need-overflow-sub-put-list-2 invariant-loop decreases-loop
-sub-put-list-2 c = omega (arith, at-close c.before.before.before.before.before.before.loop.invariant c.before.if2.false)
+sub-put-list-2 c = omega (arith, at_close c.before.before.before.before.before.before.loop.invariant c.before.if2.false)
 
 put-list-requires-2 : tie.Need-put-list-requires-2 invariant-loop decreases-loop
-put-list-requires-2 c κs = omega (arith, at-close c.before.before.before.before.before.before.loop.invariant c.before.if2.false, at-tree c.before.before.before.before.before.before.loop.invariant)
+put-list-requires-2 c κs = omega (arith, at_close c.before.before.before.before.before.before.loop.invariant c.before.if2.false, at-tree c.before.before.before.before.before.before.loop.invariant)
 
 add-at-2 : tie.Need-overflow-add-at-2 invariant-loop decreases-loop
 add-at-2 c = search rules
@@ -122,7 +122,7 @@ array-read-counts : tie.Need-array-read-counts invariant-loop decreases-loop
 array-read-counts c = search rules
 
 add-counts : tie.Need-overflow-add-counts invariant-loop decreases-loop
-add-counts c = omega (arith, at-close c.before.before.before.before.before.before.before.before.before.loop.invariant c.before.before.before.before.if2.false)
+add-counts c = omega (arith, at_close c.before.before.before.before.before.before.before.before.before.loop.invariant c.before.before.before.before.if2.false)
 
 array-write-counts-2 : tie.Need-array-write-counts-2 invariant-loop decreases-loop
 array-write-counts-2 c = search rules

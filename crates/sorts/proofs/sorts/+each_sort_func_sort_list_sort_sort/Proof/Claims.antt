@@ -3,7 +3,7 @@ use Prim.Native.Nat.{ℕ, ◌<◌, ◌+◌, ◌*◌}
 use lib.ListN.{length}
 use borrow.Fn.Kinds.{In}
 use borrow.Fn.PlainCycle.{Measures, is, falls, and}
-use Rattle.sorts.proofs.sorts.each_sort.Reads as each-sort
+use Rattle.sorts.proofs.sorts.each_sort.Reads as each_sort_lem
 use Rattle.sorts.proofs.sorts.each_sort.Kinds as each-sort-kinds
 use Rattle.sorts.proofs.sorts.+each_sort_func_sort_list_sort_sort.Lts-each_sort as each-sort-lts
 use Rattle.sorts.proofs.sorts.func_sort.Reads as func-sort
@@ -43,11 +43,11 @@ abbrev pub μ-sort : Measures 3 sort-kinds.ps ℕ
 -- ---- what is asked where the measure is t, and where it is below t
 
 abbrev pub each-sort-at : ℕ → In 3 each-sort-kinds.ps
-each-sort-at t = and 3 each-sort-kinds.ps (is 3 each-sort-kinds.ps μ-each-sort t) each-sort.Pre
+each-sort-at t = and 3 each-sort-kinds.ps (is 3 each-sort-kinds.ps μ-each-sort t) each_sort_lem.Pre
 
 abbrev each-sort-below : ℕ → In 3 each-sort-kinds.ps
 each-sort-below t =
-    and 3 each-sort-kinds.ps (falls 3 each-sort-kinds.ps ◌<◌ μ-each-sort t) each-sort.Pre
+    and 3 each-sort-kinds.ps (falls 3 each-sort-kinds.ps ◌<◌ μ-each-sort t) each_sort_lem.Pre
 
 abbrev pub func-sort-at : ℕ → In 3 func-sort-kinds.ps
 func-sort-at t = and 3 func-sort-kinds.ps (is 3 func-sort-kinds.ps μ-func-sort t) func-sort.Pre
@@ -75,10 +75,10 @@ abbrev pub each-sort-claims : ℕ → each-sort-lts.Claims
 each-sort-claims t = (node-words-reads.Asked, node-words-reads.Learnt, put-mark-reads.Asked, put-mark-reads.Learnt, least-reads.Asked, least-reads.Learnt, sort-below t, sort.Post, fewer_reads.Asked, fewer_reads.Learnt)
 
 abbrev pub func-sort-claims : ℕ → func-sort-lts.Claims
-func-sort-claims t = (func-number-reads.Asked, func-number-reads.Learnt, put-abs-reads.Asked, put-abs-reads.Learnt, least-reads.Asked, least-reads.Learnt, each-sort-below t, each-sort.Post)
+func-sort-claims t = (func-number-reads.Asked, func-number-reads.Learnt, put-abs-reads.Asked, put-abs-reads.Learnt, least-reads.Asked, least-reads.Learnt, each-sort-below t, each_sort_lem.Post)
 
 abbrev pub list-sort-claims : ℕ → list-sort-lts.Claims
-list-sort-claims t = (list-form-reads.Asked, list-form-reads.Learnt, func-sort-below t, func-sort.Post, put-row-reads.Asked, put-row-reads.Learnt, least-reads.Asked, least-reads.Learnt, each-sort-below t, each-sort.Post, row-end-reads.Asked, row-end-reads.Learnt)
+list-sort-claims t = (list-form-reads.Asked, list-form-reads.Learnt, func-sort-below t, func-sort.Post, put-row-reads.Asked, put-row-reads.Learnt, least-reads.Asked, least-reads.Learnt, each-sort-below t, each_sort_lem.Post, row-end-reads.Asked, row-end-reads.Learnt)
 
 abbrev pub sort-claims : ℕ → sort-lts.Claims
 sort-claims t = (symbol-sort-reads.Asked, symbol-sort-reads.Learnt, list-sort-below t, list-sort.Post)

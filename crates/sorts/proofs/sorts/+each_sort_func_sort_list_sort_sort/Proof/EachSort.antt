@@ -5,7 +5,7 @@ use native.Mathlib.Omega.{arith}
 use lib.ListN.{length}
 use borrow.Author.Rules.{rules}
 use borrow.Rule.Slice.PartMut.{same_len_mid}
-use Rattle.reading.specs.Tree.{Trees, treesWords}
+use Rattle.reading.specs.Tree.{Trees, trees_words}
 use Rattle.lexing.proofs.Lexing.Parts.{tail}
 use Rattle.sorts.specs.Outcome.{IsTrees}
 use Rattle.sorts.proofs.RowWords.{mark-short}
@@ -16,7 +16,7 @@ use Rattle.sorts.proofs.sorts.+each_sort_func_sort_list_sort_sort.Lts-each_sort 
 
 -- The trees that are left make the whole, whichever trees the words are of.
 abbrev Inv : lts.invariant-loop
-Inv text items m out₀ at₀ w₀ left₀ out at w left = (at ≤ length items) × (length out ≡ length out₀) × ((ts : Trees) → items ≡ treesWords ts → Left text ts items m out₀ at w left out)
+Inv text items m out₀ at₀ w₀ left₀ out at w left = (at ≤ length items) × (length out ≡ length out₀) × ((ts : Trees) → items ≡ trees_words ts → Left text ts items m out₀ at w left out)
 
 abbrev μ : lts.decreases-loop
 μ text items m out₀ at₀ w₀ left₀ out at w left = length items - at
@@ -46,7 +46,7 @@ module _ (t : ℕ) where
   head s = s.before.before.before
 
   -- What the turn reads, whichever trees the words are of.
-  turn-of : (s : Sized) (ts : Trees) (e : (start s).args.items.now ≡ treesWords ts) → Turn (start s).args.items.now (head s).loop.at s.node-words.result ((head s).loop.inv.2 ts e).rest
+  turn-of : (s : Sized) (ts : Trees) (e : (start s).args.items.now ≡ trees_words ts) → Turn (start s).args.items.now (head s).loop.at s.node-words.result ((head s).loop.inv.2 ts e).rest
   turn-of s ts e = turn (start s).args.items.now (head s).loop.at s.node-words.result ((head s).loop.inv.2 ts e).words s.before.before.loop-test.taken s.node-words.ensures
 
   -- The same for the trees that the words are said to be of.
@@ -63,7 +63,7 @@ module _ (t : ℕ) where
       let s = c.before.before.before.before.before.before in
       let a = s.requires.1 in
       let q = left-some s.args.items.now c.before.before.loop.at (c.before.before.loop.invariant.2 a.items a.words).words c.before.loop-test.true in
-      record { first = q.first; rest = treesWords q.others; words = tail s.args.items.now c.before.before.loop.at ∙ q.words }
+      record { first = q.first; rest = trees_words q.others; words = tail s.args.items.now c.before.before.loop.at ∙ q.words }
 
   put-mark-requires : lts.Need-put-mark-requires (each-sort-claims t) (each-sort-at t) Post Inv μ
   put-mark-requires c κs =

@@ -4,17 +4,17 @@ use mathlib.Core.Path.{◌≡◌, refl, sym, ap, ◌∙◌}
 use native.Mathlib.Omega.{arith}
 use lib.ListN.{length, get_or}
 use borrow.Author.Rules.{rules}
-use Rattle.reading.specs.Limits.{maxFunc}
+use Rattle.reading.specs.Limits.{max_func}
 use Rattle.reading.specs.Answer.{got}
-use Rattle.reading.specs.Tree.{Trees, treesWords, trees}
-use Rattle.grammar.specs.ParseSort.{funcNumber}
-use Rattle.sorts.specs.SortNames.{arityIn}
+use Rattle.reading.specs.Tree.{Trees, trees_words, trees}
+use Rattle.grammar.specs.ParseSort.{func_number}
+use Rattle.sorts.specs.SortNames.{arity_in}
 use Rattle.sorts.specs.Outcome.{refused}
 use Rattle.sorts.proofs.Outcomes.{out-still, out-lent}
-use Rattle.sorts.proofs.RowWords.{abs-length}
+use Rattle.sorts.proofs.RowWords.{abs_length}
 use Rattle.sorts.proofs.RowLoop.{row-bound}
 use Rattle.reading.proofs.TreeHead.{three-trees}
-use Rattle.sorts.proofs.FuncShape.{Shape, snocTree, wideAt, no_number, no-inputs, func-shape, func-outside, func-row, arity-most}
+use Rattle.sorts.proofs.FuncShape.{Shape, snoc_tree, wide_at, no_number, no-inputs, func-shape, func-outside, func-row, arity_most}
 use Rattle.sorts.proofs.sorts.+each_sort_func_sort_list_sort_sort.Proof.Claims.{func-sort-claims, func-sort-at}
 use Rattle.sorts.proofs.sorts.func_sort.Reads.{Post}
 use Rattle.sorts.proofs.sorts.+each_sort_func_sort_list_sort_sort.Lts-func_sort as lts
@@ -54,20 +54,20 @@ module _ (t : ℕ) where
       (three-trees a.items a.words a.three).long
 
   -- The inputs and the output, whichever trees the words are of.
-  parts-of : (p : Shaped) (ts : Trees) → (start p).args.items.now ≡ treesWords ts → trees ts ≡ 3 → Shape (start p).args.text.now (start p).args.items.now ts
-  parts-of p ts e h = func-shape _ ts (three-trees ts e h) p.before.before.before.before.before.before.before.if1.left p.before.before.before.before.before.if2.left
+  parts_of : (p : Shaped) (ts : Trees) → (start p).args.items.now ≡ trees_words ts → trees ts ≡ 3 → Shape (start p).args.text.now (start p).args.items.now ts
+  parts_of p ts e h = func-shape _ ts (three-trees ts e h) p.before.before.before.before.before.before.before.if1.left p.before.before.before.before.before.if2.left
 
   -- The same for the trees that the words are said to be of.
   parts : (p : Shaped) → Shape (start p).args.text.now (start p).args.items.now (start p).pre.1.items
   parts p =
       let a = (start p).pre.1 in
-      parts-of p a.items a.words a.three
+      parts_of p a.items a.words a.three
 
-  number_is : (q : Numbered) → got q.n.given.0.0 ≡ funcNumber (wideAt (start (shaped q)).args.items.now)
-  number_is q = ap arityIn (sym q.n.given.1) ∙ (shaped q).func-number.ensures
+  number_is : (q : Numbered) → got q.n.given.0.0 ≡ func_number (wide_at (start (shaped q)).args.items.now)
+  number_is q = ap arity_in (sym q.n.given.1) ∙ (shaped q).func-number.ensures
 
-  number-most : (q : Numbered) → q.n.given.0.0 ≤ maxFunc
-  number-most q = arity-most (wideAt (start (shaped q)).args.items.now) q.n.given.0.0 (number_is q)
+  number-most : (q : Numbered) → q.n.given.0.0 ≤ max_func
+  number-most q = arity_most (wide_at (start (shaped q)).args.items.now) q.n.given.0.0 (number_is q)
 
   -- ---- the needs
 
@@ -114,7 +114,7 @@ module _ (t : ℕ) where
   each-sort-requires c κs =
       let p = c.before.before.before.before.before.before.before.before.before.before.before in
       let d = parts p in
-      (omega (arith, (start p).requires.0, d.size, ap length d.part), record { items = snocTree d.inputs d.output; words = d.part; small = omega (arith, (start p).requires.1.small, d.size, ap length d.part) })
+      (omega (arith, (start p).requires.0, d.size, ap length d.part), record { items = snoc_tree d.inputs d.output; words = d.part; small = omega (arith, (start p).requires.1.small, d.size, ap length d.part) })
 
   mul-t37 : lts.Need-overflow-mul-t37 (func-sort-claims t) (func-sort-at t) Post
   mul-t37 c = omega (arith, number-most (numbered c.before.before.before.before.before))
@@ -125,27 +125,27 @@ module _ (t : ℕ) where
       let q = numbered r in
       let s = start (shaped q) in
       let d = parts (shaped q) in
-      let row = snocTree d.inputs d.output in
-      omega (arith, number-most q, s.pre.1.small, d.size, row-bound s.args.text.now (get_or s.args.items.now 6 0) row (r.each-sort.ensures row d.part) c.before.v.given.1)
+      let row = snoc_tree d.inputs d.output in
+      omega (arith, number-most q, s.pre.1.small, d.size, row-bound s.args.text.now (get_or s.args.items.now 6 0) row (r.each_sort_lem.ensures row d.part) c.before.v.given.1)
 
   returns-3 : lts.Need-returns-3 (func-sort-claims t) (func-sort-at t) Post
   returns-3 c ts e h =
       let p = c.before.before in
-      rw (func-outside _ ts (parts-of p ts e h) (ap arityIn (sym c.enum_told.given.1) ∙ p.func-number.ensures)) (refused refl)
+      rw (func-outside _ ts (parts_of p ts e h) (ap arity_in (sym c.enum_told.given.1) ∙ p.func-number.ensures)) (refused refl)
 
   returns-4 : lts.Need-returns-4 (func-sort-claims t) (func-sort-at t) Post
   returns-4 c ts e h =
       let r = c.before.before.before.before.before in
       let q = numbered r in
-      let d = parts-of (shaped q) ts e h in
-      func-row _ ts d (number_is q) (out-still _ (r.each-sort.ensures (snocTree d.inputs d.output) d.part) c.before.e.given.1)
+      let d = parts_of (shaped q) ts e h in
+      func-row _ ts d (number_is q) (out-still _ (r.each_sort_lem.ensures (snoc_tree d.inputs d.output) d.part) c.before.e.given.1)
 
   returns-5 : lts.Need-returns-5 (func-sort-claims t) (func-sort-at t) Post
   returns-5 c ts e h =
       let r = c.before.before.before.before.before in
       let q = numbered r in
-      let d = parts-of (shaped q) ts e h in
-      func-row _ ts d (number_is q) (out-lent _ _ _ _ _ _ _ (sym (abs-length 0 q.n.given.0.0)) r.before.before.before.before.before.before.before.put-abs.ensures r.before.before.before.before.least.ensures (r.each-sort.ensures (snocTree d.inputs d.output) d.part) c.before.v.given.1)
+      let d = parts_of (shaped q) ts e h in
+      func-row _ ts d (number_is q) (out-lent _ _ _ _ _ _ _ (sym (abs_length 0 q.n.given.0.0)) r.before.before.before.before.before.before.before.put-abs.ensures r.before.before.before.before.least.ensures (r.each_sort_lem.ensures (snoc_tree d.inputs d.output) d.part) c.before.v.given.1)
 
   -- All needs in their order. Those that `search` finds, or that ask nothing, have no lemma of their own.
   pub func-sort-spec : {M : Type 1} → lts.Closed (func-sort-claims t) (func-sort-at t) Post M

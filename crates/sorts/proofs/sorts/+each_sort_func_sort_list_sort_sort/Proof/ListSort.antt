@@ -4,11 +4,11 @@ use mathlib.Core.Path.{◌≡◌, refl, sym, ap, ◌∙◌}
 use native.Mathlib.Omega.{arith}
 use lib.ListN.{length, get_or}
 use borrow.Author.Rules.{rules}
-use Rattle.reading.specs.Tree.{Trees, list, trees, treeWords}
+use Rattle.reading.specs.Tree.{Trees, list, trees, tree_words}
 use Rattle.grammar.specs.Names.{func}
-use Rattle.grammar.specs.ParseSort.{formSort}
-use Rattle.sorts.specs.SortNames.{rowForm, formIn}
-use Rattle.sorts.specs.Rows.{rowHead}
+use Rattle.grammar.specs.ParseSort.{form_sort}
+use Rattle.sorts.specs.SortNames.{row_form, form_in}
+use Rattle.sorts.specs.Rows.{row_head}
 use Rattle.sorts.specs.Outcome.{refused}
 use Rattle.sorts.proofs.Outcomes.{out-still, out-lent}
 use Rattle.sorts.proofs.RowLoop.{row-bound}
@@ -43,11 +43,11 @@ module _ (t : ℕ) where
   row_of r = r.before.before.before.before.before.before.before.before.before.before
 
   -- The head and what stands behind it, whichever trees the words are of.
-  func-headed : (f : Func) (ts : Trees) → (func-start f).args.tree.now ≡ treeWords (list ts) → Headed (func-start f).args.text.now (func-start f).args.tree.now ts func
-  func-headed f ts e = headed _ func ts e (ap formIn (sym f.enum-told2.given.1) ∙ f.before.before.list-form.ensures ts e)
+  func-headed : (f : Func) (ts : Trees) → (func-start f).args.tree.now ≡ tree_words (list ts) → Headed (func-start f).args.text.now (func-start f).args.tree.now ts func
+  func-headed f ts e = headed _ func ts e (ap form_in (sym f.enum-told2.given.1) ∙ f.before.before.list-form.ensures ts e)
 
-  row-headed : (w : Row) (ts : Trees) → (row-start w).args.tree.now ≡ treeWords (list ts) → Headed (row-start w).args.text.now (row-start w).args.tree.now ts (rowForm w.row.given.0.0)
-  row-headed w ts e = headed _ (rowForm w.row.given.0.0) ts e (ap formIn (sym w.row.given.1) ∙ w.before.before.list-form.ensures ts e)
+  row-headed : (w : Row) (ts : Trees) → (row-start w).args.tree.now ≡ tree_words (list ts) → Headed (row-start w).args.text.now (row-start w).args.tree.now ts (row_form w.row.given.0.0)
+  row-headed w ts e = headed _ (row_form w.row.given.0.0) ts e (ap form_in (sym w.row.given.1) ∙ w.before.before.list-form.ensures ts e)
 
   -- The same for the trees that the words are said to be of.
   this-func : (f : Func) → Headed (func-start f).args.text.now (func-start f).args.tree.now (func-start f).pre.1.items func
@@ -55,7 +55,7 @@ module _ (t : ℕ) where
       let a = (func-start f).pre.1 in
       func-headed f a.items a.words
 
-  this-row : (w : Row) → Headed (row-start w).args.text.now (row-start w).args.tree.now (row-start w).pre.1.items (rowForm w.row.given.0.0)
+  this-row : (w : Row) → Headed (row-start w).args.text.now (row-start w).args.tree.now (row-start w).pre.1.items (row_form w.row.given.0.0)
   this-row w =
       let a = (row-start w).pre.1 in
       row-headed w a.items a.words
@@ -101,14 +101,14 @@ module _ (t : ℕ) where
       let w = row_of r in
       let s = row-start w in
       let d = this-row w in
-      omega (arith, s.pre.1.small, d.size, r.before.before.before.before.before.put-row.ensures.0, head-short w.row.given.0.0 (get_or s.args.tree.now 1 0 - 1), row-bound s.args.text.now 0 d.others (r.each-sort.ensures d.others d.part) c.before.v.given.1)
+      omega (arith, s.pre.1.small, d.size, r.before.before.before.before.before.put-row.ensures.0, head-short w.row.given.0.0 (get_or s.args.tree.now 1 0 - 1), row-bound s.args.text.now 0 d.others (r.each_sort_lem.ensures d.others d.part) c.before.v.given.1)
 
   returns : lts.Need-returns (list-sort-claims t) (list-sort-at t) Post
   returns c ts e =
-      rw (bad-list c.before.before.before.before.before.before.args.text.now ts (ap formIn (sym c.enum_told.given.1) ∙ c.before.before.list-form.ensures ts e)) (refused refl)
+      rw (bad-list c.before.before.before.before.before.before.args.text.now ts (ap form_in (sym c.enum_told.given.1) ∙ c.before.before.list-form.ensures ts e)) (refused refl)
 
   returns-2 : lts.Need-returns-2 (list-sort-claims t) (list-sort-at t) Post
-  unfolding formSort
+  unfolding form_sort
   returns-2 c ts e =
       let d = func-headed c.before.before.before.before.before ts e in
       rw d.parsed (c.before.before.func-sort.ensures d.others d.part d.fits)
@@ -118,7 +118,7 @@ module _ (t : ℕ) where
       let r = c.before.before.before.before.before in
       let w = row_of r in
       let d = row-headed w ts e in
-      rw d.parsed (row-refused _ w.row.given.0.0 d.others d.fits (out-still _ (r.each-sort.ensures d.others d.part) c.before.e.given.1))
+      rw d.parsed (row-refused _ w.row.given.0.0 d.others d.fits (out-still _ (r.each_sort_lem.ensures d.others d.part) c.before.e.given.1))
 
   returns-4 : lts.Need-returns-4 (list-sort-claims t) (list-sort-at t) Post
   returns-4 c ts e =
@@ -126,8 +126,8 @@ module _ (t : ℕ) where
       let w = row_of r in
       let d = row-headed w ts e in
       let n : get_or (row-start w).args.tree.now 1 0 - 1 ≡ trees d.others = omega (arith, d.many) in
-      let head = rowHead (rowForm w.row.given.0.0) (trees d.others) in
-      rw (d.parsed, c.row-end.ensures d.others d.part) (row_done _ w.row.given.0.0 d.others d.fits (out-lent _ head _ _ _ _ _ (rw n at r.before.before.before.before.before.put-row.ensures.0) (rw n at r.before.before.before.before.before.put-row.ensures.1) r.before.before.least.ensures (r.each-sort.ensures d.others d.part) c.before.before.v.given.1))
+      let head = row_head (row_form w.row.given.0.0) (trees d.others) in
+      rw (d.parsed, c.row-end.ensures d.others d.part) (row_done _ w.row.given.0.0 d.others d.fits (out-lent _ head _ _ _ _ _ (rw n at r.before.before.before.before.before.put-row.ensures.0) (rw n at r.before.before.before.before.before.put-row.ensures.1) r.before.before.least.ensures (r.each_sort_lem.ensures d.others d.part) c.before.before.v.given.1))
 
   -- All needs in their order. Those that `search` finds, or that ask nothing, have no lemma of their own.
   pub list-sort-spec : {M : Type 1} → lts.Closed (list-sort-claims t) (list-sort-at t) Post M

@@ -4,8 +4,8 @@ use mathlib.Core.Path.{refl, ap, ◌∙◌}
 use mathlib.Core.List.{[]}
 use native.Mathlib.Omega.{arith}
 use borrow.Author.Rules.{rules}
-use Rattle.reading.specs.Tree.{treeWords}
-use Rattle.grammar.specs.ParseSort.{parseSort, atomSort, symbolIn, view}
+use Rattle.reading.specs.Tree.{tree_words}
+use Rattle.grammar.specs.ParseSort.{parse_sort, atom_sort, symbol_in, view}
 use Rattle.sorts.specs.Outcome.{refused}
 use Rattle.reading.proofs.TreeHead.{alone, head-two, is-symbol, is-list, size-symbol}
 use Rattle.grammar.proofs.TreeHead.{no-sort}
@@ -30,7 +30,7 @@ module _ (t : ℕ) where
       omega (arith, (size-symbol [] a.tree (alone a.tree a.words) c.before.before.if1.true).0)
 
   returns : lts.Need-returns (sort-claims t) (sort-at t) Post
-  unfolding parseSort view atomSort symbolIn
+  unfolding parse_sort view atom_sort symbol_in
   returns c u e = rw (is-symbol [] u (alone u e) c.before.before.before.before.before.before.if1.true) c.before.before.symbol-sort.ensures
 
   list-sort-requires : lts.Need-list-sort-requires (sort-claims t) (sort-at t) Post
@@ -38,12 +38,12 @@ module _ (t : ℕ) where
       let s = c.before.before.before.before.before.before.before in
       let a = s.requires.1 in
       let l = is-list [] a.tree (alone a.tree a.words) c.before.if2.true in
-      (omega (arith, s.requires.0), record { items = l.items; words = a.words ∙ ap treeWords l.is; small = a.small })
+      (omega (arith, s.requires.0), record { items = l.items; words = a.words ∙ ap tree_words l.is; small = a.small })
 
   returns-2 : lts.Need-returns-2 (sort-claims t) (sort-at t) Post
   returns-2 c u e =
       let l = is-list [] u (alone u e) c.before.before.before.before.if2.true in
-      rw l.is (c.before.before.list-sort.ensures l.items (e ∙ ap treeWords l.is))
+      rw l.is (c.before.before.list-sort.ensures l.items (e ∙ ap tree_words l.is))
 
   returns-3 : lts.Need-returns-3 (sort-claims t) (sort-at t) Post
   returns-3 c u e = rw (no-sort c.before.before.before.before.before.before.args.text.now u e c.before.if1.false c.if2.false) (refused refl)
