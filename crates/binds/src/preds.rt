@@ -23,11 +23,11 @@ use words::span::bytes_at;
 use words::tree_kinds::SYMBOL;
 
 // The name of a kvar, a span of the text that begins with `$`.
-#[derive(Drop)]
+#[derive(Clone, Copy)]
 pub struct KvarName(pub u32, pub u32);
 
 // The next place in the tree, the place behind the words written, the next fresh number, and how many predicates were read; or a refusal.
-#[derive(Drop)]
+#[derive(Clone, Copy)]
 pub enum Step {
     On(usize, usize, u64, u32),
     Refused(u32),

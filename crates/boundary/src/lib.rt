@@ -1,6 +1,8 @@
 // What the functions for C and Rust report, decided by value: the number that each returns and the two that it reports. specs/Reply.antt has
 // what they promise, of flattening too, specs/Smtlib.antt the same of SMT-LIB; specs/Sessions.antt a session over them, of which demand 3 is
 // proved. The functions themselves are in crates/ffi.
+#![tactic(auto)]
+
 ghost use Rattle.std.specs.Prelude.{◌≡◌};
 ghost use Rattle.boundary.specs.Heard.{numbers_of, written_said};
 ghost use Rattle.boundary.specs.Version.{version as versionOf};
@@ -8,7 +10,7 @@ ghost use Rattle.boundary.specs.Version.{version as versionOf};
 use replies::Said;
 
 // The refusal's number, 0 if accepted, and the two numbers that are reported, 0 after a refusal.
-#[derive(Drop)]
+#[derive(Clone, Copy)]
 pub struct Reported {
     pub refusal: u32,
     pub first: u64,

@@ -1,4 +1,6 @@
 // When an answer is the recorded one (specs/Recorded.antt): what the lent slices hold before a call, and what they and the reply hold after it.
+#![tactic(auto)]
+
 ghost use Rattle.std.specs.Prelude.{◌≡◌, ltb, length, get_or};
 ghost use Rattle.reading.specs.Pick.{pick};
 ghost use Rattle.compared.specs.Recorded.{pattern as patternOf, filled, is_zero, is_answer, is_reply, is_output, is_recorded, reported as reportedOf};
@@ -6,7 +8,7 @@ ghost use Rattle.compared.specs.Recorded.{pattern as patternOf, filled, is_zero,
 use recorded::line::Line;
 
 // The refusal or 0, the two numbers reported, and the reader's count.
-#[derive(Drop)]
+#[derive(Clone, Copy)]
 pub struct Reply {
     pub refusal: u64,
     pub a: u64,

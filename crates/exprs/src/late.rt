@@ -8,7 +8,7 @@ use scopes::entries::opened;
 use words::number::{high, low};
 
 // How many scopes are open, and the next fresh number.
-#[derive(Drop)]
+#[derive(Clone, Copy)]
 pub struct Deep {
     pub depth: usize,
     pub next: u64,

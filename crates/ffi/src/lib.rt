@@ -2,6 +2,8 @@
 // accepted; a slice passes as a pointer and a length in elements. After a refusal the reported numbers are 0, and the count is as it was.
 // The contracts are `Promised`, of flattening `Flattened` and of SMT-LIB `Spoken`: the reply is the outcome of the call. They stand in
 // crates/boundary, which decides what is reported, and where demand 3 is proved of a session of these functions.
+#![tactic(auto)]
+
 ghost use Rattle.std.specs.Prelude.{[], ◌≡◌};
 ghost use Rattle.replies.specs.Calls.{one_call, all_call, sort_call, expr_call, bind_call, solution_call};
 ghost use Rattle.boundary.specs.Reply.{uncounted, counted, Promised, flat, Flattened};

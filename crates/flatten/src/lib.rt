@@ -1,6 +1,8 @@
 // Flattening: words that may come from anywhere are judged, and applications of applications are joined into one, as `uncurry` does. The
 // operation solution flattens what the parser makes of a text. What is answered stands in crates/flattening/specs/Operations.antt;
 // crates/judging/specs/Judge.antt says which words are an expression, crates/flattening/specs/Uncurry.antt what flattening makes of it.
+#![tactic(auto)]
+
 ghost use Rattle.std.specs.Prelude.{◌≡◌};
 ghost use Rattle.reading.specs.Answer.{zeros, output_of};
 ghost use Rattle.grammar.specs.Item.{raised_words};

@@ -1,5 +1,7 @@
 // Flattened words, written from a place of the output on. A place behind the output's end stands for words that do not fit there, or for
 // a joined count that does not fit in a word.
+#![tactic(auto)]
+
 ghost use Rattle.std.specs.Prelude.{◌≡◌, List, ℕ, ◌≤◌, min, ◌+◌};
 ghost use Rattle.reading.specs.Bytes.{Maybe};
 ghost use Rattle.grammar.specs.Sort.{Sort};
@@ -21,7 +23,7 @@ use words::output::put;
 const TOO_MANY: u64 = 4294967296;
 
 // The place behind an expression in the words read, and behind its flattened words in the output.
-#[derive(Drop)]
+#[derive(Clone, Copy)]
 pub struct Places {
     pub next: usize,
     pub place: usize,
@@ -29,7 +31,7 @@ pub struct Places {
 
 // A chain of heads: where the head at its end stands, with room there for so many expressions inside one another; how many arguments
 // are joined, and the place behind their words; and from where to where the outermost output sort stands.
-#[derive(Drop)]
+#[derive(Clone, Copy)]
 pub struct Joined {
     pub head: usize,
     pub room: u32,

@@ -9,7 +9,7 @@ use lexing::byte::{begins_with, same};
 use words::expr_kinds::{AND, ATOM, BINARY, IF, IFF, IMP, NOT, OR};
 
 // A kind, or a kind and its code, with so many operands; a kind with any number of them; or a form of its own.
-#[derive(Drop)]
+#[derive(Clone, Copy)]
 pub enum Form {
     One(u32, usize),
     Two(u32, u32, usize),

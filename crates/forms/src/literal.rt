@@ -10,7 +10,7 @@ use lexing::number::{Mag, magnitude};
 use lexing::quad::Quad;
 
 // The value of `#b..`; digits that are none, not binary, or 2^128 and more; or a string that does not begin so.
-#[derive(Drop)]
+#[derive(Clone, Copy)]
 pub enum Bits {
     Is(Quad),
     Bad,

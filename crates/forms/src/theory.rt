@@ -7,7 +7,7 @@ ghost use Rattle.forms.specs.FormNames.{theory_in};
 use lexing::byte::same;
 
 // The number of a theory function, or another name.
-#[derive(Drop)]
+#[derive(Clone, Copy)]
 pub enum Theory {
     Is(u32),
     No,

@@ -1,4 +1,6 @@
 // The kind and the fields of an expression, judged: where they end, and what follows them; or the refusal of words that are none.
+#![tactic(auto)]
+
 ghost use Rattle.std.specs.Prelude.{◌≡◌, [], ◌∷◌, ◌≤◌, length};
 ghost use Rattle.judging.specs.Judge.{word, word_below, choose, kinds, header, several};
 ghost use Rattle.judging.specs.Ends.{end_of};
@@ -13,7 +15,7 @@ use words::expr_kinds::{
 
 // What the kind and the fields of an expression say: the place behind them, and how many operands follow; or, of an application, whether
 // an output sort follows its arguments and how many these are; or a refusal.
-#[derive(Drop)]
+#[derive(Clone, Copy)]
 pub enum Header {
     Operands(usize, u32),
     Arguments(usize, bool, u32),

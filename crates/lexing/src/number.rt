@@ -8,28 +8,28 @@ use crate::quad::{Quad, grow, quad_of};
 use words::number::{WORD, byte_to_long};
 
 // A number below 2^128, or none.
-#[derive(Drop)]
+#[derive(Clone, Copy)]
 pub enum Mag {
     Is(Quad),
     No,
 }
 
 // A number of 32 bits, or none.
-#[derive(Drop)]
+#[derive(Clone, Copy)]
 pub enum Word32 {
     Is(u32),
     No,
 }
 
 // A number of 64 bits, or none.
-#[derive(Drop)]
+#[derive(Clone, Copy)]
 pub enum Word64 {
     Is(u64),
     No,
 }
 
 // A number of 64 bits, none, or a number that may be longer.
-#[derive(Drop)]
+#[derive(Clone, Copy)]
 enum Quick {
     Is(u64),
     No,

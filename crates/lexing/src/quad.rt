@@ -6,7 +6,7 @@ ghost use Rattle.lexing.specs.Quads.{as_quad, as_wide, Grows};
 use words::number::WORD;
 
 // The words of a 128-bit number, lowest first.
-#[derive(Drop)]
+#[derive(Clone, Copy)]
 pub struct Quad {
     pub a: u32,
     pub b: u32,
@@ -15,14 +15,14 @@ pub struct Quad {
 }
 
 // A word, and what is carried to the next one.
-#[derive(Drop)]
+#[derive(Clone, Copy)]
 struct Limb {
     lo: u32,
     hi: u64,
 }
 
 // Four words, and what is carried out of the last one.
-#[derive(Drop)]
+#[derive(Clone, Copy)]
 pub struct Grown {
     pub q: Quad,
     pub over: u64,

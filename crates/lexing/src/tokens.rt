@@ -16,7 +16,7 @@ use words::output::{put, put_three};
 use words::tree_kinds::{BOOLEAN, DECIMAL, INTEGER, QUOTED, SYMBOL};
 
 // The words of an atom, with zeros behind them.
-#[derive(Drop)]
+#[derive(Clone, Copy)]
 pub struct Words {
     pub a: u32,
     pub b: u32,
@@ -26,7 +26,7 @@ pub struct Words {
 }
 
 // How many words an atom has, and the words.
-#[derive(Drop)]
+#[derive(Clone, Copy)]
 pub struct Coded {
     pub count: usize,
     pub words: Words,
@@ -34,7 +34,7 @@ pub struct Coded {
 
 // White space, with the place behind its character; a parenthesis; an atom, with the place behind
 // it, how many words it has and the words; or a string or an `@` that does not end.
-#[derive(Drop)]
+#[derive(Clone, Copy)]
 pub enum Token {
     Blank(usize),
     Opens,

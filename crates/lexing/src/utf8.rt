@@ -5,7 +5,7 @@ ghost use Rattle.lexing.specs.Next.{all_ascii, expected, CharacterEnds};
 
 // What may follow a byte: a character's first byte; a byte from the first number to the second, and
 // so many more behind it; or the byte was wrong.
-#[derive(Drop)]
+#[derive(Clone, Copy)]
 enum Next {
     First,
     Inside(u8, u8, u8),

@@ -10,7 +10,7 @@ use words::number::words_to_long;
 
 // A kind and its fields: of a numeral its four words, of a name or a string the words of its span, of a fresh variable and of a
 // let of one its number, of an exists how many binders it has. An application is none of these.
-#[derive(Drop)]
+#[derive(Clone, Copy)]
 pub enum Node {
     Num(u32, u32, u32, u32),
     Bool(bool),

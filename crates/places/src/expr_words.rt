@@ -10,7 +10,7 @@ use words::expr_kinds::{NEG, NUMERAL};
 use words::output::put;
 
 // The name of a variable, a span of the text: its first byte and how many bytes it has.
-#[derive(Drop)]
+#[derive(Clone, Copy)]
 pub struct VarName(pub u32, pub u32);
 
 // One word.

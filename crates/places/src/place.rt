@@ -17,7 +17,7 @@ pub fn words_at(tree: &[u32], at: usize) -> usize
 }
 
 // A list: how many items it has, and where the first stands; or another tree.
-#[derive(Drop)]
+#[derive(Clone, Copy)]
 pub enum Node {
     List(u32, usize),
     Other,

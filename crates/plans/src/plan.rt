@@ -11,7 +11,7 @@ use words::tree_kinds;
 // Operands that are left to read: where the first is, how many there are, how many are wanted; where one more stands behind them and
 // whether it is not seen through; the place of the first pair of a new scope, 0 if there is none, and how many pairs it has; the place of the
 // pair whose name is bound behind the operands, 0 if there is none; the place behind the words that are written.
-#[derive(Drop)]
+#[derive(Clone, Copy)]
 pub struct Run {
     pub first: usize,
     pub have: usize,
@@ -25,7 +25,7 @@ pub struct Run {
 }
 
 // A refusal; an expression without operands, and the place behind its words; or operands.
-#[derive(Drop)]
+#[derive(Clone, Copy)]
 pub enum Plan {
     Stop(u32),
     Leaf(usize),

@@ -7,6 +7,8 @@
 // No method asks anything of its caller. An accepted call writes its words from the start of the output, and nothing behind them. A refused
 // one gives the reader back as it came, and zeroes every slice that it was lent. Tree and draft are working slices, and zero after
 // every call.
+#![tactic(auto)]
+
 ghost use Rattle.std.specs.Prelude.{◌≡◌, []};
 ghost use Rattle.replies.specs.Calls.{one_call, all_call, sort_call, expr_call, bind_call, solution_call};
 ghost use Rattle.replies.specs.Sessions.{Promised};
@@ -15,13 +17,13 @@ ghost use Rattle.reader.specs.Replied.{replied};
 use replies::{Said, count_after, counted, read, sized};
 
 // The next fresh number.
-#[derive(Drop)]
+#[derive(Clone, Copy)]
 pub struct Reader {
     pub next: u64,
 }
 
 // What a call says, and the reader for the next call.
-#[derive(Drop)]
+#[derive(Clone, Copy)]
 pub struct Answer {
     pub reader: Reader,
     pub said: Said,

@@ -7,7 +7,7 @@ use crate::numbers::{byte_at, decimal, next_field};
 // OP is R read one, A read all, S sort, E expression, B bind, L solution, F flatten. START is the reader's count before the call, TREE,
 // DRAFT and OUT the lengths of the slices, REFUSAL its number or 0, A and B what is reported, COUNT the reader's count afterwards.
 // `input`, `words` and `next` are places: of INPUT, of WORDS and of the next line.
-#[derive(Drop)]
+#[derive(Clone, Copy)]
 pub struct Line {
     pub op: u8,
     pub start: u64,

@@ -9,7 +9,7 @@ use recorded::input::{put_bytes, put_words};
 use recorded::line::Line;
 
 // The reader that came back, and whether the answer was the recorded one.
-#[derive(Drop)]
+#[derive(Clone, Copy)]
 pub struct Done {
     pub reader: reader::Reader,
     pub same: bool,

@@ -1,6 +1,8 @@
 // Replays recorded answers from standard input, a call and its answer a line (crates/recorded/src/line.rt), and says how many there were and how many differ.
 // A call is made on the reader that the last call returned if that one's count is where the line starts, and on a new one if not.
 // What it counts is proved: how many lines there are, and how many record another answer than the definitions give (specs/Tally.antt).
+#![tactic(auto)]
+
 ghost use Rattle.std.specs.Prelude.{◌≡◌, true, min, length};
 ghost use Rattle.recorded.specs.Numbers.{most};
 ghost use Rattle.replay.specs.Tally.{more as moreOf, Told, Stepped, lines_of, wrong};
@@ -13,7 +15,7 @@ use crate::flat::flatten_line;
 use recorded::line::{Line, line_at};
 
 // What was replayed so far, and the reader that the last call returned.
-#[derive(Drop)]
+#[derive(Clone, Copy)]
 struct State {
     reader: reader::Reader,
     opened: bool,

@@ -1,13 +1,15 @@
 // What a call on a reader replies, decided by value: what is said and the count afterwards, by what the operation answered (specs/Heard.antt).
 // specs/Calls.antt says which call each method of the reader is, specs/Sessions.antt what a method promises of its reply, and what a session
 // is. Demand 3, for every list of calls, is specs/Demand3.antt; it is proved of those promises.
+#![tactic(auto)]
+
 ghost use Rattle.std.specs.Prelude.{◌≡◌};
 ghost use Rattle.replies.specs.Heard.{read_said, size_said, counted_said, count_after};
 
 use parse::Counted;
 
 // The two numbers that an accepted call reports, or the number of the refusal.
-#[derive(Drop)]
+#[derive(Clone, Copy)]
 pub enum Said {
     Accepted(usize, usize),
     Refused(u32),

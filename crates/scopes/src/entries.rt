@@ -28,7 +28,7 @@ pub fn opened(scopes: &mut [u64], depth: usize, pairs: usize, n: u64, first: u64
 }
 
 // The number that a name means, or none.
-#[derive(Drop)]
+#[derive(Clone, Copy)]
 pub enum Found {
     At(u64),
     Nothing,

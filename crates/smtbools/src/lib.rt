@@ -1,4 +1,6 @@
 // And and Or of SMT-LIB in front of their operands; true and false.
+#![tactic(auto)]
+
 ghost use Rattle.writing.specs.Wrote.{WroteBytes};
 ghost use Rattle.smtbools.specs.Bools.{folded_text, bool_text};
 

@@ -1,4 +1,6 @@
 // The bit-vector functions of SMT-LIB by their numbers.
+#![tactic(auto)]
+
 ghost use Rattle.std.specs.Prelude.{◌≤◌, ◌<◌};
 ghost use Rattle.smtfunctions.specs.Functions.{function_text};
 ghost use Rattle.smtnames.specs.Written.{TellsPiece};

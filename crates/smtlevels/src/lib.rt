@@ -1,5 +1,7 @@
 // The innermost lists that are open around a sort, as many at most as lists may stand inside one another in a text: an array has how many sorts are to come when each ends, the innermost list's
 // last.
+#![tactic(auto)]
+
 ghost use Rattle.std.specs.Prelude.{◌≡◌, List, ◌∷◌, ℕ, suc, ◌≤◌, ◌<◌, length};
 ghost use Rattle.reading.specs.Limits.{max_lists};
 ghost use Rattle.smtlevels.specs.Open.{total, settled};

@@ -1,5 +1,7 @@
 // Solutions as SMT-LIB terms: words that may come from anywhere are judged as those of one solution, and written as its list of sorted
 // variables, a space and one term. What is answered stands in crates/smt/specs/Operation.antt, what is written in its Writer.antt.
+#![tactic(auto)]
+
 ghost use Rattle.std.specs.Prelude.{◌≡◌};
 ghost use Rattle.smt.specs.Operation.{smtlib_final, smtlib_out};
 ghost use Rattle.smtlib.specs.Answers.{answer_of, Attempted};
@@ -16,7 +18,7 @@ use writing::{byte, clear};
 mod terms;
 
 // How many bytes are written, or the number of a refusal.
-#[derive(Drop)]
+#[derive(Clone, Copy)]
 pub enum Answer {
     Done(usize),
     Refused(u32),

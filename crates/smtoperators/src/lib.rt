@@ -1,4 +1,6 @@
 // The operators and relations of SMT-LIB in front of their operands, each by its number.
+#![tactic(auto)]
+
 ghost use Rattle.std.specs.Prelude.{◌<◌};
 ghost use Rattle.writing.specs.Wrote.{WroteBytes};
 ghost use Rattle.smt.specs.Vocabulary.{operators, relations};

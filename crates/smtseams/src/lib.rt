@@ -1,4 +1,6 @@
 // What stands between the operands of an SMT-LIB term and behind them.
+#![tactic(auto)]
+
 ghost use Rattle.std.specs.Prelude.{◌≡◌};
 ghost use Rattle.writing.specs.Wrote.{WroteBytes};
 ghost use Rattle.smtseams.specs.Seams.{seam_of, close_text, node_lets, node_closes};

@@ -1,4 +1,6 @@
 // Numbers that are values of a width, in bits.
+#![tactic(auto)]
+
 ghost use Rattle.std.specs.Prelude.{◌≡◌, ◌<◌, ◌^◌};
 ghost use Rattle.writing.specs.Quads.{as_wide};
 ghost use Rattle.smt.specs.Writer.{fits_width};

@@ -1,4 +1,6 @@
 // Reads a solution from standard input and prints it in lines of hexadecimal words.
+#![tactic(auto)]
+
 ghost use Rattle.std.specs.Prelude.{◌≡◌, ◌≤◌, length, take};
 ghost use Rattle.solread.specs.Printed.{printed};
 

@@ -1,4 +1,6 @@
 // Reads a solution from standard input and prints it as a script for an SMT-LIB solver: one function, which holds where the solution does.
+#![tactic(auto)]
+
 ghost use Rattle.std.specs.Prelude.{◌≡◌, List, ◌++◌, ℕ, ◌+◌, ◌≤◌, ◌<◌, length, take, drop};
 ghost use Rattle.reading.specs.Answer.{got};
 ghost use Rattle.grammar.specs.Expr.{Solution};

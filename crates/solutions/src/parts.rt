@@ -16,7 +16,7 @@ use words::Answer;
 use words::number::{length_to_long, word_to_length};
 
 // How many words the parameters and the body have, and how many fresh numbers they take; or a refusal.
-#[derive(Drop)]
+#[derive(Clone, Copy)]
 pub enum Parts {
     Done(usize, usize, u64),
     Refused(u32),

@@ -1,4 +1,6 @@
 // A sort of SMT-LIB as it is told: its kind and its fields by the words at a place, how many words it takes and how many sorts are inside it.
+#![tactic(auto)]
+
 ghost use Rattle.std.specs.Prelude.{◌≡◌, ◌≤◌, length};
 ghost use Rattle.sortnodes.specs.Told.{applied_at, sort_node_at, size_of, inside_of};
 
@@ -7,7 +9,7 @@ use words::sort_kinds::{APP, BIT_VEC, BOOL, DATA, INT, MAP, REAL, SIZE, STR};
 
 // A sort that can be written: a BitVec by its width, an Array by how many sorts are inside it, a Data sort by the span of its name and
 // how many sorts are inside it; or any other.
-#[derive(Drop)]
+#[derive(Clone, Copy)]
 pub enum SortNode {
     Int,
     Bool,

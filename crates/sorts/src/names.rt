@@ -12,7 +12,7 @@ use lexing::number::{Word32, Word64, u32_of, u64_of};
 use words::span::bytes_at;
 
 // A sort that is a name, or another name.
-#[derive(Drop)]
+#[derive(Clone, Copy)]
 pub enum Plain {
     Int,
     Bool,
@@ -22,7 +22,7 @@ pub enum Plain {
 }
 
 // A list sort that is words in front of its sorts.
-#[derive(Drop)]
+#[derive(Clone, Copy)]
 pub enum Row {
     Function,
     BitVec,
@@ -32,7 +32,7 @@ pub enum Row {
 }
 
 // How a list is read as a sort, by its first item.
-#[derive(Drop)]
+#[derive(Clone, Copy)]
 pub enum ListForm {
     Bad,
     Func,

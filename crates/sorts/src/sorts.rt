@@ -23,7 +23,7 @@ use words::tree::node_words;
 use words::tree_kinds::{INTEGER, LIST, SYMBOL};
 
 // The number of a `func`, or one that is outside its range.
-#[derive(Drop)]
+#[derive(Clone, Copy)]
 enum Arity {
     In(usize),
     Out,

@@ -1,5 +1,7 @@
 // A sort in SMT-LIB, written from words that were judged before, into a slice of bytes that the caller lends. It is written by a loop, since
 // sorts nest without limit.
+#![tactic(auto)]
+
 ghost use Rattle.std.specs.Prelude.{◌≡◌, List, [], ◌∷◌, ℕ, replicate};
 ghost use Rattle.grammar.specs.Sort.{Sort};
 ghost use Rattle.judging.specs.Judge.{reads, sort_at};
@@ -18,7 +20,7 @@ use words::limits::MAX_LISTS;
 use writing::byte;
 
 // How many lists end behind a sort without sorts inside it, and how many of the others are known.
-#[derive(Drop)]
+#[derive(Clone, Copy)]
 struct Ends {
     lists: u64,
     known: usize,

@@ -1,4 +1,6 @@
 // Words judged as sorts and binders: where they end that begin at a place, or the refusal of words that are none.
+#![tactic(auto)]
+
 ghost use Rattle.std.specs.Prelude.{◌≡◌, ◌<◌, ◌^◌};
 ghost use Rattle.judging.specs.Judge.{two_words, span_within, sort_at, binders_at};
 ghost use Rattle.sortwords.specs.SortFields.{one_field, ctor_at, app_fields, sort_head, inside_of};
@@ -9,7 +11,7 @@ use words::number::word_to_long;
 use words::sort_kinds::{ABS, APP, BIT_VEC, BOOL, DATA, FUNC, INT, MAP, REAL, SET, SIZE, STR, VAR};
 
 // The place behind the kind and the fields of a sort, and how many sorts follow inside it; or the number of a refusal.
-#[derive(Drop)]
+#[derive(Clone, Copy)]
 pub enum Inside {
     Next(usize, u32),
     No(u32),

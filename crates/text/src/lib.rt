@@ -1,5 +1,7 @@
 // The text reader: S-expressions in bytes to the words of their trees. The definitions are in crates/reading/specs: Tree.antt says which words
 // a tree has, Reading.antt what is read, and every refusal.
+#![tactic(auto)]
+
 ghost use Rattle.std.specs.Prelude.{true, false, ◌≡◌};
 ghost use Rattle.reading.specs.Reading.{read_said, read_out};
 ghost use Rattle.text.specs.Answers.{as_answer};
@@ -12,7 +14,7 @@ use crate::operation::run;
 // The two numbers that a call reports, or the number of its refusal: 1 for a text that is too long, 2 if
 // it is not UTF-8, 3 if it ends early, 4 for a `)` too many, 5 for a string or an `@` that does not end,
 // 6 for too many lists inside one another, 7 if the output lacks room.
-#[derive(Drop)]
+#[derive(Clone, Copy)]
 pub enum Answer {
     Accepted(usize, usize),
     Refused(u32),

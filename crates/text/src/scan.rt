@@ -11,7 +11,7 @@ use words::output::put_three;
 use words::tree_kinds::LIST;
 
 // How many expressions and how many words were found, and the byte behind them; or a refusal's number.
-#[derive(Drop)]
+#[derive(Clone, Copy)]
 pub enum Outcome {
     Found(usize, usize, usize),
     Refused(u32),

@@ -1,6 +1,8 @@
 // Bytes laid into a slice that the caller lends, from a place on: one byte, all bytes of another slice, a number in decimal digits. Each
 // function answers the place behind what it laid, or, where that does not fit, a place behind the end of the slice, which stands for bytes
 // that do not fit wherever it is handed on. So a caller writes one piece behind the other, and looks at the last answer only.
+#![tactic(auto)]
+
 ghost use Rattle.std.specs.Prelude.{◌≡◌, [], ◌∷◌, ◌+◌, ◌*◌, ◌^◌, ◌<◌, ltb, length};
 ghost use Rattle.reading.specs.Answer.{zeros};
 ghost use Rattle.reading.specs.Number.{value_of};
@@ -9,7 +11,7 @@ ghost use Rattle.writing.specs.Digits.{digit as digitOf, decimal as decimalOf};
 ghost use Rattle.writing.specs.Quads.{as_wide, Tenths};
 
 // The words of a 128-bit number, lowest first.
-#[derive(Drop)]
+#[derive(Clone, Copy)]
 pub struct Quad {
     pub a: u32,
     pub b: u32,
@@ -18,14 +20,14 @@ pub struct Quad {
 }
 
 // A word of a quotient by ten, and what is left.
-#[derive(Drop)]
+#[derive(Clone, Copy)]
 struct Part {
     quotient: u32,
     left: u32,
 }
 
 // The tenth of a number, and its last digit.
-#[derive(Drop)]
+#[derive(Clone, Copy)]
 struct Tenth {
     q: Quad,
     last: u32,
