@@ -1,0 +1,7 @@
+use Rattle.places.proofs.Puts.{put_append}
+use mathlib.Core.List.{[], ◌∷◌}
+use borrow.Author.Rules.{rules}
+use Rattle.binds.proofs.preds.put_kvar.Goals as goal
+
+pub returns : goal.returns
+returns c = put_append (64 ∷ c.args.name.0 ∷ c.args.name.1 ∷ []) (c.args.n ∷ []) c.put3-v.ensures c.put1.ensures

@@ -1,0 +1,23 @@
+use Prim.Native.Nat.{◌-◌, ◌≤◌}
+use native.Mathlib.Omega.{arith}
+use borrow.Author.Rules.{rules}
+use lib.ListN.{length}
+use Rattle.reading.specs.Answer.{over}
+use Rattle.compared.specs.Recorded.{filled}
+use Rattle.compared.proofs.Comparing.{Comparing, comparing_all, comparing_differ, comparing_more, comparing_none, answer-length, answer_at, answer-fits, answer-long}
+use Rattle.compared.proofs.is_answer.Goals as goal
+
+pub returns-then-out-words : goal.returns-then-out-words
+returns-then-out-words c = answer-long _ _ c.if-out-words.true
+
+pub loop-i-init : goal.loop-i-init
+loop-i-init c = (c.if-out-words.false, comparing_all _ _ (answer-length c.args.words.now c.args.out.now))
+
+pub returns-then-out-i : goal.returns-then-out-i
+returns-then-out-i c = answer-fits _ _ c.loop-i.invariant.0 (comparing_differ c.loop-i.invariant.1 c.loop-i-test.true (answer_at c.args.words.now c.args.out.now c.loop-i.i c.loop-i-test.true c.expected.ensures) c.if-out-i.true)
+
+pub loop-i-preserved : goal.loop-i-preserved
+loop-i-preserved c = (c.loop-i.invariant.0, comparing_more c.loop-i.invariant.1 c.loop-i-test.true (answer_at c.args.words.now c.args.out.now c.loop-i.i c.loop-i-test.true c.expected.ensures) c.if-out-i.false)
+
+pub returns : goal.returns
+returns c = answer-fits _ _ c.loop-i.invariant.0 (comparing_none c.loop-i.invariant.1 c.loop-i-test.false)

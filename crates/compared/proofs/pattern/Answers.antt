@@ -1,0 +1,8 @@
+use mathlib.Core.Path.{refl}
+use Rattle.compared.specs.Recorded.{pattern}
+use borrow.Author.Rules.{rules}
+use Rattle.compared.proofs.pattern.Goals as goal
+
+pub returns : goal.returns
+unfolding pattern
+returns c = refl

@@ -1,0 +1,9 @@
+use Rattle.boundary.proofs.Replies.{flat-reply}
+use borrow.Author.Rules.{rules}
+use Rattle.ffi.proofs.pinhkray_flatten.Goals as goal
+
+pub returns : goal.returns
+returns c =
+    let a = c.args in
+    let e = c.flatten.ensures in
+    flat-reply a.words_in_lem.now a.out.now _ _ _ _ c.numbers-told.ensures c.sized.ensures e.0 e.1

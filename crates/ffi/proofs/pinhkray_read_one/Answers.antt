@@ -1,0 +1,7 @@
+use mathlib.Core.Path.{refl}
+use Rattle.boundary.proofs.Replies.{read-reply}
+use borrow.Author.Rules.{rules}
+use Rattle.ffi.proofs.pinhkray_read_one.Goals as goal
+
+pub returns : goal.returns
+returns c = read-reply c.before.before.before.before.before.«open».ensures c.read_one-answer.ensures _ c.numbers-told.ensures refl refl

@@ -1,0 +1,9 @@
+use Rattle.boundary.proofs.Spoken.{spoken-reply}
+use borrow.Author.Rules.{rules}
+use Rattle.ffi.proofs.pinhkray_smtlib.Goals as goal
+
+pub returns : goal.returns
+returns c =
+    let a = c.args in
+    let e = c.smtlib.ensures in
+    spoken-reply a.words.now a.text.now a.out.now _ _ _ _ c.numbers-told.ensures c.written.ensures e.0 e.1

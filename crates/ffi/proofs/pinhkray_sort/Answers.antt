@@ -1,0 +1,7 @@
+use mathlib.Core.Path.{refl}
+use Rattle.boundary.proofs.Replies.{sort-reply}
+use borrow.Author.Rules.{rules}
+use Rattle.ffi.proofs.pinhkray_sort.Goals as goal
+
+pub returns : goal.returns
+returns c = sort-reply c.before.before.before.before.before.before.before.before.«open».ensures c.sort-answer.ensures _ c.numbers-told.ensures refl refl refl

@@ -1,0 +1,12 @@
+use Rattle.parse.proofs.Answered.{kept, cleared}
+use Rattle.flattening.specs.Operations.{flatten_out}
+use borrow.Author.Rules.{rules}
+use Rattle.flatten.proofs.flatten.Goals as goal
+
+pub returns-in-Done : goal.returns-in-Done
+unfolding flatten_out
+returns-in-Done c = kept c.attempt.ensures c.in-Done.is
+
+pub returns-in-Refused : goal.returns-in-Refused
+unfolding flatten_out
+returns-in-Refused c = cleared c.attempt.ensures c.in-Refused.is c.attempt.auto.out c.clear.ensures

@@ -1,0 +1,15 @@
+use borrow.Author.Rules.{rules}
+use Prim.Native.Nat.{◌-◌, ℕ}
+use mathlib.Core.Path.{◌≡◌, refl, ◌∙◌}
+use mathlib.Core.List.{List}
+use native.Mathlib.Omega.{arith}
+use lib.ListN.{length, length-set}
+use Rattle.judging.specs.Spelled.{Spelled}
+use Rattle.flatwriter.proofs.WriteSteps.{Left, left-all, left-next, left-none, left-full, left-past}
+use Rattle.flatwriter.proofs.copy.Given as goal
+
+abbrev pub invariant-loop-i : goal.invariant-loop-i
+invariant-loop-i l = (length l.out ≡ length l.initial.out) × ((xs : List ℕ) → Spelled l.words l.from l.to xs → Left l.words l.i l.to l.p l.out l.initial.out l.place xs)
+
+abbrev pub decreases-loop-i : goal.decreases-loop-i
+decreases-loop-i l = l.to - l.i

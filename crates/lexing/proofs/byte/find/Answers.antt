@@ -1,0 +1,25 @@
+use Prim.Native.Nat.{◌+◌, ◌-◌, ◌≤◌}
+use mathlib.Core.Path.{◌≡◌, refl}
+use native.Mathlib.Omega.{arith}
+use lib.ListN.{length, drop}
+use Rattle.reading.specs.Bytes.{before, starts_with}
+use Rattle.reading.proofs.Bytes.{before_stop, before_more, before-end, starts-yes, starts-no}
+use Rattle.lexing.proofs.byte.find.Goals as goal
+
+pub loop-i-init : goal.loop-i-init
+loop-i-init c = (c.requires, refl)
+
+pub returns-then-text-i : goal.returns-then-text-i
+returns-then-text-i c =
+    let a = c.args in
+    (omega (arith, before_stop (starts_with a.byte) a.text.now c.loop-i.i (omega arith) (starts-yes a.text.now c.loop-i.i a.byte c.if-text-i.true)), omega arith)
+
+pub loop-i-preserved : goal.loop-i-preserved
+loop-i-preserved c =
+    let a = c.args in
+    (omega arith, omega (arith, before_more (starts_with a.byte) a.text.now c.loop-i.i (omega arith) (starts-no a.text.now c.loop-i.i a.byte c.if-text-i.false)))
+
+pub returns : goal.returns
+returns c =
+    let a = c.args in
+    (omega (arith, before-end (starts_with a.byte) a.text.now c.loop-i.i (omega arith)), omega arith)

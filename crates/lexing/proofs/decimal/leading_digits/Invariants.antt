@@ -1,0 +1,16 @@
+use Prim.Native.Nat.{◌+◌, ◌-◌, ◌≤◌}
+use mathlib.Core.Bool.{not}
+use mathlib.Core.Path.{◌≡◌, sym, ap, ◌∙◌}
+use native.Mathlib.Omega.{arith}
+use lib.ListN.{length, drop}
+use Rattle.reading.specs.Bytes.{before}
+use Rattle.reading.specs.Decimal.{no_digit}
+use Rattle.reading.proofs.Bytes.{before_stop, before_more, before-end}
+use Rattle.lexing.proofs.Lexing.Decimals.{no_digit_lem}
+use Rattle.lexing.proofs.decimal.leading_digits.Given as goal
+
+abbrev pub invariant-loop-i : goal.invariant-loop-i
+invariant-loop-i l = (l.i ≤ length l.t) × (before no_digit l.t ≡ l.i + before no_digit (drop l.i l.t))
+
+abbrev pub decreases-loop-i : goal.decreases-loop-i
+decreases-loop-i l = length l.t - l.i

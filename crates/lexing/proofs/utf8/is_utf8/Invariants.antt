@@ -1,0 +1,14 @@
+use Prim.Native.Nat.{◌-◌, ◌≤◌}
+use mathlib.Core.Path.{◌≡◌, sym, ◌∙◌}
+use native.Mathlib.Omega.{arith}
+use lib.ListN.{length, drop}
+use Rattle.reading.specs.Utf8.{first, well_formed, utf8}
+use Rattle.lexing.proofs.Lexing.WellFormed.{formed-end, ends-false, ends-first, ascii-formed}
+use borrow.Author.Rules.{rules}
+use Rattle.lexing.proofs.utf8.is_utf8.Given as goal
+
+abbrev pub invariant-loop-i : goal.invariant-loop-i
+invariant-loop-i l = (l.i ≤ length l.text) × (well_formed first l.text ≡ well_formed first (drop l.i l.text))
+
+abbrev pub decreases-loop-i : goal.decreases-loop-i
+decreases-loop-i l = length l.text - l.i

@@ -1,0 +1,10 @@
+use Prim.Native.Nat.{ℕ}
+use mathlib.Core.Path.{ap, ◌∙◌}
+use lib.ListN.{replicate}
+use borrow.Author.Rules.{rules}
+use Rattle.parse.proofs.solution.solution_draft.Goals as goal
+
+pub returns : goal.returns
+returns c =
+    let a = c.attempt-answer.ensures in
+    (a.answer, (c.clear.ensures ∙ ap (λ (m : ℕ). replicate m 0) c.attempt-answer.auto.tree, (a.body, a.params)))

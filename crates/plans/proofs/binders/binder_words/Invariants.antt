@@ -1,0 +1,12 @@
+use Rattle.std.proofs.Common.{◌≡◌, ◌-◌, length, refl, arith, rules}
+use borrow.Author.Tests.{not-true, not-false}
+use Rattle.plans.specs.BinderWords.{BinderRow}
+use Rattle.places.proofs.Spots.{spot-within}
+use Rattle.plans.proofs.BinderPairs.{Numbering, numbering_start, numbering_end, numbering_bad, numbering_refused, numbering_more, binder-spot, binder-room, sort-small, sort-within}
+use Rattle.plans.proofs.binders.binder_words.Given as goal
+
+abbrev pub invariant-loop-i : goal.invariant-loop-i
+invariant-loop-i l = (length l.out ≡ length l.initial.out) × ((h : BinderRow l.tree l.at l.n l.w) → Numbering l.text l.tree l.at l.n l.from l.w h l.initial.out l.out l.i l.p l.k l.v)
+
+abbrev pub decreases-loop-i : goal.decreases-loop-i
+decreases-loop-i l = l.n - l.i

@@ -1,0 +1,14 @@
+use mathlib.Core.Path.{refl, ◌∙◌}
+use Rattle.grammar.specs.Expr.{bind_items}
+use Rattle.replies.proofs.Outcomes.{bind-known}
+use Rattle.replies.proofs.Told.{counted-told, reply}
+use borrow.Author.Rules.{rules}
+use Rattle.reader.proofs.Reader.bind.Goals as goal
+
+pub returns : goal.returns
+returns c =
+    let a = c.args in
+    let e = c.bind-answer.ensures in
+    let k = bind-known a.text.now a.tree.now a.out.now a.self.next in
+    let q = counted-told bind_items _ _ _ k _ e.0 in
+    reply k (c.counted.ensures ∙ q.0, c.count_after.ensures ∙ q.1) e.1.0 refl e.1.1

@@ -1,0 +1,14 @@
+use mathlib.Core.Path.{refl, ◌∙◌}
+use Rattle.grammar.specs.Expr.{expr_items}
+use Rattle.replies.proofs.Outcomes.{expr-known}
+use Rattle.replies.proofs.Told.{counted-told, reply}
+use borrow.Author.Rules.{rules}
+use Rattle.reader.proofs.Reader.expression.Goals as goal
+
+pub returns : goal.returns
+returns c =
+    let a = c.args in
+    let e = c.expression-answer.ensures in
+    let k = expr-known a.text.now a.tree.now a.out.now a.self.next in
+    let q = counted-told expr_items _ _ _ k _ e.0 in
+    reply k (c.counted.ensures ∙ q.0, c.count_after.ensures ∙ q.1) e.1.0 refl e.1.1

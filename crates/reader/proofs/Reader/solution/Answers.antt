@@ -1,0 +1,14 @@
+use mathlib.Core.Path.{◌∙◌}
+use Rattle.flattening.specs.Operations.{flat_items}
+use Rattle.replies.proofs.Outcomes.{solution-known}
+use Rattle.replies.proofs.Told.{counted-told, reply}
+use borrow.Author.Rules.{rules}
+use Rattle.reader.proofs.Reader.solution.Goals as goal
+
+pub returns : goal.returns
+returns c =
+    let a = c.args in
+    let e = c.solution-answer.ensures in
+    let k = solution-known a.text.now a.tree.now a.out.now a.self.next a.draft.now in
+    let q = counted-told flat_items _ _ _ k _ e.0 in
+    reply k (c.counted.ensures ∙ q.0, c.count_after.ensures ∙ q.1) e.1.0 e.1.1.0 e.1.1.1

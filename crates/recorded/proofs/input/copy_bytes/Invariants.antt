@@ -1,0 +1,16 @@
+use Prim.Native.Nat.{◌+◌, ◌-◌, ◌*◌, ◌≤◌}
+use mathlib.Core.Path.{◌≡◌, ap, ◌∙◌}
+use mathlib.Core.List.{[], ◌∷◌}
+use native.Mathlib.Omega.{arith}
+use lib.ListN.{length, drop, get_or}
+use Rattle.recorded.specs.Numbers.{most, digit}
+use Rattle.recorded.specs.Spelled.{bytes_once}
+use Rattle.recorded.proofs.Parts.{once-end, once-high, once-low, once_more, low-inside}
+use Rattle.recorded.proofs.Storing.{Left, left-all, left-more, left-none}
+use Rattle.recorded.proofs.input.copy_bytes.Given as goal
+
+abbrev pub invariant-loop-i : goal.invariant-loop-i
+invariant-loop-i l = (l.len ≤ most) × Left l.initial.text l.n (bytes_once (drop l.at l.lines)) l.text l.len (bytes_once (drop l.i l.lines))
+
+abbrev pub decreases-loop-i : goal.decreases-loop-i
+decreases-loop-i l = length l.lines - l.i

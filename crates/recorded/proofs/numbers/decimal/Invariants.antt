@@ -1,0 +1,13 @@
+use Prim.Native.Nat.{◌-◌, ◌≤◌}
+use mathlib.Core.Path.{◌≡◌, refl}
+use native.Mathlib.Omega.{arith}
+use lib.ListN.{length, drop, get_or}
+use Rattle.recorded.specs.Numbers.{number_from, most, decimal}
+use Rattle.recorded.proofs.Digits.{digit-small, number-end, number_stop, number-next, number-over}
+use Rattle.recorded.proofs.numbers.decimal.Given as goal
+
+abbrev pub invariant-loop-i : goal.invariant-loop-i
+invariant-loop-i l = (l.value ≤ most) × (number_from 10 0 (drop l.at l.lines) ≡ number_from 10 l.value (drop l.i l.lines))
+
+abbrev pub decreases-loop-i : goal.decreases-loop-i
+decreases-loop-i l = length l.lines - l.i

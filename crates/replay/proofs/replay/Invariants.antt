@@ -1,0 +1,13 @@
+use mathlib.Core.Path.{refl, ap}
+use Rattle.recorded.specs.declared.line.Line.{Line}
+use Rattle.replay.proofs.Tallying.{Tallying, tally_all, tally_more, tally_none, line-next}
+use lib.ListN.{length}
+use Prim.Native.Nat.{◌-◌}
+use native.Mathlib.Omega.{arith}
+use Rattle.replay.proofs.replay.Given as goal
+
+abbrev pub invariant-loop-at : goal.invariant-loop-at
+invariant-loop-at l = Tallying l.lines l.at l.state
+
+abbrev pub decreases-loop-at : goal.decreases-loop-at
+decreases-loop-at l = length l.lines - l.at

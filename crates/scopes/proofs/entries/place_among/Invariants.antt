@@ -1,0 +1,10 @@
+use Rattle.scopes.proofs.ScopeNames.{Walk, walk_start, walk_end, walk_pair, walk-hit, walk_more}
+use Rattle.scopes.specs.Scopes.{Pairs}
+use Rattle.std.proofs.Common.{◌-◌, sym, refl, ◌∙◌, arith, rules}
+use Rattle.scopes.proofs.entries.place_among.Given as goal
+
+abbrev pub invariant-loop-i : goal.invariant-loop-i
+invariant-loop-i l = (h : Pairs l.tree l.at l.n) → Walk l.text l.tree l.at l.n h (record { l.start = l.start; l.len = l.len }) l.i l.p
+
+abbrev pub decreases-loop-i : goal.decreases-loop-i
+decreases-loop-i l = l.n - l.i

@@ -1,0 +1,7 @@
+use Rattle.std.proofs.Common.{refl, ◌∙◌, rules}
+use Rattle.grammar.specs.Scope.{same_name}
+use Rattle.scopes.proofs.entries.same_name.Goals as goal
+
+pub returns : goal.returns
+unfolding same_name
+returns c = c.same.ensures ∙ rw (c.bytes_at.ensures, c.bytes_at-2.ensures) refl

@@ -1,0 +1,10 @@
+use Rattle.std.proofs.Common.{ℕ, ◌+◌, ◌-◌, refl, arith, rules}
+use Rattle.scopes.specs.Scopes.{Pairs}
+use Rattle.scopes.proofs.ScopeNames.{Left, left-start, left_end, left-pair, left-rest, left-hit, left-more}
+use Rattle.scopes.proofs.entries.twice.Given as goal
+
+abbrev pub invariant-loop-i : goal.invariant-loop-i
+invariant-loop-i l = (b : Pairs l.tree l.at l.n) → Left l.text l.tree b.names l.n l.i l.p
+
+abbrev pub decreases-loop-i : goal.decreases-loop-i
+decreases-loop-i l = l.n - l.i

@@ -1,0 +1,11 @@
+use borrow.Author.Tests.{eq-eqb, ne_eqb}
+use Rattle.reading.specs.Pick.{pick}
+use Rattle.show.proofs.separator.Goals as goal
+
+pub returns-then-next-to : goal.returns-then-next-to
+unfolding pick
+returns-then-next-to c = simp (eq-eqb _ _ c.if-next-to.true)
+
+pub returns : goal.returns
+unfolding pick
+returns c = simp (ne_eqb _ _ c.if-next-to.false)

@@ -1,0 +1,12 @@
+use Prim.Native.Nat.{◌+◌, ◌-◌, ◌≤◌}
+use mathlib.Core.Path.{◌≡◌, ◌∙◌}
+use native.Mathlib.Omega.{arith}
+use Rattle.smtlevels.specs.Levels.{half}
+use Rattle.smtlevels.proofs.Levels.{Moved, moved_none, moved-one, moved-known}
+use Rattle.smtlevels.proofs.halved.Given as goal
+
+abbrev pub invariant-loop-i : goal.invariant-loop-i
+invariant-loop-i l = (l.i ≤ half) × Moved l.initial.bases l.bases l.i
+
+abbrev pub decreases-loop-i : goal.decreases-loop-i
+decreases-loop-i l = half - l.i

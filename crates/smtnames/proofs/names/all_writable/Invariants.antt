@@ -1,0 +1,14 @@
+use borrow.Author.Tests.{not-true, not-false}
+use Prim.Native.Nat.{◌-◌, ◌≤◌}
+use native.Mathlib.Omega.{arith}
+use mathlib.Core.Path.{◌≡◌, refl, sym, ◌∙◌}
+use lib.ListN.{length, drop}
+use Rattle.smt.specs.Writer.{all_writable}
+use Rattle.smtnames.proofs.NamePieces.{writable-none, writable-one, writable-not}
+use Rattle.smtnames.proofs.names.all_writable.Given as goal
+
+abbrev pub invariant-loop-i : goal.invariant-loop-i
+invariant-loop-i l = (l.i ≤ length l.part) × (all_writable l.part ≡ all_writable (drop l.i l.part))
+
+abbrev pub decreases-loop-i : goal.decreases-loop-i
+decreases-loop-i l = length l.part - l.i

@@ -1,0 +1,24 @@
+use mathlib.Core.Path.{ap, ◌∙◌}
+use Prim.Native.Nat.{ℕ, ◌+◌, ◌*◌, ◌^◌}
+use native.Mathlib.Omega.{arith}
+use lib.ListN.{get_or}
+use Rattle.smtnames.proofs.Tells.{put, put_as, gone_as, gone-told, put_seq, gone-first, gone-behind, part-put, part_end, part-gone, part-told}
+use Rattle.smtvars.proofs.VarTexts.{var_pieces}
+use Rattle.sorttext.proofs.WordsRead.{binder-read}
+use borrow.Author.Rules.{rules}
+use Rattle.smtvars.proofs.vars.var.Goals as goal
+
+pub returns-then-words-at : goal.returns-then-words-at
+returns-then-words-at c limit b n e = absurd (omega (arith, (binder-read limit _ _ e).starts, c.if-words-at.true))
+
+pub returns-in-At : goal.returns-in-At
+returns-in-At c limit b n e =
+    let o = binder-read limit _ _ e in
+    let s = c.sort.ensures limit b.sort n o.sorted in
+    part-told (part_end s c.in-At.is) (put_as (var_pieces _ b (c.words_to_long-k.ensures ∙ ap (λ (w : ℕ). get_or c.args.words.now c.args.at 0 + w * 2 ^ 32) c.word_at.ensures ∙ o.number)) (put_seq (put c.byte-a.ensures) (put_seq (put c.fresh-b.ensures) (put_seq (put c.byte-c.ensures) (put_seq (part-put s c.in-At.is) (put c.byte.ensures))))))
+
+pub returns-in-No : goal.returns-in-No
+returns-in-No c limit b n e =
+    let o = binder-read limit _ _ e in
+    let s = c.sort.ensures limit b.sort n o.sorted in
+    gone-told (gone_as (var_pieces _ b (c.words_to_long-k.ensures ∙ ap (λ (w : ℕ). get_or c.args.words.now c.args.at 0 + w * 2 ^ 32) c.word_at.ensures ∙ o.number)) (gone-behind (put c.byte-a.ensures) (gone-behind (put c.fresh-b.ensures) (gone-behind (put c.byte-c.ensures) (gone-first _ (part-gone s c.in-No.is))))))

@@ -1,0 +1,10 @@
+use native.Mathlib.Omega.{arith}
+use Rattle.smtwidth.proofs.Powers.{Doubled, double_none, double_fits, double_next, double_all}
+use borrow.Author.Rules.{rules}
+use Rattle.smtwidth.proofs.power.Given as goal
+
+abbrev pub invariant-loop-i : goal.invariant-loop-i
+invariant-loop-i l = Doubled l.e l.p l.i
+
+abbrev pub decreases-loop-i : goal.decreases-loop-i
+decreases-loop-i l = l.i

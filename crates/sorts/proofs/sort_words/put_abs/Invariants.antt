@@ -1,0 +1,15 @@
+use Prim.Native.Nat.{◌-◌, ◌≤◌}
+use mathlib.Core.Path.{◌≡◌, refl, ap, ◌∙◌}
+use native.Mathlib.Omega.{arith}
+use lib.ListN.{length}
+use Rattle.reading.specs.Answer.{over}
+use Rattle.reading.proofs.Over.{over-length}
+use Rattle.sorts.specs.Rows.{abs_words}
+use Rattle.sorts.proofs.RowWords.{abs_next}
+use Rattle.sorts.proofs.sort_words.put_abs.Given as goal
+
+abbrev pub invariant-loop-i : goal.invariant-loop-i
+invariant-loop-i l = (l.i ≤ l.n) × (l.index ≡ l.i) × (l.out ≡ over (abs_words 0 l.i) l.initial.out)
+
+abbrev pub decreases-loop-i : goal.decreases-loop-i
+decreases-loop-i l = l.n - l.i

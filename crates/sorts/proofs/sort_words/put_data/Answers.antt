@@ -1,0 +1,8 @@
+use mathlib.Core.Path.{refl}
+use mathlib.Core.List.{[], ◌∷◌}
+use Rattle.sorts.proofs.Lend.{over-stored}
+use borrow.Author.Rules.{rules}
+use Rattle.sorts.proofs.sort_words.put_data.Goals as goal
+
+pub returns : goal.returns
+returns c = (refl, rw (c.put-5.ensures, c.put-4.ensures, c.put-3.ensures, c.put-2.ensures, c.put.ensures) (over-stored (_ ∷ _ ∷ _ ∷ _ ∷ _ ∷ []) _))

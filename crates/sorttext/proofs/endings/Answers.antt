@@ -1,0 +1,74 @@
+use borrow.Author.Rules.{rules}
+use Rattle.reading.proofs.Picks.{pick_eq, pick_ne}
+use Prim.Native.Nat.{ℕ, ◌-◌, ◌≤◌, ◌<◌}
+use mathlib.Core.Path.{◌≡◌, ◌∙◌}
+use mathlib.Core.Logic.{⊎_elim}
+use mathlib.Core.List.{List, []}
+use native.Mathlib.Omega.{arith}
+use lib.ListN.{length}
+use Rattle.reading.specs.Limits.{max_lists}
+use Rattle.smtlevels.specs.Open.{total, ending, settled}
+use Rattle.sorttext.specs.SortWalk.{Walk}
+use Rattle.smtlevels.specs.Levels.{Within, Known}
+use Rattle.smtlevels.proofs.Levels.{within_as, below-settled}
+use Rattle.sorttext.proofs.EndTexts.{size-some, size_few, Toward, toward_start, toward_end, toward_held, toward_inside, toward_into, toward_past, toward_some, toward_as}
+use Rattle.sorttext.proofs.endings.Goals as goal
+
+-- What is answered where no walk comes.
+never : {ws : List ℕ} (bases : List ℕ) {from at left : ℕ} → length bases ≡ max_lists → ((es : List ℕ) → Walk ws from [] at es → ⊥)
+    → Within bases 0 × (((es : List ℕ) → Walk ws from [] at es → 0 ≡ ending left es) × ((es : List ℕ) → Walk ws from [] at es → left ≡ total es → Known bases 0 (settled es)))
+never bases e h = ((e, omega arith), (λ es w. absurd (h es w), λ es w l. tt))
+
+pub loop-a-init : goal.loop-a-init
+loop-a-init c = (omega arith, λ es w. toward_start w, c.requires)
+
+pub returns-then-words-a : goal.returns-then-words-a
+returns-then-words-a c = never c.loop-a.bases c.loop-a.invariant.2.0 (λ es w. omega (arith, toward_inside (c.loop-a.invariant.1 es w) c.loop-a-test.true, c.if-words-a.true))
+
+pub returns-then-words-pending : goal.returns-then-words-pending
+returns-then-words-pending c = never c.loop-a.bases c.loop-a.invariant.2.0 (λ es w. omega (arith, (c.loop-a.invariant.1 es w).few, c.if-words-pending.true))
+
+pub returns-then-pending-eq0 : goal.returns-then-pending-eq0
+returns-then-pending-eq0 c = never c.loop-a.bases c.loop-a.invariant.2.0 (λ es w. omega (arith, toward_some (c.loop-a.invariant.1 es w) c.loop-a-test.true c.sort_at-node.ensures c.count-n.ensures c.if-n-eq0.true, c.if-pending-eq0.true))
+
+pub standing_below-known-requires : goal.standing_below-known-requires
+standing_below-known-requires c = c.loop-a.invariant.2.1
+
+pub entered_below-known-requires : goal.entered_below-known-requires
+entered_below-known-requires c = c.loop-a.invariant.2
+
+pub overflow_add-a : goal.overflow_add-a
+overflow_add-a c = omega (arith, c.size-a.ensures, size_few c.sort_at-node.result)
+
+pub loop-a-smaller : goal.loop-a-smaller
+loop-a-smaller c = omega (arith, c.size-a.ensures, size-some c.sort_at-node.result)
+
+pub loop-a-preserved : goal.loop-a-preserved
+loop-a-preserved c =
+    let n = c.size-a.ensures in
+    let m : 0 < c.size-a.result = omega (arith, n, size-some c.sort_at-node.result) in
+    ⊎_elim
+    (λ v. (
+      ⊎_elim (λ u. omega (arith, m, v.7, u.1)) (λ u. omega (arith, m, v.7, u.1, c.loop-a.invariant.0)) v.1.came,
+      λ es w.
+          toward_as v.5 v.8
+          (toward_past (c.loop-a.invariant.1 es w) c.loop-a-test.true c.sort_at-node.ensures c.count-n.ensures v.0.taken n v.6 (v.7 ∙ ⊎_elim (λ u. pick_eq _ u.0.taken u.1) (λ u. pick_ne _ u.0.left u.1) v.1.came) v.4.ensures.1),
+      within_as v.5 v.8 (c.loop-a.invariant.2.0, omega (arith, v.4.ensures.0, c.loop-a.invariant.2.1)),
+    ))
+    (λ v. (
+      ⊎_elim (λ u. omega (arith, m, v.6, u.1, c.loop-a.invariant.0)) (λ u. omega (arith, m, v.6, u.1, c.loop-a.invariant.0)) v.1.came,
+      λ es w.
+          toward_as v.4 v.7
+          (toward_into (c.loop-a.invariant.1 es w) c.loop-a-test.true c.sort_at-node.ensures c.count-n.ensures v.0.left n v.5 (v.6 ∙ ⊎_elim (λ u. pick_eq _ u.0.taken u.1) (λ u. pick_ne _ u.0.left u.1) v.1.came) v.3.ensures.1),
+      within_as v.4 v.7 v.3.ensures.0,
+    ))
+    c.if-n-eq0.branch
+
+pub returns : goal.returns
+returns c = (
+  c.loop-a.invariant.2,
+  (
+    λ es w. toward_end (c.loop-a.invariant.1 es w) c.loop-a-test.false,
+    λ es w e. rw (below-settled _ es e) at (toward_held (c.loop-a.invariant.1 es w) c.loop-a-test.false),
+  ),
+)

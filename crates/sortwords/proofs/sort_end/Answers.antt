@@ -1,0 +1,24 @@
+use Prim.Native.Nat.{◌≤◌}
+use mathlib.Core.Path.{◌≡◌, sym, ◌∙◌}
+use lib.ListN.{length}
+use borrow.Author.Rules.{rules}
+use Rattle.judging.specs.Judge.{sort_at}
+use Rattle.judging.specs.Ends.{end_of}
+use Rattle.sortwords.proofs.SortWalk.{walk, walk_start, walk-done, walk-short, walk-bad, walk-next}
+use Rattle.sortwords.proofs.sort_end.Goals as goal
+
+pub loop-pending-init : goal.loop-pending-init
+loop-pending-init c = (walk_start _ _ _, search rules)
+
+pub returns-then-left-pending : goal.returns-then-left-pending
+returns-then-left-pending c = sym (c.loop-pending.invariant.0 ∙ walk-short _ _ _ _ _ c.if-left-pending.true)
+
+pub returns-in-No : goal.returns-in-No
+returns-in-No c = sym (c.loop-pending.invariant.0 ∙ walk-bad _ _ _ _ _ c.loop-pending-test.true c.if-left-pending.false (sym c.in-No.is ∙ c.sort_head.ensures))
+
+pub loop-pending-preserved : goal.loop-pending-preserved
+loop-pending-preserved c =
+    (c.loop-pending.invariant.0 ∙ walk-next _ _ _ _ _ c.loop-pending-test.true c.if-left-pending.false c.word_to_long.ensures.0 (sym c.in-Next.is ∙ c.sort_head.ensures), search rules)
+
+pub returns : goal.returns
+returns c = sym (c.loop-pending.invariant.0 ∙ walk-done _ _ _ _ _ c.loop-pending-test.false)

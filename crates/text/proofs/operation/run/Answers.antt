@@ -1,0 +1,9 @@
+use Rattle.text.proofs.Looping.Final.{done, cleared}
+use borrow.Author.Rules.{rules}
+use Rattle.text.proofs.operation.run.Goals as goal
+
+pub returns-in-Accepted : goal.returns-in-Accepted
+returns-in-Accepted c = done c.attempt.ensures c.in-Accepted.is
+
+pub returns-in-Refused : goal.returns-in-Refused
+returns-in-Refused c = cleared c.attempt.ensures c.in-Refused.is c.attempt.auto.out c.clear.ensures

@@ -1,0 +1,13 @@
+use borrow.Author.Rules.{rules}
+use Prim.Native.Nat.{◌-◌}
+use native.Mathlib.Omega.{arith}
+use lib.ListN.{length}
+use Rattle.writing.proofs.Wrote.{wrote-over}
+use Rattle.writing.proofs.Pieces.{Copied, copy_none, copy_next, copy_all}
+use Rattle.writing.proofs.bytes.Given as goal
+
+abbrev pub invariant-loop-n : goal.invariant-loop-n
+invariant-loop-n l = Copied l.from l.initial.out l.place l.out l.n
+
+abbrev pub decreases-loop-n : goal.decreases-loop-n
+decreases-loop-n l = length l.from - l.n
