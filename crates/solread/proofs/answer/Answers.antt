@@ -5,24 +5,21 @@ use Rattle.replies.proofs.Solved.{ToldSolution}
 use Rattle.solread.proofs.Shown.{shown-long, shown-refused, shown-accepted, words_inside}
 use borrow.Author.Rules.{rules}
 use Rattle.solread.proofs.answer.Goals as goal
-use Rattle.solread.proofs.answer.Goals.{After-solution-call}
-
--- What the call tells: the only place that reads the contract of the method.
-told : (c : After-solution-call) → ToldSolution c.args.text.now slice slice slice c.before.before.before.before.«open».result.next c.solution-call.result.said c.solution-call.new.out
-unfolding slice
-told c = record { new = c.before.before.before.before.«open».ensures; says = c.solution-call.ensures.said; leaves = c.solution-call.ensures.output }
 
 pub returns-then-text-gt8192 : goal.returns-then-text-gt8192
 returns-then-text-gt8192 c = shown-long c.args.text.now c.args.out.now c.requires c.if-text-gt8192.true c.refusal.ensures
 
 pub slice_bounds-words-end : goal.slice_bounds-words-end
-slice_bounds-words-end c = words_inside (told c.before.before.before.before.before.before) c.in-Accepted.is
+unfolding slice
+slice_bounds-words-end c = words_inside ((let the_told : ToldSolution c.args.text.now slice slice slice c.open.result.next c.solution-call.result.said c.solution-call.new.out = record { new = c.open.ensures; says = c.solution-call.ensures.said; leaves = c.solution-call.ensures.output } in the_told)) c.in-Accepted.is
 
 pub slice_bounds-solution-end-in-Accepted : goal.slice_bounds-solution-end-in-Accepted
 slice_bounds-solution-end-in-Accepted c = sym (length-take-le _ _ (array-share-prefix-words c.before))
 
 pub returns-in-Accepted : goal.returns-in-Accepted
-returns-in-Accepted c = shown-accepted c.args.text.now c.args.out.now c.requires (told c.before.before.before.before.before.before.before.before.before.before.before) c.if-text-gt8192.false c.in-Accepted.is c.solution.ensures
+unfolding slice
+returns-in-Accepted c = shown-accepted c.args.text.now c.args.out.now c.requires ((let the_told : ToldSolution c.args.text.now slice slice slice c.open.result.next c.solution-call.result.said c.solution-call.new.out = record { new = c.open.ensures; says = c.solution-call.ensures.said; leaves = c.solution-call.ensures.output } in the_told)) c.if-text-gt8192.false c.in-Accepted.is c.solution.ensures
 
 pub returns-in-Refused : goal.returns-in-Refused
-returns-in-Refused c = shown-refused c.args.text.now c.args.out.now c.requires (told c.before.before.before.before.before.before.before.before.before.before) c.if-text-gt8192.false c.in-Refused.is c.refusal-in-Refused.ensures
+unfolding slice
+returns-in-Refused c = shown-refused c.args.text.now c.args.out.now c.requires ((let the_told : ToldSolution c.args.text.now slice slice slice c.open.result.next c.solution-call.result.said c.solution-call.new.out = record { new = c.open.ensures; says = c.solution-call.ensures.said; leaves = c.solution-call.ensures.output } in the_told)) c.if-text-gt8192.false c.in-Refused.is c.refusal-in-Refused.ensures

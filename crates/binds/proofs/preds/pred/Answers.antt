@@ -11,43 +11,43 @@ pub node_at-requires : goal.node_at-requires
 node_at-requires c = c.requires.0.spot
 
 pub returns-in_default : goal.returns-in_default
-returns-in_default c h = pred-atom h _ (node-other c.args.tree.now c.args.at c.before.before.Node-at.ensures c.in_default.is)
+returns-in_default c h = pred-atom h _ (node-other c.args.tree.now c.args.at c.node_at.ensures c.in_default.is)
 
 pub returns-then-n-eq0 : goal.returns-then-n-eq0
-returns-then-n-eq0 c h = pred-none h (node-list c.args.tree.now c.args.at c.before.before.before.before.Node-at.ensures c.in-List.is) _ c.if-n-eq0.true
+returns-then-n-eq0 c h = pred-none h (node-list c.args.tree.now c.args.at c.node_at.ensures c.in-List.is) _ c.if-n-eq0.true
 
 pub offset_bounds-tree-first : goal.offset_bounds-tree-first
-offset_bounds-tree-first c = omega (arith, two-there (head-spot c.requires.0.spot (node-list c.args.tree.now c.args.at c.before.before.before.before.Node-at.ensures c.in-List.is) c.if-n-eq0.false))
+offset_bounds-tree-first c = omega (arith, two-there (head-spot c.requires.0.spot (node-list c.args.tree.now c.args.at c.node_at.ensures c.in-List.is) c.if-n-eq0.false))
 
 pub bounds-tree-first : goal.bounds-tree-first
-bounds-tree-first c = omega (arith, two-there (head-spot c.requires.0.spot (node-list c.args.tree.now c.args.at c.before.before.before.before.before.Node-at.ensures c.in-List.is) c.if-n-eq0.false))
+bounds-tree-first c = omega (arith, two-there (head-spot c.requires.0.spot (node-list c.args.tree.now c.args.at c.node_at.ensures c.in-List.is) c.if-n-eq0.false))
 
 pub overflow_add-first : goal.overflow_add-first
-overflow_add-first c = omega (arith, six-there c.requires.0 (node-list c.args.tree.now c.args.at c.before.before.before.before.before.before.Node-at.ensures c.in-List.is) c.if-n-eq0.false c.if-tree-first-eq-SYMBOL.true, (node-list c.args.tree.now c.args.at c.before.before.before.before.before.before.Node-at.ensures c.in-List.is).first)
+overflow_add-first c = omega (arith, six-there c.requires.0 (node-list c.args.tree.now c.args.at c.node_at.ensures c.in-List.is) c.if-n-eq0.false c.if-tree-first-eq-SYMBOL.true, (node-list c.args.tree.now c.args.at c.node_at.ensures c.in-List.is).first)
 
 pub offset_bounds-tree-first-then-tree-first-eq-SYMBOL : goal.offset_bounds-tree-first-then-tree-first-eq-SYMBOL
-offset_bounds-tree-first-then-tree-first-eq-SYMBOL c = omega (arith, six-there c.requires.0 (node-list c.args.tree.now c.args.at c.before.before.before.before.before.before.Node-at.ensures c.in-List.is) c.if-n-eq0.false c.if-tree-first-eq-SYMBOL.true, (node-list c.args.tree.now c.args.at c.before.before.before.before.before.before.Node-at.ensures c.in-List.is).first)
+offset_bounds-tree-first-then-tree-first-eq-SYMBOL c = omega (arith, six-there c.requires.0 (node-list c.args.tree.now c.args.at c.node_at.ensures c.in-List.is) c.if-n-eq0.false c.if-tree-first-eq-SYMBOL.true, (node-list c.args.tree.now c.args.at c.node_at.ensures c.in-List.is).first)
 
 pub bounds-tree-first-then-tree-first-eq-SYMBOL : goal.bounds-tree-first-then-tree-first-eq-SYMBOL
-bounds-tree-first-then-tree-first-eq-SYMBOL c = omega (arith, six-there c.requires.0 (node-list c.args.tree.now c.args.at c.before.before.before.before.before.before.before.Node-at.ensures c.in-List.is) c.if-n-eq0.false c.if-tree-first-eq-SYMBOL.true, (node-list c.args.tree.now c.args.at c.before.before.before.before.before.before.before.Node-at.ensures c.in-List.is).first)
+bounds-tree-first-then-tree-first-eq-SYMBOL c = omega (arith, six-there c.requires.0 (node-list c.args.tree.now c.args.at c.node_at.ensures c.in-List.is) c.if-n-eq0.false c.if-tree-first-eq-SYMBOL.true, (node-list c.args.tree.now c.args.at c.node_at.ensures c.in-List.is).first)
 
 pub overflow_add-first-then-tree-first-eq-SYMBOL : goal.overflow_add-first-then-tree-first-eq-SYMBOL
-overflow_add-first-then-tree-first-eq-SYMBOL c = omega (arith, six-there c.requires.0 (node-list c.args.tree.now c.args.at c.before.before.before.before.before.before.before.Node-at.ensures c.in-List.is) c.if-n-eq0.false c.if-tree-first-eq-SYMBOL.true, (node-list c.args.tree.now c.args.at c.before.before.before.before.before.before.before.Node-at.ensures c.in-List.is).first)
+overflow_add-first-then-tree-first-eq-SYMBOL c = omega (arith, six-there c.requires.0 (node-list c.args.tree.now c.args.at c.node_at.ensures c.in-List.is) c.if-n-eq0.false c.if-tree-first-eq-SYMBOL.true, (node-list c.args.tree.now c.args.at c.node_at.ensures c.in-List.is).first)
 
 pub offset_bounds-tree-first-then-tree-first-eq-SYMBOL-2 : goal.offset_bounds-tree-first-then-tree-first-eq-SYMBOL-2
-offset_bounds-tree-first-then-tree-first-eq-SYMBOL-2 c = omega (arith, six-there c.requires.0 (node-list c.args.tree.now c.args.at c.before.before.before.before.before.before.before.Node-at.ensures c.in-List.is) c.if-n-eq0.false c.if-tree-first-eq-SYMBOL.true, (node-list c.args.tree.now c.args.at c.before.before.before.before.before.before.before.Node-at.ensures c.in-List.is).first)
+offset_bounds-tree-first-then-tree-first-eq-SYMBOL-2 c = omega (arith, six-there c.requires.0 (node-list c.args.tree.now c.args.at c.node_at.ensures c.in-List.is) c.if-n-eq0.false c.if-tree-first-eq-SYMBOL.true, (node-list c.args.tree.now c.args.at c.node_at.ensures c.in-List.is).first)
 
 pub bounds-tree-first-then-tree-first-eq-SYMBOL-2 : goal.bounds-tree-first-then-tree-first-eq-SYMBOL-2
-bounds-tree-first-then-tree-first-eq-SYMBOL-2 c = omega (arith, six-there c.requires.0 (node-list c.args.tree.now c.args.at c.before.before.before.before.before.before.before.before.Node-at.ensures c.in-List.is) c.if-n-eq0.false c.if-tree-first-eq-SYMBOL.true, (node-list c.args.tree.now c.args.at c.before.before.before.before.before.before.before.before.Node-at.ensures c.in-List.is).first)
+bounds-tree-first-then-tree-first-eq-SYMBOL-2 c = omega (arith, six-there c.requires.0 (node-list c.args.tree.now c.args.at c.node_at.ensures c.in-List.is) c.if-n-eq0.false c.if-tree-first-eq-SYMBOL.true, (node-list c.args.tree.now c.args.at c.node_at.ensures c.in-List.is).first)
 
 pub returns-then-same : goal.returns-then-same
-returns-then-same c h = pred-and h (node-list c.args.tree.now c.args.at c.before.before.before.before.before.before.before.before.before.before.before.before.Node-at.ensures c.in-List.is) c.if-n-eq0.false c.if-tree-first-eq-SYMBOL.true _ c.bytes_at-name.ensures c.same.ensures c.if-same.true
+returns-then-same c h = pred-and h (node-list c.args.tree.now c.args.at c.node_at.ensures c.in-List.is) c.if-n-eq0.false c.if-tree-first-eq-SYMBOL.true _ c.bytes_at-name.ensures c.same.ensures c.if-same.true
 
 pub kvar-requires : goal.kvar-requires
-kvar-requires c = kvar-here c.requires.0 (node-list c.args.tree.now c.args.at c.before.before.before.before.before.before.before.before.before.before.before.before.before.before.before.before.Node-at.ensures c.in-List.is) c.if-n-eq0.false c.if-tree-first-eq-SYMBOL.true c.bytes_at-name.ensures c.same.ensures c.if-same.false c.begins_with.ensures c.if-begins_with.true
+kvar-requires c = kvar-here c.requires.0 (node-list c.args.tree.now c.args.at c.node_at.ensures c.in-List.is) c.if-n-eq0.false c.if-tree-first-eq-SYMBOL.true c.bytes_at-name.ensures c.same.ensures c.if-same.false c.begins_with.ensures c.if-begins_with.true
 
 pub returns-then-begins_with : goal.returns-then-begins_with
-returns-then-begins_with c h = pred-kvar h (node-list c.args.tree.now c.args.at c.before.before.before.before.before.before.before.before.before.before.before.before.before.before.before.before.before.before.before.Node-at.ensures c.in-List.is) c.if-n-eq0.false c.if-tree-first-eq-SYMBOL.true c.bytes_at-name.ensures c.same.ensures c.if-same.false c.begins_with.ensures _ (c.kvar.ensures (kvar-here h (node-list c.args.tree.now c.args.at c.before.before.before.before.before.before.before.before.before.before.before.before.before.before.before.before.before.before.before.Node-at.ensures c.in-List.is) c.if-n-eq0.false c.if-tree-first-eq-SYMBOL.true c.bytes_at-name.ensures c.same.ensures c.if-same.false c.begins_with.ensures c.if-begins_with.true) _)
+returns-then-begins_with c h = pred-kvar h (node-list c.args.tree.now c.args.at c.node_at.ensures c.in-List.is) c.if-n-eq0.false c.if-tree-first-eq-SYMBOL.true c.bytes_at-name.ensures c.same.ensures c.if-same.false c.begins_with.ensures _ (c.kvar.ensures (kvar-here h (node-list c.args.tree.now c.args.at c.node_at.ensures c.in-List.is) c.if-n-eq0.false c.if-tree-first-eq-SYMBOL.true c.bytes_at-name.ensures c.same.ensures c.if-same.false c.begins_with.ensures c.if-begins_with.true) _)
 
 pub put1-v-requires : goal.put1-v-requires
 put1-v-requires c = omega (arith, c.requires.0.room)
@@ -62,10 +62,10 @@ pub words_at-requires : goal.words_at-requires
 words_at-requires c = c.requires.0.spot
 
 pub overflow_add-result-in-Done : goal.overflow_add-result-in-Done
-overflow_add-result-in-Done c = omega (arith, c.before.before.before.before.before.before.before.before.before.before.before.before.before.before.before.before.before.before.before.before.before.before.before.before.before.before.before.well-formed, c.words_at.ensures c.requires.0.spot, spot-within c.requires.0.spot)
+overflow_add-result-in-Done c = omega (arith, c.words_at.ensures c.requires.0.spot, spot-within c.requires.0.spot)
 
 pub returns-in-Refused : goal.returns-in-Refused
-returns-in-Refused c h = expr-bad h (c.through-q.ensures h.spot) (⊎_elim (λ w. pred-named h (node-list c.args.tree.now c.args.at c.before.before.before.before.before.before.before.before.before.before.before.before.before.before.before.before.before.before.before.before.before.Node-at.ensures c.in-List.is) c.if-n-eq0.false w.0.taken w.3.ensures w.5.ensures w.6.left w.8.ensures w.9.left) (λ w. pred-other h (node-list c.args.tree.now c.args.at c.before.before.before.before.before.before.before.before.before.before.before.before.before.before.before.before.before.before.before.before.before.Node-at.ensures c.in-List.is) c.if-n-eq0.false w.left) c.if-tree-first-eq-SYMBOL.branch) _ (c.expr.ensures.1 (expr-here h (c.through-q.ensures h.spot) c.put1-v.ensures.is c.args.scopes.now c.requires.1)) c.in-Refused.is
+returns-in-Refused c h = expr-bad h (c.through-q.ensures h.spot) (⊎_elim (λ w. pred-named h (node-list c.args.tree.now c.args.at c.node_at.ensures c.in-List.is) c.if-n-eq0.false w.0.taken w.3.ensures w.5.ensures w.6.left w.8.ensures w.9.left) (λ w. pred-other h (node-list c.args.tree.now c.args.at c.node_at.ensures c.in-List.is) c.if-n-eq0.false w.left) c.if-tree-first-eq-SYMBOL.branch) _ (c.expr.ensures.1 (expr-here h (c.through-q.ensures h.spot) c.put1-v.ensures.is c.args.scopes.now c.requires.1)) c.in-Refused.is
 
 pub returns-in-Done : goal.returns-in-Done
-returns-in-Done c h = expr-read h (c.through-q.ensures h.spot) (⊎_elim (λ w. pred-named h (node-list c.args.tree.now c.args.at c.before.before.before.before.before.before.before.before.before.before.before.before.before.before.before.before.before.before.before.before.before.before.Node-at.ensures c.in-List.is) c.if-n-eq0.false w.0.taken w.3.ensures w.5.ensures w.6.left w.8.ensures w.9.left) (λ w. pred-other h (node-list c.args.tree.now c.args.at c.before.before.before.before.before.before.before.before.before.before.before.before.before.before.before.before.before.before.before.before.before.before.Node-at.ensures c.in-List.is) c.if-n-eq0.false w.left) c.if-tree-first-eq-SYMBOL.branch) _ c.put1-v.ensures (c.expr.ensures.1 (expr-here h (c.through-q.ensures h.spot) c.put1-v.ensures.is c.args.scopes.now c.requires.1)) c.in-Done.is (c.words_at.ensures h.spot)
+returns-in-Done c h = expr-read h (c.through-q.ensures h.spot) (⊎_elim (λ w. pred-named h (node-list c.args.tree.now c.args.at c.node_at.ensures c.in-List.is) c.if-n-eq0.false w.0.taken w.3.ensures w.5.ensures w.6.left w.8.ensures w.9.left) (λ w. pred-other h (node-list c.args.tree.now c.args.at c.node_at.ensures c.in-List.is) c.if-n-eq0.false w.left) c.if-tree-first-eq-SYMBOL.branch) _ c.put1-v.ensures (c.expr.ensures.1 (expr-here h (c.through-q.ensures h.spot) c.put1-v.ensures.is c.args.scopes.now c.requires.1)) c.in-Done.is (c.words_at.ensures h.spot)

@@ -13,7 +13,7 @@ pub words_at-requires : goal.words_at-requires
 words_at-requires c = c.requires.spot
 
 pub overflow_add-end : goal.overflow_add-end
-overflow_add-end c = omega (arith, c.before.before.before.before.well-formed, c.words_at.ensures c.requires.spot, spot-within c.requires.spot)
+overflow_add-end c = omega (arith, c.words_at.ensures c.requires.spot, spot-within c.requires.spot)
 
 pub overflow_add-v : goal.overflow_add-v
 overflow_add-v c = omega (arith, c.requires.room)

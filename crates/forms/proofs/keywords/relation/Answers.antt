@@ -6,31 +6,6 @@ use Rattle.grammar.specs.Expr.{k_atom, rel_eq, rel_ge, rel_gt, rel_le, rel_lt, r
 use Rattle.grammar.specs.Names.{Form, keywords}
 use Rattle.forms.proofs.FormCode.{keyword_is, rest-says}
 use Rattle.forms.proofs.keywords.relation.Goals as goal
-use Rattle.forms.proofs.keywords.relation.Goals.{Else-same, Else-same-2, Else-same-3, Else-same-4, Else-same-5, Else-same-6}
-
-past1 : (c : Else-same) {m : Maybe Form} → m ≡ lookup (drop 14 keywords) c.args.name.now → m ≡ lookup (drop 13 keywords) c.args.name.now
-unfolding keywords
-past1 c e = lookup-later _ _ _ _ c.if-same.false c.same.ensures e
-
-past2 : (c : Else-same-2) {m : Maybe Form} → m ≡ lookup (drop 15 keywords) c.args.name.now → m ≡ lookup (drop 13 keywords) c.args.name.now
-unfolding keywords
-past2 c e = past1 c.before.before.before (lookup-later _ _ _ _ c.if-same-2.false c.same-2.ensures e)
-
-past3 : (c : Else-same-3) {m : Maybe Form} → m ≡ lookup (drop 16 keywords) c.args.name.now → m ≡ lookup (drop 13 keywords) c.args.name.now
-unfolding keywords
-past3 c e = past2 c.before.before.before (lookup-later _ _ _ _ c.if-same-3.false c.same-3.ensures e)
-
-past4 : (c : Else-same-4) {m : Maybe Form} → m ≡ lookup (drop 17 keywords) c.args.name.now → m ≡ lookup (drop 13 keywords) c.args.name.now
-unfolding keywords
-past4 c e = past3 c.before.before.before (lookup-later _ _ _ _ c.if-same-4.false c.same-4.ensures e)
-
-past5 : (c : Else-same-5) {m : Maybe Form} → m ≡ lookup (drop 18 keywords) c.args.name.now → m ≡ lookup (drop 13 keywords) c.args.name.now
-unfolding keywords
-past5 c e = past4 c.before.before.before (lookup-later _ _ _ _ c.if-same-5.false c.same-5.ensures e)
-
-past6 : (c : Else-same-6) {m : Maybe Form} → m ≡ lookup (drop 19 keywords) c.args.name.now → m ≡ lookup (drop 13 keywords) c.args.name.now
-unfolding keywords
-past6 c e = past5 c.before.before.before (lookup-later _ _ _ _ c.if-same-6.false c.same-6.ensures e)
 
 pub returns-then-same : goal.returns-then-same
 unfolding keywords kind_items
@@ -38,23 +13,24 @@ returns-then-same c = record { kind = k_atom rel_eq; is = keyword_is _ (lookup-h
 
 pub returns-then-same-2 : goal.returns-then-same-2
 unfolding keywords kind_items
-returns-then-same-2 c = record { kind = k_atom rel_ne; is = keyword_is _ (past1 c.before.before.before (lookup-here _ _ _ _ c.if-same-2.true c.same-2.ensures)); words = refl }
+returns-then-same-2 c = record { kind = k_atom rel_ne; is = keyword_is _ ((lookup-later _ _ _ _ c.if-same.false c.same.ensures (lookup-here _ _ _ _ c.if-same-2.true c.same-2.ensures))); words = refl }
 
 pub returns-then-same-3 : goal.returns-then-same-3
 unfolding keywords kind_items
-returns-then-same-3 c = record { kind = k_atom rel_lt; is = keyword_is _ (past2 c.before.before.before (lookup-here _ _ _ _ c.if-same-3.true c.same-3.ensures)); words = refl }
+returns-then-same-3 c = record { kind = k_atom rel_lt; is = keyword_is _ (((lookup-later _ _ _ _ c.if-same.false c.same.ensures (lookup-later _ _ _ _ c.if-same-2.false c.same-2.ensures (lookup-here _ _ _ _ c.if-same-3.true c.same-3.ensures))))); words = refl }
 
 pub returns-then-same-4 : goal.returns-then-same-4
 unfolding keywords kind_items
-returns-then-same-4 c = record { kind = k_atom rel_le; is = keyword_is _ (past3 c.before.before.before (lookup-here _ _ _ _ c.if-same-4.true c.same-4.ensures)); words = refl }
+returns-then-same-4 c = record { kind = k_atom rel_le; is = keyword_is _ ((((lookup-later _ _ _ _ c.if-same.false c.same.ensures (lookup-later _ _ _ _ c.if-same-2.false c.same-2.ensures (lookup-later _ _ _ _ c.if-same-3.false c.same-3.ensures (lookup-here _ _ _ _ c.if-same-4.true c.same-4.ensures))))))); words = refl }
 
 pub returns-then-same-5 : goal.returns-then-same-5
 unfolding keywords kind_items
-returns-then-same-5 c = record { kind = k_atom rel_gt; is = keyword_is _ (past4 c.before.before.before (lookup-here _ _ _ _ c.if-same-5.true c.same-5.ensures)); words = refl }
+returns-then-same-5 c = record { kind = k_atom rel_gt; is = keyword_is _ (((((lookup-later _ _ _ _ c.if-same.false c.same.ensures (lookup-later _ _ _ _ c.if-same-2.false c.same-2.ensures (lookup-later _ _ _ _ c.if-same-3.false c.same-3.ensures (lookup-later _ _ _ _ c.if-same-4.false c.same-4.ensures (lookup-here _ _ _ _ c.if-same-5.true c.same-5.ensures))))))))); words = refl }
 
 pub returns-then-same-6 : goal.returns-then-same-6
 unfolding keywords kind_items
-returns-then-same-6 c = record { kind = k_atom rel_ge; is = keyword_is _ (past5 c.before.before.before (lookup-here _ _ _ _ c.if-same-6.true c.same-6.ensures)); words = refl }
+returns-then-same-6 c = record { kind = k_atom rel_ge; is = keyword_is _ ((((((lookup-later _ _ _ _ c.if-same.false c.same.ensures (lookup-later _ _ _ _ c.if-same-2.false c.same-2.ensures (lookup-later _ _ _ _ c.if-same-3.false c.same-3.ensures (lookup-later _ _ _ _ c.if-same-4.false c.same-4.ensures (lookup-later _ _ _ _ c.if-same-5.false c.same-5.ensures (lookup-here _ _ _ _ c.if-same-6.true c.same-6.ensures))))))))))); words = refl }
 
 pub returns : goal.returns
-returns c = rest-says _ c.connective.result (past6 c.before refl) c.connective.ensures
+unfolding keywords
+returns c = rest-says _ c.connective.result (((((((lookup-later _ _ _ _ c.if-same.false c.same.ensures (lookup-later _ _ _ _ c.if-same-2.false c.same-2.ensures (lookup-later _ _ _ _ c.if-same-3.false c.same-3.ensures (lookup-later _ _ _ _ c.if-same-4.false c.same-4.ensures (lookup-later _ _ _ _ c.if-same-5.false c.same-5.ensures (lookup-later _ _ _ _ c.if-same-6.false c.same-6.ensures refl)))))))))))) c.connective.ensures

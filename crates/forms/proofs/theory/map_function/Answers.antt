@@ -5,27 +5,6 @@ use Rattle.reading.specs.Bytes.{Maybe, lookup}
 use Rattle.reading.proofs.Bytes.{lookup-here, lookup-later, lookup-none}
 use Rattle.grammar.specs.Names.{theory}
 use Rattle.forms.proofs.theory.map_function.Goals as goal
-use Rattle.forms.proofs.theory.map_function.Goals.{Else-same, Else-same-2, Else-same-3, Else-same-4, Else-same-5}
-
-past1 : (c : Else-same) {m : Maybe ℕ} → m ≡ lookup (drop 40 theory) c.args.name.now → m ≡ lookup (drop 39 theory) c.args.name.now
-unfolding theory
-past1 c e = lookup-later _ _ _ _ c.if-same.false c.same.ensures e
-
-past2 : (c : Else-same-2) {m : Maybe ℕ} → m ≡ lookup (drop 41 theory) c.args.name.now → m ≡ lookup (drop 39 theory) c.args.name.now
-unfolding theory
-past2 c e = past1 c.before.before.before (lookup-later _ _ _ _ c.if-same-2.false c.same-2.ensures e)
-
-past3 : (c : Else-same-3) {m : Maybe ℕ} → m ≡ lookup (drop 42 theory) c.args.name.now → m ≡ lookup (drop 39 theory) c.args.name.now
-unfolding theory
-past3 c e = past2 c.before.before.before (lookup-later _ _ _ _ c.if-same-3.false c.same-3.ensures e)
-
-past4 : (c : Else-same-4) {m : Maybe ℕ} → m ≡ lookup (drop 43 theory) c.args.name.now → m ≡ lookup (drop 39 theory) c.args.name.now
-unfolding theory
-past4 c e = past3 c.before.before.before (lookup-later _ _ _ _ c.if-same-4.false c.same-4.ensures e)
-
-past5 : (c : Else-same-5) {m : Maybe ℕ} → m ≡ lookup (drop 44 theory) c.args.name.now → m ≡ lookup (drop 39 theory) c.args.name.now
-unfolding theory
-past5 c e = past4 c.before.before.before (lookup-later _ _ _ _ c.if-same-5.false c.same-5.ensures e)
 
 pub returns-then-same : goal.returns-then-same
 unfolding theory
@@ -33,20 +12,20 @@ returns-then-same c = lookup-here _ _ _ _ c.if-same.true c.same.ensures
 
 pub returns-then-same-2 : goal.returns-then-same-2
 unfolding theory
-returns-then-same-2 c = past1 c.before.before.before (lookup-here _ _ _ _ c.if-same-2.true c.same-2.ensures)
+returns-then-same-2 c = (lookup-later _ _ _ _ c.if-same.false c.same.ensures (lookup-here _ _ _ _ c.if-same-2.true c.same-2.ensures))
 
 pub returns-then-same-3 : goal.returns-then-same-3
 unfolding theory
-returns-then-same-3 c = past2 c.before.before.before (lookup-here _ _ _ _ c.if-same-3.true c.same-3.ensures)
+returns-then-same-3 c = ((lookup-later _ _ _ _ c.if-same.false c.same.ensures (lookup-later _ _ _ _ c.if-same-2.false c.same-2.ensures (lookup-here _ _ _ _ c.if-same-3.true c.same-3.ensures))))
 
 pub returns-then-same-4 : goal.returns-then-same-4
 unfolding theory
-returns-then-same-4 c = past3 c.before.before.before (lookup-here _ _ _ _ c.if-same-4.true c.same-4.ensures)
+returns-then-same-4 c = (((lookup-later _ _ _ _ c.if-same.false c.same.ensures (lookup-later _ _ _ _ c.if-same-2.false c.same-2.ensures (lookup-later _ _ _ _ c.if-same-3.false c.same-3.ensures (lookup-here _ _ _ _ c.if-same-4.true c.same-4.ensures))))))
 
 pub returns-then-same-5 : goal.returns-then-same-5
 unfolding theory
-returns-then-same-5 c = past4 c.before.before.before (lookup-here _ _ _ _ c.if-same-5.true c.same-5.ensures)
+returns-then-same-5 c = ((((lookup-later _ _ _ _ c.if-same.false c.same.ensures (lookup-later _ _ _ _ c.if-same-2.false c.same-2.ensures (lookup-later _ _ _ _ c.if-same-3.false c.same-3.ensures (lookup-later _ _ _ _ c.if-same-4.false c.same-4.ensures (lookup-here _ _ _ _ c.if-same-5.true c.same-5.ensures))))))))
 
 pub returns : goal.returns
 unfolding theory
-returns c = past5 c (lookup-none _)
+returns c = (((((lookup-later _ _ _ _ c.if-same.false c.same.ensures (lookup-later _ _ _ _ c.if-same-2.false c.same-2.ensures (lookup-later _ _ _ _ c.if-same-3.false c.same-3.ensures (lookup-later _ _ _ _ c.if-same-4.false c.same-4.ensures (lookup-later _ _ _ _ c.if-same-5.false c.same-5.ensures (lookup-none _))))))))))

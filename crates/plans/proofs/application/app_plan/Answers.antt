@@ -12,16 +12,16 @@ pub node_at-requires : goal.node_at-requires
 node_at-requires c = head-spot c.requires.listed
 
 pub returns-in_default : goal.returns-in_default
-returns-in_default c t us h = ap-atom h _ (node-other c.args.tree.now (c.args.at + 3) c.before.before.Node-at.ensures c.in_default.is)
+returns-in_default c t us h = ap-atom h _ (node-other c.args.tree.now (c.args.at + 3) c.node_at.ensures c.in_default.is)
 
 pub returns-then-m-lt2 : goal.returns-then-m-lt2
-returns-then-m-lt2 c t us h = ap-short h (node-list c.args.tree.now (c.args.at + 3) c.before.before.before.before.Node-at.ensures c.in-List.is) _ c.if-m-lt2.true
+returns-then-m-lt2 c t us h = ap-short h (node-list c.args.tree.now (c.args.at + 3) c.node_at.ensures c.in-List.is) _ c.if-m-lt2.true
 
 pub overflow_add-n : goal.overflow_add-n
-overflow_add-n c = omega (arith, ap-two c.requires.listed, c.before.before.before.before.before.before.before.before.well-formed)
+overflow_add-n c = omega (arith, ap-two c.requires.listed)
 
 pub offset_bounds-tree-at : goal.offset_bounds-tree-at
-offset_bounds-tree-at c = omega (arith, ap-two c.requires.listed, c.before.before.before.before.before.before.before.before.well-formed)
+offset_bounds-tree-at c = omega (arith, ap-two c.requires.listed)
 
 pub bounds-tree-at : goal.bounds-tree-at
 bounds-tree-at c = omega (arith, ap-two c.requires.listed)
@@ -32,34 +32,34 @@ words_at-requires c = head-spot c.requires.listed
 pub overflow_add-first : goal.overflow_add-first
 overflow_add-first c =
     let p = head-spot c.requires.listed in
-    omega (arith, spot-within p, c.words_at.ensures p, c.before.before.before.before.before.before.before.before.before.before.well-formed)
+    omega (arith, spot-within p, c.words_at.ensures p)
 
 pub words_at-requires-2 : goal.words_at-requires-2
 words_at-requires-2 c =
     let h = c.requires.listed in
-    let n = node-list c.args.tree.now (c.args.at + 3) c.before.before.before.before.before.before.Node-at.ensures c.in-List.is in
+    let n = node-list c.args.tree.now (c.args.at + 3) c.node_at.ensures c.in-List.is in
     let two = c.if-m-lt2.false in
     inner-spot h n two
 
 pub overflow_add-second : goal.overflow_add-second
 overflow_add-second c =
     let h = c.requires.listed in
-    let n = node-list c.args.tree.now (c.args.at + 3) c.before.before.before.before.before.before.before.Node-at.ensures c.in-List.is in
+    let n = node-list c.args.tree.now (c.args.at + 3) c.node_at.ensures c.in-List.is in
     let two = c.if-m-lt2.false in
     let p = inner-spot h n two in
-    omega (arith, spot-within p, c.words_at-2.ensures p, c.before.before.before.before.before.before.before.before.before.before.before.well-formed)
+    omega (arith, spot-within p, c.words_at-2.ensures p)
 
 pub is_apply-requires : goal.is_apply-requires
 is_apply-requires c =
     let h = c.requires.listed in
-    let n = node-list c.args.tree.now (c.args.at + 3) c.before.before.before.before.before.before.before.Node-at.ensures c.in-List.is in
+    let n = node-list c.args.tree.now (c.args.at + 3) c.node_at.ensures c.in-List.is in
     let two = c.if-m-lt2.false in
     let js = c.words_at-2.ensures (inner-spot h n two) in
     second-spot h n two js
 
 pub returns-then-m-lt3 : goal.returns-then-m-lt3
 returns-then-m-lt3 c t us h =
-    let n = node-list c.args.tree.now (c.args.at + 3) c.before.before.before.before.before.before.before.before.before.before.Node-at.ensures c.in-List.is in
+    let n = node-list c.args.tree.now (c.args.at + 3) c.node_at.ensures c.in-List.is in
     let two = c.if-m-lt2.false in
     let js = c.words_at-2.ensures (inner-spot h n two) in
     let x = sym (c.is_apply.ensures (second-spot h n two js)) ∙ c.if-is_apply.true in
@@ -71,16 +71,16 @@ put3-v-requires c = omega (arith, ap-room c.requires.listed)
 pub overflow_add-second-then-is_apply : goal.overflow_add-second-then-is_apply
 overflow_add-second-then-is_apply c =
     let h = c.requires.listed in
-    let n = node-list c.args.tree.now (c.args.at + 3) c.before.before.before.before.before.before.before.before.before.before.before.before.before.before.Node-at.ensures c.in-List.is in
+    let n = node-list c.args.tree.now (c.args.at + 3) c.node_at.ensures c.in-List.is in
     let two = c.if-m-lt2.false in
     let js = c.words_at-2.ensures (inner-spot h n two) in
     let x = sym (c.is_apply.ensures (second-spot h n two js)) ∙ c.if-is_apply.true in
-    omega (arith, two-there (third-spot h n two js x c.if-m-lt3.false), c.before.before.before.before.before.before.before.before.before.before.before.before.before.before.before.before.before.before.well-formed)
+    omega (arith, two-there (third-spot h n two js x c.if-m-lt3.false))
 
 pub sort_at-requires : goal.sort_at-requires
 sort_at-requires c =
     let h = c.requires.listed in
-    let n = node-list c.args.tree.now (c.args.at + 3) c.before.before.before.before.before.before.before.before.before.before.before.before.before.before.before.Node-at.ensures c.in-List.is in
+    let n = node-list c.args.tree.now (c.args.at + 3) c.node_at.ensures c.in-List.is in
     let two = c.if-m-lt2.false in
     let js = c.words_at-2.ensures (inner-spot h n two) in
     let x = sym (c.is_apply.ensures (second-spot h n two js)) ∙ c.if-is_apply.true in
@@ -93,7 +93,7 @@ overflow_sub-n c = omega (arith, ap-many c.requires.listed)
 
 pub returns-in-Refused : goal.returns-in-Refused
 returns-in-Refused c t us h =
-    let n = node-list c.args.tree.now (c.args.at + 3) c.before.before.before.before.before.before.before.before.before.before.before.before.before.before.before.before.before.before.before.before.before.Node-at.ensures c.in-List.is in
+    let n = node-list c.args.tree.now (c.args.at + 3) c.node_at.ensures c.in-List.is in
     let two = c.if-m-lt2.false in
     let js = c.words_at-2.ensures (inner-spot h n two) in
     let x = sym (c.is_apply.ensures (second-spot h n two js)) ∙ c.if-is_apply.true in
@@ -103,7 +103,7 @@ returns-in-Refused c t us h =
 
 pub returns-in-Done : goal.returns-in-Done
 returns-in-Done c t us h =
-    let n = node-list c.args.tree.now (c.args.at + 3) c.before.before.before.before.before.before.before.before.before.before.before.before.before.before.before.before.before.before.before.before.before.before.Node-at.ensures c.in-List.is in
+    let n = node-list c.args.tree.now (c.args.at + 3) c.node_at.ensures c.in-List.is in
     let two = c.if-m-lt2.false in
     let js = c.words_at-2.ensures (inner-spot h n two) in
     let x = sym (c.is_apply.ensures (second-spot h n two js)) ∙ c.if-is_apply.true in
@@ -125,7 +125,7 @@ overflow_sub-n-4 c = omega (arith, ap-many c.requires.listed)
 
 pub returns : goal.returns
 returns c t us h =
-    let n = node-list c.args.tree.now (c.args.at + 3) c.before.before.before.before.before.before.before.before.before.before.before.before.before.before.before.Node-at.ensures c.in-List.is in
+    let n = node-list c.args.tree.now (c.args.at + 3) c.node_at.ensures c.in-List.is in
     let two = c.if-m-lt2.false in
     let js = c.words_at-2.ensures (inner-spot h n two) in
     let x = sym (c.is_apply.ensures (second-spot h n two js)) ∙ c.if-is_apply.false in

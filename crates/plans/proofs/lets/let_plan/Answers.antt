@@ -29,19 +29,19 @@ pub node_at-requires : goal.node_at-requires
 node_at-requires c = (c.through-pair.ensures (lead-spot (let-pair c.requires.name c.requires.others c.requires.listed c.if-n-lt2.false))).spot
 
 pub returns-in_default : goal.returns-in_default
-returns-in_default c s us h count = rw (let-atom s us h c.if-n-lt2.false (c.through-pair.ensures (lead-spot (let-pair s us h c.if-n-lt2.false))) (node-other c.args.tree.now c.through-pair.result c.before.before.Node-at.ensures c.in_default.is)) (refused refl)
+returns-in_default c s us h count = rw (let-atom s us h c.if-n-lt2.false (c.through-pair.ensures (lead-spot (let-pair s us h c.if-n-lt2.false))) (node-other c.args.tree.now c.through-pair.result c.node_at.ensures c.in_default.is)) (refused refl)
 
 pub returns-then-m-lt2 : goal.returns-then-m-lt2
-returns-then-m-lt2 c s us h count = rw (let-few s us h c.if-n-lt2.false (c.through-pair.ensures (lead-spot (let-pair s us h c.if-n-lt2.false))) (node-list _ _ c.before.before.before.before.Node-at.ensures c.in-List.is) c.if-m-lt2.true) (refused refl)
+returns-then-m-lt2 c s us h count = rw (let-few s us h c.if-n-lt2.false (c.through-pair.ensures (lead-spot (let-pair s us h c.if-n-lt2.false))) (node-list _ _ c.node_at.ensures c.in-List.is) c.if-m-lt2.true) (refused refl)
 
 pub offset_bounds-tree-first : goal.offset_bounds-tree-first
-offset_bounds-tree-first c = omega (arith, two-there (lead-spot (let-name c.requires.name c.requires.others c.requires.listed c.if-n-lt2.false (c.through-pair.ensures (lead-spot (let-pair c.requires.name c.requires.others c.requires.listed c.if-n-lt2.false))) (node-list _ _ c.before.before.before.before.Node-at.ensures c.in-List.is) c.if-m-lt2.false)))
+offset_bounds-tree-first c = omega (arith, two-there (lead-spot (let-name c.requires.name c.requires.others c.requires.listed c.if-n-lt2.false (c.through-pair.ensures (lead-spot (let-pair c.requires.name c.requires.others c.requires.listed c.if-n-lt2.false))) (node-list _ _ c.node_at.ensures c.in-List.is) c.if-m-lt2.false)))
 
 pub bounds-tree-first : goal.bounds-tree-first
-bounds-tree-first c = omega (arith, two-there (lead-spot (let-name c.requires.name c.requires.others c.requires.listed c.if-n-lt2.false (c.through-pair.ensures (lead-spot (let-pair c.requires.name c.requires.others c.requires.listed c.if-n-lt2.false))) (node-list _ _ c.before.before.before.before.before.Node-at.ensures c.in-List.is) c.if-m-lt2.false)))
+bounds-tree-first c = omega (arith, two-there (lead-spot (let-name c.requires.name c.requires.others c.requires.listed c.if-n-lt2.false (c.through-pair.ensures (lead-spot (let-pair c.requires.name c.requires.others c.requires.listed c.if-n-lt2.false))) (node-list _ _ c.node_at.ensures c.in-List.is) c.if-m-lt2.false)))
 
 pub returns-then-tree-first-ne-SYMBOL : goal.returns-then-tree-first-ne-SYMBOL
-returns-then-tree-first-ne-SYMBOL c s us h count = rw (let-other s us h c.if-n-lt2.false (c.through-pair.ensures (lead-spot (let-pair s us h c.if-n-lt2.false))) (node-list _ _ c.before.before.before.before.before.before.Node-at.ensures c.in-List.is) c.if-m-lt2.false c.if-tree-first-ne-SYMBOL.true) (refused refl)
+returns-then-tree-first-ne-SYMBOL c s us h count = rw (let-other s us h c.if-n-lt2.false (c.through-pair.ensures (lead-spot (let-pair s us h c.if-n-lt2.false))) (node-list _ _ c.node_at.ensures c.in-List.is) c.if-m-lt2.false c.if-tree-first-ne-SYMBOL.true) (refused refl)
 
 pub put1-v-requires : goal.put1-v-requires
 put1-v-requires c = omega (arith, c.requires.listed.room)
@@ -50,13 +50,13 @@ pub overflow_add-v : goal.overflow_add-v
 overflow_add-v c = omega (arith, c.requires.listed.room, c.put1-v.ensures.is)
 
 pub overflow_add-result : goal.overflow_add-result
-overflow_add-result c = omega (arith, let-there c.requires.name c.requires.others c.requires.listed c.if-n-lt2.false (c.through-pair.ensures (lead-spot (let-pair c.requires.name c.requires.others c.requires.listed c.if-n-lt2.false))) (node-list _ _ c.before.before.before.before.before.before.before.before.before.before.before.Node-at.ensures c.in-List.is) c.if-m-lt2.false c.if-tree-first-ne-SYMBOL.false)
+overflow_add-result c = omega (arith, let-there c.requires.name c.requires.others c.requires.listed c.if-n-lt2.false (c.through-pair.ensures (lead-spot (let-pair c.requires.name c.requires.others c.requires.listed c.if-n-lt2.false))) (node-list _ _ c.node_at.ensures c.in-List.is) c.if-m-lt2.false c.if-tree-first-ne-SYMBOL.false)
 
 pub returns-then-n-lt3 : goal.returns-then-n-lt3
-returns-then-n-lt3 c s us h count = made-alone s us h c.if-n-lt2.false (c.through-pair.ensures (lead-spot (let-pair s us h c.if-n-lt2.false))) (node-list _ _ c.before.before.before.before.before.before.before.before.before.before.before.Node-at.ensures c.in-List.is) c.if-m-lt2.false c.if-tree-first-ne-SYMBOL.false count c.put1-v.ensures c.if-n-lt3.true
+returns-then-n-lt3 c s us h count = made-alone s us h c.if-n-lt2.false (c.through-pair.ensures (lead-spot (let-pair s us h c.if-n-lt2.false))) (node-list _ _ c.node_at.ensures c.in-List.is) c.if-m-lt2.false c.if-tree-first-ne-SYMBOL.false count c.put1-v.ensures c.if-n-lt3.true
 
 pub overflow_add-result-2 : goal.overflow_add-result-2
-overflow_add-result-2 c = omega (arith, let-there c.requires.name c.requires.others c.requires.listed c.if-n-lt2.false (c.through-pair.ensures (lead-spot (let-pair c.requires.name c.requires.others c.requires.listed c.if-n-lt2.false))) (node-list _ _ c.before.before.before.before.before.before.before.before.before.before.before.Node-at.ensures c.in-List.is) c.if-m-lt2.false c.if-tree-first-ne-SYMBOL.false)
+overflow_add-result-2 c = omega (arith, let-there c.requires.name c.requires.others c.requires.listed c.if-n-lt2.false (c.through-pair.ensures (lead-spot (let-pair c.requires.name c.requires.others c.requires.listed c.if-n-lt2.false))) (node-list _ _ c.node_at.ensures c.in-List.is) c.if-m-lt2.false c.if-tree-first-ne-SYMBOL.false)
 
 pub overflow_add-result-3 : goal.overflow_add-result-3
 overflow_add-result-3 c = omega (arith, head-within c.requires.name c.requires.others c.requires.listed)
@@ -71,4 +71,4 @@ pub overflow_add-result-4 : goal.overflow_add-result-4
 overflow_add-result-4 c = omega (arith, spot-within (lead-spot (let-pair c.requires.name c.requires.others c.requires.listed c.if-n-lt2.false)), c.words_at.ensures (lead-spot (let-pair c.requires.name c.requires.others c.requires.listed c.if-n-lt2.false)))
 
 pub returns : goal.returns
-returns c s us h count = made-body s us h c.if-n-lt2.false (c.through-pair.ensures (lead-spot (let-pair s us h c.if-n-lt2.false))) (node-list _ _ c.before.before.before.before.before.before.before.before.before.before.before.before.Node-at.ensures c.in-List.is) c.if-m-lt2.false c.if-tree-first-ne-SYMBOL.false count c.put1-v.ensures c.if-n-lt3.false (c.words_at.ensures (lead-spot (let-pair s us h c.if-n-lt2.false)))
+returns c s us h count = made-body s us h c.if-n-lt2.false (c.through-pair.ensures (lead-spot (let-pair s us h c.if-n-lt2.false))) (node-list _ _ c.node_at.ensures c.in-List.is) c.if-m-lt2.false c.if-tree-first-ne-SYMBOL.false count c.put1-v.ensures c.if-n-lt3.false (c.words_at.ensures (lead-spot (let-pair s us h c.if-n-lt2.false)))

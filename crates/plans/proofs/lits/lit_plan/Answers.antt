@@ -52,7 +52,7 @@ pub bounds-tree-at-4 : goal.bounds-tree-at-4
 bounds-tree-at-4 c = omega (arith, lit-there c.requires.name c.requires.others c.requires.listed c.if-n-lt2.false c.if-tree-at-ne-QUOTED.false)
 
 pub returns-then-n-lt3 : goal.returns-then-n-lt3
-returns-then-n-lt3 c s us h count = rw (lit-two s us h c.if-n-lt2.false c.if-tree-at-ne-QUOTED.false c.bytes_at-name.ensures (sym (ap bits_in c.in-Is.is) ∙ c.before.before.before.before.bits_of_lem.ensures) c.if-n-lt3.true) (refused refl)
+returns-then-n-lt3 c s us h count = rw (lit-two s us h c.if-n-lt2.false c.if-tree-at-ne-QUOTED.false c.bytes_at-name.ensures (sym (ap bits_in c.in-Is.is) ∙ c.bits_of.ensures) c.if-n-lt3.true) (refused refl)
 
 pub overflow_add-at-in-Is : goal.overflow_add-at-in-Is
 overflow_add-at-in-Is c = omega (arith, lit-there c.requires.name c.requires.others c.requires.listed c.if-n-lt2.false c.if-tree-at-ne-QUOTED.false)
@@ -64,7 +64,7 @@ pub overflow_add-word_to_length : goal.overflow_add-word_to_length
 overflow_add-word_to_length c = omega (arith, c.word_to_length.ensures.1)
 
 pub returns-then-name-word_to_length : goal.returns-then-name-word_to_length
-returns-then-name-word_to_length c s us h count = rw (lit-many s us h c.if-n-lt2.false c.if-tree-at-ne-QUOTED.false c.bytes_at-name.ensures (sym (ap bits_in c.in-Is.is) ∙ c.before.before.before.before.before.before.before.before.before.before.bits_of_lem.ensures) c.if-n-lt3.false (sym (ap (λ x. or_bad malformed (width_in x)) c.in-Is-width_at.is) ∙ c.width_at.ensures (lead-spot (lit-second s us h c.if-n-lt2.false c.if-tree-at-ne-QUOTED.false c.if-n-lt3.false))) c.word_to_length.ensures.0 c.if-name-word_to_length.true) (refused refl)
+returns-then-name-word_to_length c s us h count = rw (lit-many s us h c.if-n-lt2.false c.if-tree-at-ne-QUOTED.false c.bytes_at-name.ensures (sym (ap bits_in c.in-Is.is) ∙ c.bits_of.ensures) c.if-n-lt3.false (sym (ap (λ x. or_bad malformed (width_in x)) c.in-Is-width_at.is) ∙ c.width_at.ensures (lead-spot (lit-second s us h c.if-n-lt2.false c.if-tree-at-ne-QUOTED.false c.if-n-lt3.false))) c.word_to_length.ensures.0 c.if-name-word_to_length.true) (refused refl)
 
 pub put_wide-v-requires : goal.put_wide-v-requires
 put_wide-v-requires c = omega (arith, c.requires.listed.room)
@@ -73,13 +73,13 @@ pub put1-requires : goal.put1-requires
 put1-requires c = omega (arith, c.requires.listed.room, c.put_wide-v.ensures.is)
 
 pub returns-in-No : goal.returns-in-No
-returns-in-No c s us h count = rw (lit_refused s us h c.if-n-lt2.false c.if-tree-at-ne-QUOTED.false c.bytes_at-name.ensures malformed (sym (ap bits_in c.in-No.is) ∙ c.before.before.bits_of_lem.ensures)) (refused refl)
+returns-in-No c s us h count = rw (lit_refused s us h c.if-n-lt2.false c.if-tree-at-ne-QUOTED.false c.bytes_at-name.ensures malformed (sym (ap bits_in c.in-No.is) ∙ c.bits_of.ensures)) (refused refl)
 
 pub returns-in-Bad : goal.returns-in-Bad
-returns-in-Bad c s us h count = rw (lit_refused s us h c.if-n-lt2.false c.if-tree-at-ne-QUOTED.false c.bytes_at-name.ensures bad_literal (sym (ap bits_in c.in-Bad.is) ∙ c.before.before.bits_of_lem.ensures)) (refused refl)
+returns-in-Bad c s us h count = rw (lit_refused s us h c.if-n-lt2.false c.if-tree-at-ne-QUOTED.false c.bytes_at-name.ensures bad_literal (sym (ap bits_in c.in-Bad.is) ∙ c.bits_of.ensures)) (refused refl)
 
 pub returns-in-No-width_at : goal.returns-in-No-width_at
-returns-in-No-width_at c s us h count = rw (lit-wide s us h c.if-n-lt2.false c.if-tree-at-ne-QUOTED.false c.bytes_at-name.ensures (sym (ap bits_in c.in-Is.is) ∙ c.before.before.before.before.before.before.before.bits_of_lem.ensures) c.if-n-lt3.false (sym (ap (λ x. or_bad malformed (width_in x)) c.in-No-width_at.is) ∙ c.width_at.ensures (lead-spot (lit-second s us h c.if-n-lt2.false c.if-tree-at-ne-QUOTED.false c.if-n-lt3.false)))) (refused refl)
+returns-in-No-width_at c s us h count = rw (lit-wide s us h c.if-n-lt2.false c.if-tree-at-ne-QUOTED.false c.bytes_at-name.ensures (sym (ap bits_in c.in-Is.is) ∙ c.bits_of.ensures) c.if-n-lt3.false (sym (ap (λ x. or_bad malformed (width_in x)) c.in-No-width_at.is) ∙ c.width_at.ensures (lead-spot (lit-second s us h c.if-n-lt2.false c.if-tree-at-ne-QUOTED.false c.if-n-lt3.false)))) (refused refl)
 
 pub returns-else-name-word_to_length : goal.returns-else-name-word_to_length
-returns-else-name-word_to_length c s us h count = made_lit s us h c.if-n-lt2.false c.if-tree-at-ne-QUOTED.false c.bytes_at-name.ensures (sym (ap bits_in c.in-Is.is) ∙ c.before.before.before.before.before.before.before.before.before.before.before.before.before.before.before.before.before.before.bits_of_lem.ensures) c.if-n-lt3.false count (sym (ap (λ x. or_bad malformed (width_in x)) c.in-Is-width_at.is) ∙ c.width_at.ensures (lead-spot (lit-second s us h c.if-n-lt2.false c.if-tree-at-ne-QUOTED.false c.if-n-lt3.false))) c.word_to_length.ensures.0 c.if-name-word_to_length.false c.put_wide-v.ensures c.put1.ensures
+returns-else-name-word_to_length c s us h count = made_lit s us h c.if-n-lt2.false c.if-tree-at-ne-QUOTED.false c.bytes_at-name.ensures (sym (ap bits_in c.in-Is.is) ∙ c.bits_of.ensures) c.if-n-lt3.false count (sym (ap (λ x. or_bad malformed (width_in x)) c.in-Is-width_at.is) ∙ c.width_at.ensures (lead-spot (lit-second s us h c.if-n-lt2.false c.if-tree-at-ne-QUOTED.false c.if-n-lt3.false))) c.word_to_length.ensures.0 c.if-name-word_to_length.false c.put_wide-v.ensures c.put1.ensures

@@ -23,7 +23,7 @@ pub returns-in-Array : goal.returns-in-Array
 returns-in-Array c = tells_as (ap (open_text _) c.in-Array.is) c.array.ensures
 
 pub returns-in-Data : goal.returns-in-Data
-returns-in-Data c = tells_as (ap (open_text _) c.in-Data.is) c.before.before.«data».ensures
+returns-in-Data c = tells_as (ap (open_text _) c.in-Data.is) c.data.ensures
 
 pub returns-in-Other : goal.returns-in-Other
 returns-in-Other c = tells_as (ap (open_text _) c.in-Other.is) (gone-told (gone refl refl))

@@ -4,6 +4,8 @@ use borrow.Author.Tests.{not-true, not-false}
 use Rattle.plans.specs.BinderWords.{BinderRow}
 use Rattle.places.proofs.Spots.{spot-within}
 use Rattle.solutions.proofs.ParamNames.{Pairing, pairing_start, pairing_end, pairing_bad, pairing_more, pair-spot}
+use mathlib.Core.Path.{ap}
+use mathlib.Core.Bool.{not}
 use Rattle.solutions.proofs.parts.all_pairs.Goals as goal
 
 pub loop-i-init : goal.loop-i-init
@@ -16,7 +18,7 @@ pub returns-then-not-is_pair : goal.returns-then-not-is_pair
 returns-then-not-is_pair c h =
     let g = c.loop-i.invariant h in
     let l = c.loop-i-test.true in
-    pairing_bad g l (c.is_pair.ensures (pair-spot g l)) (not-true _ c.if-not-is_pair.true)
+    pairing_bad g l (c.is_pair.ensures (pair-spot g l)) (not-true _ (ap not c.if-not-is_pair.true))
 
 pub words_at-p-requires : goal.words_at-p-requires
 words_at-p-requires c = pair-spot (c.loop-i.invariant c.requires) c.loop-i-test.true
@@ -35,7 +37,7 @@ loop-i-preserved c =
     λ h.
     (let g = c.loop-i.invariant h in
     let l = c.loop-i-test.true in
-    pairing_more g l (c.is_pair.ensures (pair-spot g l)) (not-false c.is_pair.result c.if-not-is_pair.false) (c.words_at-p.ensures (pair-spot g l)))
+    pairing_more g l (c.is_pair.ensures (pair-spot g l)) (not-false c.is_pair.result (ap not c.if-not-is_pair.false)) (c.words_at-p.ensures (pair-spot g l)))
 
 pub returns : goal.returns
 returns c h = pairing_end (c.loop-i.invariant h) c.loop-i-test.false

@@ -5,39 +5,6 @@ use Rattle.reading.proofs.Bytes.{lookup-here, lookup-later, lookup-none}
 use Rattle.grammar.specs.Sort.{Sort}
 use Rattle.grammar.specs.Names.{plain_sorts}
 use Rattle.sorts.proofs.names.plain_sort.Goals as goal
-use Rattle.sorts.proofs.names.plain_sort.Goals.{Else-same, Else-same-2, Else-same-3, Else-same-4, Else-same-5, Else-same-6, Else-same-7, Else-same-8}
-
-past1 : (c : Else-same) {m : Maybe Sort} → m ≡ lookup (drop 1 plain_sorts) c.args.name.now → m ≡ lookup plain_sorts c.args.name.now
-unfolding plain_sorts
-past1 c e = lookup-later _ _ _ _ c.if-same.false c.same.ensures e
-
-past2 : (c : Else-same-2) {m : Maybe Sort} → m ≡ lookup (drop 2 plain_sorts) c.args.name.now → m ≡ lookup plain_sorts c.args.name.now
-unfolding plain_sorts
-past2 c e = past1 c.before.before.before (lookup-later _ _ _ _ c.if-same-2.false c.same-2.ensures e)
-
-past3 : (c : Else-same-3) {m : Maybe Sort} → m ≡ lookup (drop 3 plain_sorts) c.args.name.now → m ≡ lookup plain_sorts c.args.name.now
-unfolding plain_sorts
-past3 c e = past2 c.before.before.before (lookup-later _ _ _ _ c.if-same-3.false c.same-3.ensures e)
-
-past4 : (c : Else-same-4) {m : Maybe Sort} → m ≡ lookup (drop 4 plain_sorts) c.args.name.now → m ≡ lookup plain_sorts c.args.name.now
-unfolding plain_sorts
-past4 c e = past3 c.before.before.before (lookup-later _ _ _ _ c.if-same-4.false c.same-4.ensures e)
-
-past5 : (c : Else-same-5) {m : Maybe Sort} → m ≡ lookup (drop 5 plain_sorts) c.args.name.now → m ≡ lookup plain_sorts c.args.name.now
-unfolding plain_sorts
-past5 c e = past4 c.before.before.before (lookup-later _ _ _ _ c.if-same-5.false c.same-5.ensures e)
-
-past6 : (c : Else-same-6) {m : Maybe Sort} → m ≡ lookup (drop 6 plain_sorts) c.args.name.now → m ≡ lookup plain_sorts c.args.name.now
-unfolding plain_sorts
-past6 c e = past5 c.before.before.before (lookup-later _ _ _ _ c.if-same-6.false c.same-6.ensures e)
-
-past7 : (c : Else-same-7) {m : Maybe Sort} → m ≡ lookup (drop 7 plain_sorts) c.args.name.now → m ≡ lookup plain_sorts c.args.name.now
-unfolding plain_sorts
-past7 c e = past6 c.before.before.before (lookup-later _ _ _ _ c.if-same-7.false c.same-7.ensures e)
-
-past8 : (c : Else-same-8) {m : Maybe Sort} → m ≡ lookup (drop 8 plain_sorts) c.args.name.now → m ≡ lookup plain_sorts c.args.name.now
-unfolding plain_sorts
-past8 c e = past7 c.before.before.before (lookup-later _ _ _ _ c.if-same-8.false c.same-8.ensures e)
 
 pub returns-then-same : goal.returns-then-same
 unfolding plain_sorts
@@ -45,32 +12,32 @@ returns-then-same c = lookup-here _ _ _ _ c.if-same.true c.same.ensures
 
 pub returns-then-same-2 : goal.returns-then-same-2
 unfolding plain_sorts
-returns-then-same-2 c = past1 c.before.before.before (lookup-here _ _ _ _ c.if-same-2.true c.same-2.ensures)
+returns-then-same-2 c = (lookup-later _ _ _ _ c.if-same.false c.same.ensures (lookup-here _ _ _ _ c.if-same-2.true c.same-2.ensures))
 
 pub returns-then-same-3 : goal.returns-then-same-3
 unfolding plain_sorts
-returns-then-same-3 c = past2 c.before.before.before (lookup-here _ _ _ _ c.if-same-3.true c.same-3.ensures)
+returns-then-same-3 c = ((lookup-later _ _ _ _ c.if-same.false c.same.ensures (lookup-later _ _ _ _ c.if-same-2.false c.same-2.ensures (lookup-here _ _ _ _ c.if-same-3.true c.same-3.ensures))))
 
 pub returns-then-same-4 : goal.returns-then-same-4
 unfolding plain_sorts
-returns-then-same-4 c = past3 c.before.before.before (lookup-here _ _ _ _ c.if-same-4.true c.same-4.ensures)
+returns-then-same-4 c = (((lookup-later _ _ _ _ c.if-same.false c.same.ensures (lookup-later _ _ _ _ c.if-same-2.false c.same-2.ensures (lookup-later _ _ _ _ c.if-same-3.false c.same-3.ensures (lookup-here _ _ _ _ c.if-same-4.true c.same-4.ensures))))))
 
 pub returns-then-same-5 : goal.returns-then-same-5
 unfolding plain_sorts
-returns-then-same-5 c = past4 c.before.before.before (lookup-here _ _ _ _ c.if-same-5.true c.same-5.ensures)
+returns-then-same-5 c = ((((lookup-later _ _ _ _ c.if-same.false c.same.ensures (lookup-later _ _ _ _ c.if-same-2.false c.same-2.ensures (lookup-later _ _ _ _ c.if-same-3.false c.same-3.ensures (lookup-later _ _ _ _ c.if-same-4.false c.same-4.ensures (lookup-here _ _ _ _ c.if-same-5.true c.same-5.ensures))))))))
 
 pub returns-then-same-6 : goal.returns-then-same-6
 unfolding plain_sorts
-returns-then-same-6 c = past5 c.before.before.before (lookup-here _ _ _ _ c.if-same-6.true c.same-6.ensures)
+returns-then-same-6 c = (((((lookup-later _ _ _ _ c.if-same.false c.same.ensures (lookup-later _ _ _ _ c.if-same-2.false c.same-2.ensures (lookup-later _ _ _ _ c.if-same-3.false c.same-3.ensures (lookup-later _ _ _ _ c.if-same-4.false c.same-4.ensures (lookup-later _ _ _ _ c.if-same-5.false c.same-5.ensures (lookup-here _ _ _ _ c.if-same-6.true c.same-6.ensures))))))))))
 
 pub returns-then-same-7 : goal.returns-then-same-7
 unfolding plain_sorts
-returns-then-same-7 c = past6 c.before.before.before (lookup-here _ _ _ _ c.if-same-7.true c.same-7.ensures)
+returns-then-same-7 c = ((((((lookup-later _ _ _ _ c.if-same.false c.same.ensures (lookup-later _ _ _ _ c.if-same-2.false c.same-2.ensures (lookup-later _ _ _ _ c.if-same-3.false c.same-3.ensures (lookup-later _ _ _ _ c.if-same-4.false c.same-4.ensures (lookup-later _ _ _ _ c.if-same-5.false c.same-5.ensures (lookup-later _ _ _ _ c.if-same-6.false c.same-6.ensures (lookup-here _ _ _ _ c.if-same-7.true c.same-7.ensures))))))))))))
 
 pub returns-then-same-8 : goal.returns-then-same-8
 unfolding plain_sorts
-returns-then-same-8 c = past7 c.before.before.before (lookup-here _ _ _ _ c.if-same-8.true c.same-8.ensures)
+returns-then-same-8 c = (((((((lookup-later _ _ _ _ c.if-same.false c.same.ensures (lookup-later _ _ _ _ c.if-same-2.false c.same-2.ensures (lookup-later _ _ _ _ c.if-same-3.false c.same-3.ensures (lookup-later _ _ _ _ c.if-same-4.false c.same-4.ensures (lookup-later _ _ _ _ c.if-same-5.false c.same-5.ensures (lookup-later _ _ _ _ c.if-same-6.false c.same-6.ensures (lookup-later _ _ _ _ c.if-same-7.false c.same-7.ensures (lookup-here _ _ _ _ c.if-same-8.true c.same-8.ensures))))))))))))))
 
 pub returns : goal.returns
 unfolding plain_sorts
-returns c = past8 c (lookup-none _)
+returns c = ((((((((lookup-later _ _ _ _ c.if-same.false c.same.ensures (lookup-later _ _ _ _ c.if-same-2.false c.same-2.ensures (lookup-later _ _ _ _ c.if-same-3.false c.same-3.ensures (lookup-later _ _ _ _ c.if-same-4.false c.same-4.ensures (lookup-later _ _ _ _ c.if-same-5.false c.same-5.ensures (lookup-later _ _ _ _ c.if-same-6.false c.same-6.ensures (lookup-later _ _ _ _ c.if-same-7.false c.same-7.ensures (lookup-later _ _ _ _ c.if-same-8.false c.same-8.ensures (lookup-none _))))))))))))))))

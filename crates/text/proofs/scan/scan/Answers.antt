@@ -6,6 +6,8 @@ use borrow.Author.Rules.{rules}
 use borrow.Author.Tests.{not-true, not-false}
 use lib.ListN.{length}
 use Rattle.text.proofs.Looping.Turn.{Stands, start, kept, blanked, broken, opened, too_deep_lem, unopened, at-tree, at_close, closed, at_leaf, worded, goes_on, one-read, ended-inside, ended-all, ended-none}
+use mathlib.Core.Path.{ap}
+use mathlib.Core.Bool.{not}
 use Rattle.text.proofs.scan.scan.Goals as goal
 
 pub loop-at-init : goal.loop-at-init
@@ -13,34 +15,29 @@ loop-at-init c = start _ _ _ _ _ refl refl refl
 
 pub loop-at-smaller-in-Blank : goal.loop-at-smaller-in-Blank
 loop-at-smaller-in-Blank c =
-    let a = c.before in
-    omega (arith, (blanked a.before.before.before.before.loop.invariant a.before.before.before.loop-test.true (sym a.before.before.token-at.ensures ∙ a.next.given.1)).0)
+    omega (arith, (blanked c.loop-at.invariant c.loop-at-test.true (sym c.token_at.ensures ∙ c.in-Blank.is)).0)
 
 pub loop-at-preserved-in-Blank : goal.loop-at-preserved-in-Blank
 loop-at-preserved-in-Blank c =
-    let a = c.before in
-    (blanked a.before.before.before.before.loop.invariant a.before.before.before.loop-test.true (sym a.before.before.token-at.ensures ∙ a.next.given.1)).1
+    (blanked c.loop-at.invariant c.loop-at-test.true (sym c.token_at.ensures ∙ c.in-Blank.is)).1
 
 pub shape_of-out-then-depth-ge-MAX_LISTS : goal.shape_of-out-then-depth-ge-MAX_LISTS
 shape_of-out-then-depth-ge-MAX_LISTS c = kept c.loop-at.invariant
 
 pub returns-then-depth-ge-MAX_LISTS : goal.returns-then-depth-ge-MAX_LISTS
 returns-then-depth-ge-MAX_LISTS c =
-    let a = c.before in
-    too_deep_lem a.before.before.before.before.loop.invariant a.before.before.before.loop-test.true (sym a.before.before.token-at.ensures ∙ a.enum_told.given.1) c.if-depth-ge-MAX_LISTS.true
+    too_deep_lem c.loop-at.invariant c.loop-at-test.true (sym c.token_at.ensures ∙ c.in-Opens.is) c.if-depth-ge-MAX_LISTS.true
 
 pub loop-at-preserved-in-Opens : goal.loop-at-preserved-in-Opens
 loop-at-preserved-in-Opens c =
-    let a = c.before.before.before.before.before in
-    rw c.put_list.ensures (opened a.before.before.before.before.loop.invariant a.before.before.before.loop-test.true (sym a.before.before.token-at.ensures ∙ a.enum_told.given.1) (omega arith))
+    rw c.put_list.ensures (opened c.loop-at.invariant c.loop-at-test.true (sym c.token_at.ensures ∙ c.in-Opens.is) (omega arith))
 
 pub shape_of-out-then-depth-eq0 : goal.shape_of-out-then-depth-eq0
 shape_of-out-then-depth-eq0 c = kept c.loop-at.invariant
 
 pub returns-then-depth-eq0 : goal.returns-then-depth-eq0
 returns-then-depth-eq0 c =
-    let a = c in
-    unopened a.before.before.before.before.before.loop.invariant a.before.before.before.before.loop-test.true (sym a.before.before.before.token-at.ensures ∙ a.before.enum-told2.given.1) a.if2.true
+    unopened c.loop-at.invariant c.loop-at-test.true (sym c.token_at.ensures ∙ c.in-Closes.is) c.if-depth-eq0.true
 
 pub overflow_sub-words : goal.overflow_sub-words
 overflow_sub-words c = omega (arith, at_close c.loop-at.invariant c.if-depth-eq0.false)
@@ -59,23 +56,19 @@ shape_of-out-then-not-may_follow c = omega (arith, kept c.loop-at.invariant, c.p
 
 pub returns-then-not-may_follow : goal.returns-then-not-may_follow
 returns-then-not-may_follow c =
-    let a = c.before.before.before.before.before.before in
-    rw c.put_list-in-Closes.ensures (one-read (closed a.before.before.before.before.before.loop.invariant a.before.before.before.before.loop-test.true (sym a.before.before.before.token-at.ensures ∙ a.before.enum-told2.given.1) a.if2.false) refl (sym c.may_follow.ensures ∙ not-true _ c.if-not-may_follow.true))
+    rw c.put_list-in-Closes.ensures (one-read (closed c.loop-at.invariant c.loop-at-test.true (sym c.token_at.ensures ∙ c.in-Closes.is) c.if-depth-eq0.false) refl (sym c.may_follow.ensures ∙ not-true _ (ap not c.if-not-may_follow.true)))
 
 pub loop-at-preserved-else-not-may_follow : goal.loop-at-preserved-else-not-may_follow
 loop-at-preserved-else-not-may_follow c =
-    let a = c.before.before.before.before.before.before in
-    rw c.put_list-in-Closes.ensures (goes_on (closed a.before.before.before.before.before.loop.invariant a.before.before.before.before.loop-test.true (sym a.before.before.before.token-at.ensures ∙ a.before.enum-told2.given.1) a.if2.false) (sym c.may_follow.ensures ∙ not-false _ c.if-not-may_follow.false))
+    rw c.put_list-in-Closes.ensures (goes_on (closed c.loop-at.invariant c.loop-at-test.true (sym c.token_at.ensures ∙ c.in-Closes.is) c.if-depth-eq0.false) (sym c.may_follow.ensures ∙ not-false _ (ap not c.if-not-may_follow.false)))
 
 pub put_words-requires : goal.put_words-requires
 put_words-requires c =
-    let a = c.before.before in
-    omega (arith, at_leaf a.before.before.before.before.loop.invariant a.before.before.before.loop-test.true (sym a.before.before.token-at.ensures ∙ a.next2.given.1))
+    omega (arith, at_leaf c.loop-at.invariant c.loop-at-test.true (sym c.token_at.ensures ∙ c.in-Leaf.is))
 
 pub overflow_add-words-in-Leaf : goal.overflow_add-words-in-Leaf
 overflow_add-words-in-Leaf c =
-    let a = c.before.before.before.before.before in
-    omega (arith, at_leaf a.before.before.before.before.loop.invariant a.before.before.before.loop-test.true (sym a.before.before.token-at.ensures ∙ a.next2.given.1))
+    omega (arith, at_leaf c.loop-at.invariant c.loop-at-test.true (sym c.token_at.ensures ∙ c.in-Leaf.is))
 
 pub overflow_add-counts-in-Leaf : goal.overflow_add-counts-in-Leaf
 overflow_add-counts-in-Leaf c = omega (arith, at-tree c.loop-at.invariant)
@@ -85,18 +78,15 @@ shape_of-out-then-not-may_follow-2 c = omega (arith, kept c.loop-at.invariant, c
 
 pub returns-then-not-may_follow-2 : goal.returns-then-not-may_follow-2
 returns-then-not-may_follow-2 c =
-    let a = c.before.before.before.before.before.before.before in
-    rw c.put_words.ensures (one-read (worded a.before.before.before.before.loop.invariant a.before.before.before.loop-test.true (sym a.before.before.token-at.ensures ∙ a.next2.given.1)) refl (sym c.may_follow-in-Leaf.ensures ∙ not-true _ c.if-not-may_follow-2.true))
+    rw c.put_words.ensures (one-read (worded c.loop-at.invariant c.loop-at-test.true (sym c.token_at.ensures ∙ c.in-Leaf.is)) refl (sym c.may_follow-in-Leaf.ensures ∙ not-true _ (ap not c.if-not-may_follow-2.true)))
 
 pub loop-at-smaller : goal.loop-at-smaller
 loop-at-smaller c =
-    let a = c.before.before.before.before.before.before.before in
-    omega (arith, at_leaf a.before.before.before.before.loop.invariant a.before.before.before.loop-test.true (sym a.before.before.token-at.ensures ∙ a.next2.given.1))
+    omega (arith, at_leaf c.loop-at.invariant c.loop-at-test.true (sym c.token_at.ensures ∙ c.in-Leaf.is))
 
 pub loop-at-preserved : goal.loop-at-preserved
 loop-at-preserved c =
-    let a = c.before.before.before.before.before.before.before in
-    rw c.put_words.ensures (goes_on (worded a.before.before.before.before.loop.invariant a.before.before.before.loop-test.true (sym a.before.before.token-at.ensures ∙ a.next2.given.1)) (sym c.may_follow-in-Leaf.ensures ∙ not-false _ c.if-not-may_follow-2.false))
+    rw c.put_words.ensures (goes_on (worded c.loop-at.invariant c.loop-at-test.true (sym c.token_at.ensures ∙ c.in-Leaf.is)) (sym c.may_follow-in-Leaf.ensures ∙ not-false _ (ap not c.if-not-may_follow-2.false)))
 
 pub shape_of-out-in-Unfinished : goal.shape_of-out-in-Unfinished
 shape_of-out-in-Unfinished c = kept c.loop-at.invariant
