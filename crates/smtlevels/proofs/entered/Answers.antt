@@ -8,13 +8,13 @@ pub halved-k-requires : goal.halved-k-requires
 halved-k-requires c = c.requires
 
 pub offset_bounds-bases-k : goal.offset_bounds-bases-k
-offset_bounds-bases-k c = omega (arith, c.halved-k.ensures.0.1)
+offset_bounds-bases-k c = omega (arith, c.halved-k.ensures.room.1)
 
 pub bounds-bases-k : goal.bounds-bases-k
-bounds-bases-k c = c.halved-k.ensures.0.1
+bounds-bases-k c = c.halved-k.ensures.room.1
 
 pub overflow_add-result : goal.overflow_add-result
-overflow_add-result c = omega (arith, c.halved-k.ensures.0.1)
+overflow_add-result c = omega (arith, c.halved-k.ensures.room.1)
 
 pub returns : goal.returns
-returns c = ((length-set c.halved-k.new.bases c.halved-k.result c.args.base ∙ c.halved-k.ensures.0.0, omega (arith, c.halved-k.ensures.0.1)), λ m cs e o. known_more c.halved-k.new.bases c.halved-k.result m cs (omega (arith, c.halved-k.ensures.0.0, c.halved-k.ensures.0.1)) e (c.halved-k.ensures.1 cs o))
+returns c = record { room = (length-set c.halved-k.new.bases c.halved-k.result c.args.base ∙ c.halved-k.ensures.room.0, omega (arith, c.halved-k.ensures.room.1)); lists = λ m cs e o. known_more c.halved-k.new.bases c.halved-k.result m cs (omega (arith, c.halved-k.ensures.room.0, c.halved-k.ensures.room.1)) e (c.halved-k.ensures.lists cs o) }

@@ -15,10 +15,10 @@ pub bounds-bases-k : goal.bounds-bases-k
 bounds-bases-k c = omega (arith, c.requires, c.loop-k.invariant.0, c.loop-k-test.true)
 
 pub returns-then-bases-k : goal.returns-then-bases-k
-returns-then-bases-k c = (c.loop-k.invariant.0, standing_here _ _ _ c.loop-k-test.true c.if-bases-k.true ∙ c.loop-k.invariant.1)
+returns-then-bases-k c = record { few = c.loop-k.invariant.0; lists = standing_here _ _ _ c.loop-k-test.true c.if-bases-k.true ∙ c.loop-k.invariant.1 }
 
 pub loop-k-preserved : goal.loop-k-preserved
 loop-k-preserved c = (omega (arith, c.loop-k.invariant.0), standing_on _ _ _ c.loop-k-test.true c.if-bases-k.false ∙ c.loop-k.invariant.1)
 
 pub returns : goal.returns
-returns c = (omega arith, standing-none _ _ _ c.loop-k-test.false ∙ c.loop-k.invariant.1)
+returns c = record { few = omega arith; lists = standing-none _ _ _ c.loop-k-test.false ∙ c.loop-k.invariant.1 }

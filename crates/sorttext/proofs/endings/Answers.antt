@@ -23,13 +23,13 @@ pub loop-a-init : goal.loop-a-init
 loop-a-init c = (omega arith, λ es w. toward_start w, c.requires)
 
 pub returns-then-words-a : goal.returns-then-words-a
-returns-then-words-a c = never c.loop-a.bases c.loop-a.invariant.2.0 (λ es w. omega (arith, toward_inside (c.loop-a.invariant.1 es w) c.loop-a-test.true, c.if-words-a.true))
+returns-then-words-a c = let r = never c.loop-a.bases c.loop-a.invariant.2.0 (λ es w. omega (arith, toward_inside (c.loop-a.invariant.1 es w) c.loop-a-test.true, c.if-words-a.true)) in record { room = r.0; lists = r.1; known = r.2 }
 
 pub returns-then-words-pending : goal.returns-then-words-pending
-returns-then-words-pending c = never c.loop-a.bases c.loop-a.invariant.2.0 (λ es w. omega (arith, (c.loop-a.invariant.1 es w).few, c.if-words-pending.true))
+returns-then-words-pending c = let r = never c.loop-a.bases c.loop-a.invariant.2.0 (λ es w. omega (arith, (c.loop-a.invariant.1 es w).few, c.if-words-pending.true)) in record { room = r.0; lists = r.1; known = r.2 }
 
 pub returns-then-pending-eq0 : goal.returns-then-pending-eq0
-returns-then-pending-eq0 c = never c.loop-a.bases c.loop-a.invariant.2.0 (λ es w. omega (arith, toward_some (c.loop-a.invariant.1 es w) c.loop-a-test.true c.sort_at-node.ensures c.count-n.ensures c.if-n-eq0.true, c.if-pending-eq0.true))
+returns-then-pending-eq0 c = let r = never c.loop-a.bases c.loop-a.invariant.2.0 (λ es w. omega (arith, toward_some (c.loop-a.invariant.1 es w) c.loop-a-test.true c.sort_at-node.ensures c.count-n.ensures c.if-n-eq0.true, c.if-pending-eq0.true)) in record { room = r.0; lists = r.1; known = r.2 }
 
 pub standing_below-known-requires : goal.standing_below-known-requires
 standing_below-known-requires c = c.loop-a.invariant.2.1
@@ -44,7 +44,7 @@ pub loop-a-smaller : goal.loop-a-smaller
 loop-a-smaller c = omega (arith, c.size-a.ensures, size-some c.sort_at-node.result)
 
 pub loop-a-preserved : goal.loop-a-preserved
-loop-a-preserved c =
+loop-a-preserved c = 
     let n = c.size-a.ensures in
     let m : 0 < c.size-a.result = omega (arith, n, size-some c.sort_at-node.result) in
     ⊎_elim
@@ -65,10 +65,7 @@ loop-a-preserved c =
     c.if-n-eq0.branch
 
 pub returns : goal.returns
-returns c = (
-  c.loop-a.invariant.2,
-  (
+returns c = record { room = c.loop-a.invariant.2; lists = (
     λ es w. toward_end (c.loop-a.invariant.1 es w) c.loop-a-test.false,
     λ es w e. rw (below-settled _ es e) at (toward_held (c.loop-a.invariant.1 es w) c.loop-a-test.false),
-  ),
-)
+  ); known =  }

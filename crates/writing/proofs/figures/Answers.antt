@@ -13,13 +13,13 @@ pub loop-rest-init : goal.loop-rest-init
 loop-rest-init c = count-one _
 
 pub overflow_add-n : goal.overflow_add-n
-overflow_add-n c = omega (arith, count-few c.loop-rest.invariant (quad_long _ (search rules) (search rules) (search rules) (search rules)) (ltb-false _ _ (sym c.one_digit.ensures ∙ not-true _ c.loop-rest-test.true)))
+overflow_add-n c = omega (arith, count-few c.loop-rest.invariant (quad_long _ (search rules) (search rules) (search rules) (search rules)) (ltb-false _ _ (sym c.one_digit.ensures ∙ c.loop-rest-test.true)))
 
 pub loop-rest-smaller : goal.loop-rest-smaller
-loop-rest-smaller c = tenth_less c.shortened.ensures (ltb-false _ _ (sym c.one_digit.ensures ∙ not-true _ c.loop-rest-test.true))
+loop-rest-smaller c = tenth_less c.shortened.ensures (ltb-false _ _ (sym c.one_digit.ensures ∙ c.loop-rest-test.true))
 
 pub loop-rest-preserved : goal.loop-rest-preserved
-loop-rest-preserved c = count_next c.loop-rest.invariant c.shortened.ensures (ltb-false _ _ (sym c.one_digit.ensures ∙ not-true _ c.loop-rest-test.true))
+loop-rest-preserved c = count_next c.loop-rest.invariant c.shortened.ensures (ltb-false _ _ (sym c.one_digit.ensures ∙ c.loop-rest-test.true))
 
 pub returns : goal.returns
-returns c = count-all c.loop-rest.invariant (ltb-true _ _ (sym c.one_digit.ensures ∙ not-false _ c.loop-rest-test.false))
+returns c = count-all c.loop-rest.invariant (ltb-true _ _ (sym c.one_digit.ensures ∙ c.loop-rest-test.false))

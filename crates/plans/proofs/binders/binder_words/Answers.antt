@@ -20,14 +20,14 @@ pub returns-then-not-is_pair : goal.returns-then-not-is_pair
 returns-then-not-is_pair c h =
     let g = c.loop-i.invariant.1 h in
     let l = c.loop-i-test.true in
-    numbering_bad g l (c.is_pair.ensures (binder-spot g l)) (not-true _ (ap not c.if-not-is_pair.true))
+    numbering_bad g l (c.is_pair.ensures (binder-spot g l)) (c.if-not-is_pair.true)
 
 pub put2-u-requires : goal.put2-u-requires
 put2-u-requires c =
     let g = c.loop-i.invariant.1 c.requires in
     let l = c.loop-i-test.true in
     let x = c.is_pair.ensures (binder-spot g l) in
-    let e = not-false c.is_pair.result (ap not c.if-not-is_pair.false) in
+    let e = c.if-not-is_pair.false in
     omega (arith, binder-room g l x e)
 
 pub overflow_add-p : goal.overflow_add-p
@@ -35,7 +35,7 @@ overflow_add-p c =
     let g = c.loop-i.invariant.1 c.requires in
     let l = c.loop-i-test.true in
     let x = c.is_pair.ensures (binder-spot g l) in
-    let e = not-false c.is_pair.result (ap not c.if-not-is_pair.false) in
+    let e = c.if-not-is_pair.false in
     omega (arith, sort-within g l x e)
 
 pub sort_at-requires : goal.sort_at-requires
@@ -43,7 +43,7 @@ sort_at-requires c =
     let g = c.loop-i.invariant.1 c.requires in
     let l = c.loop-i-test.true in
     let x = c.is_pair.ensures (binder-spot g l) in
-    let e = not-false c.is_pair.result (ap not c.if-not-is_pair.false) in
+    let e = c.if-not-is_pair.false in
     (sort-small g l x e, omega (arith, binder-room g l x e, c.put2-u.ensures.is))
 
 pub shape_of-out-in-Refused : goal.shape_of-out-in-Refused
@@ -54,7 +54,7 @@ returns-in-Refused c h =
     let g = c.loop-i.invariant.1 h in
     let l = c.loop-i-test.true in
     let x = c.is_pair.ensures (binder-spot g l) in
-    let e = not-false c.is_pair.result (ap not c.if-not-is_pair.false) in
+    let e = c.if-not-is_pair.false in
     numbering_refused g l x e c.low.ensures c.high.ensures c.put2-u.ensures (c.sort_at.ensures (sort-small g l x e)) c.in-Refused.is
 
 pub words_at-p-requires : goal.words_at-p-requires
@@ -75,7 +75,7 @@ loop-i-preserved c = (
       (let g = c.loop-i.invariant.1 h in
       let l = c.loop-i-test.true in
       let x = c.is_pair.ensures (binder-spot g l) in
-      let e = not-false c.is_pair.result (ap not c.if-not-is_pair.false) in
+      let e = c.if-not-is_pair.false in
       numbering_more g l x e c.low.ensures c.high.ensures c.put2-u.ensures (c.sort_at.ensures (sort-small g l x e)) c.in-Done.is c.wrapping_add_u64-k.ensures.value (c.words_at-p.ensures (binder-spot g l))),
 )
 

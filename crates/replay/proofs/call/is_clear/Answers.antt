@@ -17,12 +17,12 @@ returns-then-op-eq65 c = pick_ne _ c.if-op-eq82.false (pick_eq _ c.if-op-eq65.tr
 
 pub returns-then-not-is_zero : goal.returns-then-not-is_zero
 unfolding is_clear
-returns-then-not-is_zero c = pick_ne _ c.if-op-eq82.false (pick_ne _ c.if-op-eq65.false (and_no _ (sym c.is_zero.ensures ∙ not-true _ (ap not c.if-not-is_zero.true))))
+returns-then-not-is_zero c = pick_ne _ c.if-op-eq82.false (pick_ne _ c.if-op-eq65.false (and_no _ (sym c.is_zero.ensures ∙ c.if-not-is_zero.true)))
 
 pub returns-then-op-eq76 : goal.returns-then-op-eq76
 unfolding is_clear
-returns-then-op-eq76 c = pick_ne _ c.if-op-eq82.false (pick_ne _ c.if-op-eq65.false (and_yes (sym c.is_zero.ensures ∙ not-false _ (ap not c.if-not-is_zero.false)) (pick_eq _ c.if-op-eq76.true c.is_zero-then-op-eq76.ensures)))
+returns-then-op-eq76 c = pick_ne _ c.if-op-eq82.false (pick_ne _ c.if-op-eq65.false (and_yes (sym c.is_zero.ensures ∙ c.if-not-is_zero.false) (pick_eq _ c.if-op-eq76.true c.is_zero-then-op-eq76.ensures)))
 
 pub returns : goal.returns
 unfolding is_clear
-returns c = pick_ne _ c.if-op-eq82.false (pick_ne _ c.if-op-eq65.false (and_yes (sym c.is_zero.ensures ∙ not-false _ (ap not c.if-not-is_zero.false)) (pick_ne _ c.if-op-eq76.false refl)))
+returns c = pick_ne _ c.if-op-eq82.false (pick_ne _ c.if-op-eq65.false (and_yes (sym c.is_zero.ensures ∙ c.if-not-is_zero.false) (pick_ne _ c.if-op-eq76.false refl)))

@@ -32,4 +32,4 @@ slice_bounds-asked-end-4 c = sym (length-take-le _ _ (array-borrow-prefix-out c.
 pub returns : goal.returns
 returns c =
     let p = c.put_words-n.ensures in
-    lend_done c.args.lines.now c.args.line c.args.text.now c.args.reader.next p.0 c.if-n-gt-WORDS.false c.if-line-gt-WORDS.false c.if-line-gt-WORDS-2.false c.if-line-gt-WORDS-3.false (spelled-there _ _ p.0 p.1 (array-share-prefix-words c.before.before.before.before.before.before.before.before) (omega (arith, c.if-n-gt-WORDS.false))) (slice-aggregate-asked-2 c.before.before.before.before.before.before) (slice-aggregate-asked-3 c.before.before.before.before.before) (slice-aggregate-asked-4 c.before.before.before.before) c.asked.ensures.0 c.asked.ensures.1
+    lend_done c.args.lines.now c.args.line c.args.text.now c.args.reader.next p.0 c.if-n-gt-WORDS.false c.if-line-gt-WORDS.false c.if-line-gt-WORDS-2.false c.if-line-gt-WORDS-3.false (spelled-there _ _ p.0 p.1 (array-share-prefix-words c.before.before.before.before.before.before.before.before) (omega (arith, c.if-n-gt-WORDS.false))) (slice-aggregate-asked-2 c.before.before.before.before.before.before) (slice-aggregate-asked-3 c.before.before.before.before.before) (slice-aggregate-asked-4 c.before.before.before.before) c.asked.ensures.same c.asked.ensures.count

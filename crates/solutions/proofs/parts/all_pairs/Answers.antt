@@ -18,7 +18,7 @@ pub returns-then-not-is_pair : goal.returns-then-not-is_pair
 returns-then-not-is_pair c h =
     let g = c.loop-i.invariant h in
     let l = c.loop-i-test.true in
-    pairing_bad g l (c.is_pair.ensures (pair-spot g l)) (not-true _ (ap not c.if-not-is_pair.true))
+    pairing_bad g l (c.is_pair.ensures (pair-spot g l)) (c.if-not-is_pair.true)
 
 pub words_at-p-requires : goal.words_at-p-requires
 words_at-p-requires c = pair-spot (c.loop-i.invariant c.requires) c.loop-i-test.true
@@ -37,7 +37,7 @@ loop-i-preserved c =
     λ h.
     (let g = c.loop-i.invariant h in
     let l = c.loop-i-test.true in
-    pairing_more g l (c.is_pair.ensures (pair-spot g l)) (not-false c.is_pair.result (ap not c.if-not-is_pair.false)) (c.words_at-p.ensures (pair-spot g l)))
+    pairing_more g l (c.is_pair.ensures (pair-spot g l)) (c.if-not-is_pair.false) (c.words_at-p.ensures (pair-spot g l)))
 
 pub returns : goal.returns
 returns c h = pairing_end (c.loop-i.invariant h) c.loop-i-test.false

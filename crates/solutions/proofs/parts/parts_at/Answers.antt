@@ -58,7 +58,7 @@ returns-then-not-all_pairs c h =
     let v = node-list c.args.tree.now (c.in-List.first + c.words_at.result) c.node_at-2.ensures c.in-List-node_at.is in
     let ms = c.word_to_length-m.ensures.0 in
     let is = c.all_pairs.ensures (pairs-row h l three js v ms 0 (omega arith)) in
-    pairs-bad h l three js v ms is _ (not-true _ (ap not c.if-not-all_pairs.true))
+    pairs-bad h l three js v ms is _ (c.if-not-all_pairs.true)
 
 pub binder_words-requires : goal.binder_words-requires
 binder_words-requires c =
@@ -92,7 +92,7 @@ body_at-requires c =
     let v = node-list c.args.tree.now (c.in-List.first + c.words_at.result) c.node_at-2.ensures c.in-List-node_at.is in
     let ms = c.word_to_length-m.ensures.0 in
     let is = c.all_pairs.ensures (pairs-row c.requires l three js v ms 0 (omega arith)) in
-    let yes = not-false c.all_pairs.result (ap not c.if-not-all_pairs.false) in
+    let yes = c.if-not-all_pairs.false in
     let row = pairs-row c.requires l three js v ms c.put1-v.result (omega (arith, c.put1-v.ensures.is)) in
     let read = c.binder_words.ensures row c.args.count 0 (omega (arith)) in
     parts-body c.requires l three js v ms is yes _ c.put1-v.ensures (got-at read c.in-Done.is) (c.words_at-in-Done.ensures (params-spot c.requires l three js))
@@ -105,7 +105,7 @@ returns-in-Refused c h =
     let v = node-list c.args.tree.now (c.in-List.first + c.words_at.result) c.node_at-2.ensures c.in-List-node_at.is in
     let ms = c.word_to_length-m.ensures.0 in
     let is = c.all_pairs.ensures (pairs-row h l three js v ms 0 (omega arith)) in
-    let yes = not-false c.all_pairs.result (ap not c.if-not-all_pairs.false) in
+    let yes = c.if-not-all_pairs.false in
     let row = pairs-row h l three js v ms c.put1-v.result (omega (arith, c.put1-v.ensures.is)) in
     let read = c.binder_words.ensures row c.args.count 0 (omega (arith)) in
     sorts-bad h l three js v ms is yes _ (bad-at read c.in-Refused.is)
@@ -118,7 +118,7 @@ returns-in-Done c h =
     let v = node-list c.args.tree.now (c.in-List.first + c.words_at.result) c.node_at-2.ensures c.in-List-node_at.is in
     let ms = c.word_to_length-m.ensures.0 in
     let is = c.all_pairs.ensures (pairs-row h l three js v ms 0 (omega arith)) in
-    let yes = not-false c.all_pairs.result (ap not c.if-not-all_pairs.false) in
+    let yes = c.if-not-all_pairs.false in
     let row = pairs-row h l three js v ms c.put1-v.result (omega (arith, c.put1-v.ensures.is)) in
     let read = c.binder_words.ensures row c.args.count 0 (omega (arith)) in
     let t = got-at read c.in-Done.is in

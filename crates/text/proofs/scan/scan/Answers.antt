@@ -56,11 +56,11 @@ shape_of-out-then-not-may_follow c = omega (arith, kept c.loop-at.invariant, c.p
 
 pub returns-then-not-may_follow : goal.returns-then-not-may_follow
 returns-then-not-may_follow c =
-    rw c.put_list-in-Closes.ensures (one-read (closed c.loop-at.invariant c.loop-at-test.true (sym c.token_at.ensures ∙ c.in-Closes.is) c.if-depth-eq0.false) refl (sym c.may_follow.ensures ∙ not-true _ (ap not c.if-not-may_follow.true)))
+    rw c.put_list-in-Closes.ensures (one-read (closed c.loop-at.invariant c.loop-at-test.true (sym c.token_at.ensures ∙ c.in-Closes.is) c.if-depth-eq0.false) refl (sym c.may_follow.ensures ∙ c.if-not-may_follow.true))
 
 pub loop-at-preserved-else-not-may_follow : goal.loop-at-preserved-else-not-may_follow
 loop-at-preserved-else-not-may_follow c =
-    rw c.put_list-in-Closes.ensures (goes_on (closed c.loop-at.invariant c.loop-at-test.true (sym c.token_at.ensures ∙ c.in-Closes.is) c.if-depth-eq0.false) (sym c.may_follow.ensures ∙ not-false _ (ap not c.if-not-may_follow.false)))
+    rw c.put_list-in-Closes.ensures (goes_on (closed c.loop-at.invariant c.loop-at-test.true (sym c.token_at.ensures ∙ c.in-Closes.is) c.if-depth-eq0.false) (sym c.may_follow.ensures ∙ c.if-not-may_follow.false))
 
 pub put_words-requires : goal.put_words-requires
 put_words-requires c =
@@ -78,7 +78,7 @@ shape_of-out-then-not-may_follow-2 c = omega (arith, kept c.loop-at.invariant, c
 
 pub returns-then-not-may_follow-2 : goal.returns-then-not-may_follow-2
 returns-then-not-may_follow-2 c =
-    rw c.put_words.ensures (one-read (worded c.loop-at.invariant c.loop-at-test.true (sym c.token_at.ensures ∙ c.in-Leaf.is)) refl (sym c.may_follow-in-Leaf.ensures ∙ not-true _ (ap not c.if-not-may_follow-2.true)))
+    rw c.put_words.ensures (one-read (worded c.loop-at.invariant c.loop-at-test.true (sym c.token_at.ensures ∙ c.in-Leaf.is)) refl (sym c.may_follow-in-Leaf.ensures ∙ c.if-not-may_follow-2.true))
 
 pub loop-at-smaller : goal.loop-at-smaller
 loop-at-smaller c =
@@ -86,7 +86,7 @@ loop-at-smaller c =
 
 pub loop-at-preserved : goal.loop-at-preserved
 loop-at-preserved c =
-    rw c.put_words.ensures (goes_on (worded c.loop-at.invariant c.loop-at-test.true (sym c.token_at.ensures ∙ c.in-Leaf.is)) (sym c.may_follow-in-Leaf.ensures ∙ not-false _ (ap not c.if-not-may_follow-2.false)))
+    rw c.put_words.ensures (goes_on (worded c.loop-at.invariant c.loop-at-test.true (sym c.token_at.ensures ∙ c.in-Leaf.is)) (sym c.may_follow-in-Leaf.ensures ∙ c.if-not-may_follow-2.false))
 
 pub shape_of-out-in-Unfinished : goal.shape_of-out-in-Unfinished
 shape_of-out-in-Unfinished c = kept c.loop-at.invariant
