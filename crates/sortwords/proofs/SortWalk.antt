@@ -2,13 +2,13 @@
 use Prim.Native.Nat.{ℕ, zero, suc, ◌+◌, ◌-◌, ◌≤◌, ◌<◌}
 use mathlib.Core.Path.{◌≡◌, refl, sym, ap, ◌∙◌}
 use mathlib.Core.Bool.{Bool, true, false}
-use mathlib.Core.List.{List, ◌∷◌}
+use mathlib.Core.List.{List, [], ◌∷◌}
 use native.Mathlib.Omega.{arith}
 use lib.Dec.{ltb, leb}
 use lib.ListN.{length, get_or}
 use Rattle.reading.specs.Pick.{pick}
 use Rattle.reading.specs.Answer.{not_words}
-use Rattle.grammar.specs.Sort.{Sort, s_int, s_bool, s_real, s_str, s_bit_vec, s_size, s_var, s_func, s_abs, s_app, snil, scons}
+use Rattle.grammar.specs.Sort.{Sort, Ctor, c_set, c_map, c_data, s_int, s_bool, s_real, s_str, s_bit_vec, s_size, s_var, s_func, s_abs, s_app, snil, scons}
 use Rattle.judging.specs.Judge.{Judged, reads, fails, FromWords, go_on, ◌>>=◌, ret, fail, word, among, or_fail, choose, two_words, several, span_within, ctors, sort_kinds, sort_deep, sort_at}
 use Rattle.sortwords.specs.SortFields.{one_field, ctor_at, app_fields, sort_fields, sort_head, inside_of}
 use Rattle.judging.specs.Ends.{end_of}
@@ -103,15 +103,21 @@ module _ (limit : ℕ) (ws : List ℕ) where
   onward_span =
       onward_bind word _ onward_word (λ a. onward_bind word _ onward_word (λ b. onward_pick (leb (a + b) limit) _ _ (onward_ret _) (onward_fail not_words)))
 
-  onward_among : {A : Type 0} (r : FromWords A) (rs : List (FromWords A)) → Onward r → ((j : ℕ) → Onward (or_fail (among rs j))) → (j : ℕ) → Onward (or_fail (among (r ∷ rs) j))
-  onward_among r rs R S zero = R
-  onward_among r rs R S (suc j) = S j
+  -- Each reader of a list is onward, and so is the one that a number picks.
+  abbrev EachOnward : {A : Type 0} → List (FromWords A) → Type 0
+  EachOnward [] = Unit {0}
+  EachOnward (r ∷ rs) = Onward r × EachOnward rs
+
+  onward_among : {A : Type 0} (rs : List (FromWords A)) → EachOnward rs → (j : ℕ) → Onward (or_fail (among rs j))
+  onward_among [] h j = onward_fail not_words
+  onward_among (r ∷ rs) h zero = h.0
+  onward_among (r ∷ rs) h (suc j) = onward_among rs h.1 j
 
   onward_ctor : Onward (ctor_at limit)
   unfolding ctor_at choose ctors
   onward_ctor =
       onward_bind word _ onward_word λ k.
-      onward_pick (ltb k 0) _ _ (onward_fail not_words) (onward_among _ _ (onward_ret _) (onward_among _ _ (onward_ret _) (onward_among _ _ (onward_bind (span_within limit) _ onward_span (λ s. onward_ret _)) (λ j. onward_fail not_words))) (k - 0))
+      onward_pick (ltb k 0) _ _ (onward_fail not_words) (onward_among (ctors limit) (onward_ret c_set, (onward_ret c_map, (onward_bind (span_within limit) (λ s. ret (c_data s)) onward_span (λ s. onward_ret (c_data s)), tt))) (k - 0))
 
   -- What follows is the walk over so many sorts, from a place on.
   abbrev Follows : {A : Type 0} → ℕ → ℕ → (A → ℕ → End) → Type 0
@@ -185,9 +191,19 @@ module _ (limit : ℕ) (ws : List ℕ) where
       go (reads a n) i = let j : at ≤ n = P at n a i in F a n q g k (omega arith) (omega arith) (λ c d g' w x. z c d g' (omega arith) x)
       go (fails r) i = refl
 
-  enters_among : (lo : ℕ) (r : FromWords Sort) (rs : List (FromWords Sort)) (h : FromWords ℕ) (hs : List (FromWords ℕ)) → Enters lo r h → ((j : ℕ) → Enters lo (or_fail (among rs j)) (or_fail (among hs j))) → (j : ℕ) → Enters lo (or_fail (among (r ∷ rs) j)) (or_fail (among (h ∷ hs) j))
-  enters_among lo r rs h hs E F zero = E
-  enters_among lo r rs h hs E F (suc j) = F j
+  -- The same of each pair of two lists, and of the pair that a number picks.
+  abbrev EachEnters : ℕ → List (FromWords Sort) → List (FromWords ℕ) → Type 0
+  EachEnters lo [] [] = Unit {0}
+  EachEnters lo (r ∷ rs) (h ∷ hs) = Enters lo r h × EachEnters lo rs hs
+  EachEnters lo [] (h ∷ hs) = ⊥
+  EachEnters lo (r ∷ rs) [] = ⊥
+
+  enters_among : (lo : ℕ) (rs : List (FromWords Sort)) (hs : List (FromWords ℕ)) → EachEnters lo rs hs → (j : ℕ) → Enters lo (or_fail (among rs j)) (or_fail (among hs j))
+  enters_among lo [] [] e j = enters_fail lo not_words
+  enters_among lo (r ∷ rs) (h ∷ hs) e zero = e.0
+  enters_among lo (r ∷ rs) (h ∷ hs) e (suc j) = enters_among lo rs hs e.1 j
+  enters_among lo [] (h ∷ hs) e j = absurd e
+  enters_among lo (r ∷ rs) [] e j = absurd e
 
   -- Brackets do not matter.
   bind_assoc : {A B C : Type 0} (x : Judged A) (f : A → FromWords B) (g : B → FromWords C) → go_on x (λ a. f a >>= g) ws ≡ go_on (go_on x f ws) g ws
@@ -205,16 +221,17 @@ module _ (limit : ℕ) (ws : List ℕ) where
   enters_kinds : (lo : ℕ) (d : FromWords Sort) → Walks lo d 1 → (j : ℕ) → Enters lo (or_fail (among (sort_kinds limit d) j)) (or_fail (among (sort_fields limit) j))
   unfolding sort_kinds sort_fields one_field
   enters_kinds lo d D =
-      enters_among lo _ _ _ _ (enters_ret lo s_int)
-      (enters_among lo _ _ _ _ (enters_ret lo s_bool)
-      (enters_among lo _ _ _ _ (enters_ret lo s_real)
-      (enters_among lo _ _ _ _ (enters_ret lo s_str)
-      (enters_among lo _ _ _ _ (enters_map lo 1 d s_bit_vec D)
-      (enters_among lo _ _ _ _ (enters_bind lo word _ _ onward_word (λ i. enters_ret lo (s_size i)))
-      (enters_among lo _ _ _ _ (enters_bind lo two_words _ _ onward_two (λ i. enters_ret lo (s_var i)))
-      (enters_among lo _ _ _ _ (enters_walks lo 2 (d >>= λ s. d >>= λ t. ret (s_func s t)) (walks_then lo 1 1 d (λ s. d >>= λ t. ret (s_func s t)) D (λ s. walks_map lo 1 d (s_func s) D)))
-      (enters_among lo _ _ _ _ (enters_bind lo word _ _ onward_word (λ i. enters_map lo 1 d (s_abs i) D))
-      (enters_among lo _ _ _ _ (enters_app lo d D) (λ j. enters_fail lo not_words))))))))))
+      enters_among lo (sort_kinds limit d) (sort_fields limit)
+      (enters_ret lo s_int,
+      (enters_ret lo s_bool,
+      (enters_ret lo s_real,
+      (enters_ret lo s_str,
+      (enters_map lo 1 d s_bit_vec D,
+      (enters_bind lo word _ _ onward_word (λ i. enters_ret lo (s_size i)),
+      (enters_bind lo two_words _ _ onward_two (λ i. enters_ret lo (s_var i)),
+      (enters_walks lo 2 (d >>= λ s. d >>= λ t. ret (s_func s t)) (walks_then lo 1 1 d (λ s. d >>= λ t. ret (s_func s t)) D (λ s. walks_map lo 1 d (s_func s) D)),
+      (enters_bind lo word _ _ onward_word (λ i. enters_map lo 1 d (s_abs i) D),
+      (enters_app lo d D, tt))))))))))
 
   -- The kind of a sort and what follows it, where the kind is inside the words.
   sort_enters : (deep lo at q g : ℕ) (k : Sort → ℕ → End) → lo ≤ at → at < length ws → length ws ≤ at + g → Follows at q k → Walks (suc lo) (sort_deep limit deep) 1 → after (choose 1 (sort_kinds limit (sort_deep limit deep)) (get_or ws at 0) ws (at + 1)) k ≡ walk limit ws g (1 + q) at
@@ -288,9 +305,14 @@ module _ (limit : ℕ) (ws : List ℕ) where
       go (reads a m) g h = F a m r h
       go (fails s) g h = let z : s ≡ r = cc in sym z ∙ P at s g
 
-  only-among : {A : Type 0} (r : FromWords A) (rs : List (FromWords A)) → Only14 r → ((j : ℕ) → Only14 (or_fail (among rs j))) → (j : ℕ) → Only14 (or_fail (among (r ∷ rs) j))
-  only-among r rs R S zero = R
-  only-among r rs R S (suc j) = S j
+  abbrev EachOnly14 : {A : Type 0} → List (FromWords A) → Type 0
+  EachOnly14 [] = Unit {0}
+  EachOnly14 (r ∷ rs) = Only14 r × EachOnly14 rs
+
+  only-among : {A : Type 0} (rs : List (FromWords A)) → EachOnly14 rs → (j : ℕ) → Only14 (or_fail (among rs j))
+  only-among [] h j = only-fail
+  only-among (r ∷ rs) h zero = h.0
+  only-among (r ∷ rs) h (suc j) = only-among rs h.1 j
 
   only_two : Only14 two_words
   unfolding two_words
@@ -304,21 +326,22 @@ module _ (limit : ℕ) (ws : List ℕ) where
   unfolding ctor_at choose ctors
   only-ctor =
       only-bind word _ only-word λ k.
-      only-pick (ltb k 0) _ _ only-fail (only-among _ _ (only-ret _) (only-among _ _ (only-ret _) (only-among _ _ (only-bind (span_within limit) _ only-span (λ s. only-ret _)) (λ j. only-fail))) (k - 0))
+      only-pick (ltb k 0) _ _ only-fail (only-among (ctors limit) (only-ret c_set, (only-ret c_map, (only-bind (span_within limit) (λ s. ret (c_data s)) only-span (λ s. only-ret (c_data s)), tt))) (k - 0))
 
   only-fields : (j : ℕ) → Only14 (or_fail (among (sort_fields limit) j))
   unfolding sort_fields one_field app_fields
   only-fields =
-      only-among _ _ (only-ret _)
-      (only-among _ _ (only-ret _)
-      (only-among _ _ (only-ret _)
-      (only-among _ _ (only-ret _)
-      (only-among _ _ (only-ret _)
-      (only-among _ _ (only-bind word _ only-word (λ i. only-ret _))
-      (only-among _ _ (only-bind two_words _ only_two (λ i. only-ret _))
-      (only-among _ _ (only-ret _)
-      (only-among _ _ (only-bind word _ only-word (λ i. only-ret _))
-      (only-among _ _ (only-bind (ctor_at limit) _ only-ctor (λ c. only-bind word _ only-word (λ n. only-ret n))) (λ j. only-fail))))))))))
+      only-among (sort_fields limit)
+      (only-ret 0,
+      (only-ret 0,
+      (only-ret 0,
+      (only-ret 0,
+      (only-ret 1,
+      (only-bind word _ only-word (λ i. only-ret 0),
+      (only-bind two_words _ only_two (λ i. only-ret 0),
+      (only-ret 2,
+      (only-bind word _ only-word (λ i. only-ret 1),
+      (only-bind (ctor_at limit) _ only-ctor (λ c. only-bind word _ only-word (λ n. only-ret n)), tt))))))))))
 
   only-head : Only14 (sort_head limit)
   unfolding sort_head choose

@@ -29,5 +29,5 @@ returns-in-3 c h = spelled_as operators 3 c.in-3.is c.bytes-in-3.ensures
 pub returns-in_default : goal.returns-in_default
 unfolding operators
 returns-in_default c h =
-    let e : c.args.op ≡ 4 = omega (arith, h, c.in_default.rest) in
+    let e : c.args.op ≡ 4 = omega (arith, h, c.in_default.in_default-own.rest) in
     spelled_as operators 4 e c.bytes-in_default.ensures

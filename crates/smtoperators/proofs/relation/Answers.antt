@@ -34,5 +34,5 @@ returns-in-4 c h = spelled_as relations 4 c.in-4.is c.bytes-in-4.ensures
 pub returns-in_default : goal.returns-in_default
 unfolding relations
 returns-in_default c h =
-    let e : c.args.r ≡ 5 = omega (arith, h, c.in_default.rest) in
+    let e : c.args.r ≡ 5 = omega (arith, h, c.in_default.in_default-own.rest) in
     spelled_as relations 5 e c.bytes-in_default.ensures

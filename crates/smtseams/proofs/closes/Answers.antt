@@ -39,4 +39,4 @@ pub returns-in-Other : goal.returns-in-Other
 returns-in-Other c = sym (ap (λ (x : Node). node_closes x c.args.n) c.in-Other.is)
 
 pub returns-in_default : goal.returns-in_default
-returns-in_default c = rest-closes c.args.node c.args.n c.in_default.keys12
+returns-in_default c = rest-closes c.args.node c.args.n c.in_default.in_default-own.keys12

@@ -11,4 +11,4 @@ pub returns-in-LetFresh : goal.returns-in-LetFresh
 returns-in-LetFresh c = sym (ap node_lets c.in-LetFresh.is)
 
 pub returns-in_default : goal.returns-in_default
-returns-in_default c = rest-lets c.args.node c.in_default.keys3
+returns-in_default c = rest-lets c.args.node c.in_default.in_default-own.keys3

@@ -17,5 +17,5 @@ returns-in-2 c = ctor_data _ _ _ c.if-words-at.false c.in-2.is c.span_end.ensure
 
 pub returns-in_default : goal.returns-in_default
 returns-in_default c =
-    let r = c.in_default.rest in
+    let r = c.in_default.in_default-own.rest in
     ctor-other _ _ _ c.if-words-at.false (omega (arith, r.1, r.0.1, r.0.0.1))

@@ -29,12 +29,12 @@ pub returns-in-10 : goal.returns-in-10
 returns-in-10 c = head-app _ _ _ c.if-words-at.false c.in-10.is c.app_fields.ensures
 
 pub returns-in-1 : goal.returns-in-1
-returns-in-1 c = head_plain _ _ _ c.if-words-at.false c.if-this-lt1.false c.in-1.true
+returns-in-1 c = head_plain _ _ _ c.if-words-at.false c.in-1.if-this-lt1-own.false c.in-1.if-this-lt5-own.true
 
 pub returns-in_default : goal.returns-in_default
-returns-in_default c = head-none _ _ _ c.if-words-at.false c.in_default.true
+returns-in_default c = head-none _ _ _ c.if-words-at.false c.in_default.if-this-lt1-own.true
 
 pub returns-in_default-2 : goal.returns-in_default-2
 returns-in_default-2 c =
-    let r = c.in_default-1.rest in
-    head-other _ _ _ c.if-words-at.false (omega (arith, c.in_default.false, r.1, r.0.1, r.0.0.1, r.0.0.0.1, r.0.0.0.0.1, r.0.0.0.0.0.1))
+    let r = c.in_default.in_default-own.rest in
+    head-other _ _ _ c.if-words-at.false (omega (arith, c.in_default.if-this-lt5-own.false, r.1, r.0.1, r.0.0.1, r.0.0.0.1, r.0.0.0.0.1, r.0.0.0.0.0.1))

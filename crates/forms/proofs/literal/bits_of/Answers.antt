@@ -18,3 +18,6 @@ returns-in-Is c = bits_are _ _ (sym c.begins_with.ensures ∙ c.if-not-begins_wi
 
 pub returns-in-No : goal.returns-in-No
 returns-in-No c = bits_are _ _ (sym c.begins_with.ensures ∙ c.if-not-begins_with.false) c.magnitude.ensures c.in-No.is
+
+pub slice_bounds-magnitude-start : goal.slice_bounds-magnitude-start
+slice_bounds-magnitude-start c = omega (arith, bits_there _ (sym c.begins_with.ensures ∙ c.if-not-begins_with.false))

@@ -18,4 +18,4 @@ returns-in-Theory c = rw c.in-Theory.is c.function.ensures
 
 -- src/callee.rt:49:1
 pub returns-in_default : goal.returns-in_default
-returns-in_default c = rw (← rest-callee c.args.text.now c.args.node c.in_default.keys4) (keeps refl refl)
+returns-in_default c = rw (← rest-callee c.args.text.now c.args.node c.in_default.in_default-own.keys4) (keeps refl refl)

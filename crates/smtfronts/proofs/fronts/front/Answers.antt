@@ -13,4 +13,4 @@ returns-else-words-at c limit k a e f = front-exists limit _ _ _ k e f c.in-Exis
 
 -- src/fronts.rt:220:1
 pub returns-in_default : goal.returns-in_default
-returns-in_default c limit k a e f = front-plain limit _ _ _ k e f (λ m q. rest-front c.args.node m c.in_default.keys2 q) c.plain_front.ensures
+returns-in_default c limit k a e f = front-plain limit _ _ _ k e f (λ m q. rest-front c.args.node m c.in_default.in_default-own.keys2 q) c.plain_front.ensures
