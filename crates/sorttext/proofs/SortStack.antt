@@ -3,7 +3,8 @@ use Prim.Native.Nat.{ℕ, zero, suc, ◌+◌, ◌≤◌, ◌<◌}
 use mathlib.Core.Path.{◌≡◌, refl, sym, ap, ◌∙◌}
 use mathlib.Core.List.{List, [], ◌∷◌, ◌++◌, append_assoc}
 use native.Mathlib.Omega.{arith}
-use lib.ListN.{length, length-append}
+use lib.Dec.{eqb}
+use lib.ListN.{length, replicate, length-append}
 use Rattle.reading.specs.Pick.{pick}
 use Rattle.reading.specs.Answer.{Ans, got}
 use Rattle.grammar.specs.Sort.{Sort, Sorts, snil, scons, sorts, sort_words, sorts_words}
@@ -47,7 +48,7 @@ unfolding end_text total ending
 end-zero cs =
     let e : 0 + total cs ≡ total cs = omega arith in
     let f : hit (total cs) (total cs) + ending (total cs) cs ≡ suc (ending (total cs) cs) = omega (arith, hit-yes (total cs) (total cs) refl) in
-    rw (e, f) refl
+    ap (λ (t : ℕ). replicate (ending t (zero ∷ cs)) 41 ++ pick (eqb t 0) [] (32 ∷ [])) e ∙ ap (λ (n : ℕ). replicate n 41 ++ pick (eqb (total cs) 0) [] (32 ∷ [])) f
 
 end-suc : (n : ℕ) (cs : List ℕ) → end_text (suc n ∷ cs) ≡ 32 ∷ []
 unfolding total ending

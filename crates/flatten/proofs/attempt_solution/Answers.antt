@@ -7,16 +7,16 @@ use borrow.Author.Rules.{rules}
 use Rattle.flatten.proofs.attempt_solution.Goals as goal
 
 pub slice_bounds-flat-end : goal.slice_bounds-flat-end
-slice_bounds-flat-end c = body-within _ _ _ _ _ (made _ _ _ _ (sym c.in-Done.is ∙ c.solution_draft.ensures.answer)) c.solution_draft.ensures.working.1.0
+slice_bounds-flat-end c = body-within _ _ _ _ _ (made _ _ _ _ (sym c.in-Done.is ∙ c.solution_draft.ensures.answer)) c.solution_draft.ensures.body
 
 pub slice_bounds-flat-end-in-Done : goal.slice_bounds-flat-end-in-Done
-slice_bounds-flat-end-in-Done c = rw length-take (omega (arith, body-within _ _ _ _ _ (made _ _ _ _ (sym c.in-Done.is ∙ c.solution_draft.ensures.answer)) c.solution_draft.ensures.working.1.0))
+slice_bounds-flat-end-in-Done c = rw length-take (omega (arith, body-within _ _ _ _ _ (made _ _ _ _ (sym c.in-Done.is ∙ c.solution_draft.ensures.answer)) c.solution_draft.ensures.body))
 
 pub returns-then-out-q : goal.returns-then-out-q
-returns-then-out-q c = let r = (solution-full _ _ _ _ _ (made _ _ _ _ (sym c.in-Done.is ∙ c.solution_draft.ensures.answer)) c.solution_draft.ensures.working.1.0 _ c.solution_draft.ensures.working.1.1 c.flat-q.ensures refl c.if-out-q.true, (c.solution_draft.ensures.working.0, ap (λ (n : ℕ). replicate n 0) c.solution_draft.auto.draft)) in record { answer = r.0; working = r.1; body = r.2 }
+returns-then-out-q c = record { answer = solution-full _ _ _ _ _ (made _ _ _ _ (sym c.in-Done.is ∙ c.solution_draft.ensures.answer)) c.solution_draft.ensures.body _ c.solution_draft.ensures.params c.flat-q.ensures refl c.if-out-q.true; working = c.solution_draft.ensures.working; body = ap (λ (n : ℕ). replicate n 0) c.solution_draft.auto.draft }
 
 pub returns-in-Refused : goal.returns-in-Refused
-returns-in-Refused c = let r = (solution-refused _ _ _ _ _ (sym c.in-Refused.is ∙ c.solution_draft.ensures.answer), (c.solution_draft.ensures.working.0, ap (λ (n : ℕ). replicate n 0) c.solution_draft.auto.draft)) in record { answer = r.0; working = r.1; body = r.2 }
+returns-in-Refused c = record { answer = solution-refused _ _ _ _ _ (sym c.in-Refused.is ∙ c.solution_draft.ensures.answer); working = c.solution_draft.ensures.working; body = ap (λ (n : ℕ). replicate n 0) c.solution_draft.auto.draft }
 
 pub returns-else-out-q : goal.returns-else-out-q
-returns-else-out-q c = let r = (solution-done _ _ _ _ _ (made _ _ _ _ (sym c.in-Done.is ∙ c.solution_draft.ensures.answer)) c.solution_draft.ensures.working.1.0 _ c.solution_draft.ensures.working.1.1 c.flat-q.ensures refl c.if-out-q.false, (c.solution_draft.ensures.working.0, ap (λ (n : ℕ). replicate n 0) c.solution_draft.auto.draft)) in record { answer = r.0; working = r.1; body = r.2 }
+returns-else-out-q c = record { answer = solution-done _ _ _ _ _ (made _ _ _ _ (sym c.in-Done.is ∙ c.solution_draft.ensures.answer)) c.solution_draft.ensures.body _ c.solution_draft.ensures.params c.flat-q.ensures refl c.if-out-q.false; working = c.solution_draft.ensures.working; body = ap (λ (n : ℕ). replicate n 0) c.solution_draft.auto.draft }

@@ -54,5 +54,5 @@ returns-in-31 c = function-told 31 c.in-31.is (omega arith) (omega arith) c.byte
 -- src/callee.rt:64:1
 pub returns-in_default : goal.returns-in_default
 returns-in_default c =
-    let r = c.in_default.rest in
+    let r = c.in_default.in_default-own.rest in
     function-none _ λ low high. omega (arith, high, next (next (next (next (next (next (next (next (next c.requires r.0.0.0.0.0.0.0.0.1) r.0.0.0.0.0.0.0.1) r.0.0.0.0.0.0.1) r.0.0.0.0.0.1) r.0.0.0.0.1) r.0.0.0.1) r.0.0.1) r.0.1) r.1)

@@ -49,5 +49,5 @@ returns-in-16 c = function-told 16 c.in-16.is (omega arith) (omega arith) c.byte
 -- src/callee.rt:30:1
 pub returns-in_default : goal.returns-in_default
 returns-in_default c =
-    let r = c.in_default.rest in
+    let r = c.in_default.in_default-own.rest in
     function-none _ λ low high. omega (arith, c.requires, next (next (next (next (next (next (next (next (low) r.0.0.0.0.0.0.0.1) r.0.0.0.0.0.0.1) r.0.0.0.0.0.1) r.0.0.0.0.1) r.0.0.0.1) r.0.0.1) r.0.1) r.1)

@@ -36,6 +36,6 @@ returns-in-21 c = function-told 21 c.in-21.is (omega arith) (omega arith) c.byte
 pub returns-in_default : goal.returns-in_default
 unfolding bit_vectors theory
 returns-in_default c =
-    let r = c.in_default.rest in
-    let low : 22 ≤ c.args.k = next (next (next (next (next c.requires.0 r.0.0.0.0.1) r.0.0.0.1) r.0.0.1) r.0.1) r.1 in
-    function-told 22 (omega (arith, low, c.requires.1)) (omega arith) (omega arith) c.bytes-in_default.ensures
+    let r = c.in_default.in_default-own.rest in
+    let low : 22 ≤ c.args.k = next (next (next (next (next c.requires.le_k r.0.0.0.0.1) r.0.0.0.1) r.0.0.1) r.0.1) r.1 in
+    function-told 22 (omega (arith, low, c.requires.k_bound)) (omega arith) (omega arith) c.bytes-in_default.ensures

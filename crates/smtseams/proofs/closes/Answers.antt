@@ -3,6 +3,7 @@ use Rattle.nodes.specs.declared.kind.Node.{Node}
 use Rattle.smtseams.specs.Seams.{node_closes}
 use Rattle.smtseams.proofs.Rest.{rest-closes}
 use borrow.Author.Rules.{rules}
+use borrow.Enum.Refused.{opened}
 use Rattle.smtseams.proofs.closes.Goals as goal
 
 pub returns-in-Num : goal.returns-in-Num

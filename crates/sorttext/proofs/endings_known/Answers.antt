@@ -10,10 +10,7 @@ pub endings-requires : goal.endings-requires
 endings-requires c = (c.requires.0, omega arith)
 
 pub returns-then-rest-eq0 : goal.returns-then-rest-eq0
-returns-then-rest-eq0 c = let r = (c.endings.ensures.room, (λ cs w e o. c.endings.ensures.lists.0 cs w, λ cs w e o. c.endings.ensures.lists.1 cs w e)) in record { room = r.0; lists = r.1; known = r.2 }
+returns-then-rest-eq0 c = record { room = c.endings.ensures.room; lists = λ cs w e o. c.endings.ensures.lists cs w; known = λ cs w e o. c.endings.ensures.known cs w e }
 
 pub returns : goal.returns
-returns c = record { room = (c.requires.0, omega (arith, c.standing-rest.ensures.few, c.requires.1)); lists = (
-    λ cs w e o. standing-count _ _ _ cs e o c.standing-rest.ensures.lists c.if-rest-eq0.false,
-    λ cs w e o. rw c.standing-rest.ensures.lists (standing-known _ _ _ cs e o),
-  ); known =  }
+returns c = record { room = (c.requires.0, omega (arith, c.standing-rest.ensures.few, c.requires.1)); lists = λ cs w e o. standing-count _ _ _ cs e o c.standing-rest.ensures.lists c.if-rest-eq0.false; known = λ cs w e o. rw c.standing-rest.ensures.lists (standing-known _ _ _ cs e o) }

@@ -14,6 +14,7 @@ use Rattle.sorttext.proofs.EndTexts.{size-some, size_few}
 use Rattle.smtlevels.proofs.Levels.{within_as}
 use Rattle.sorttext.proofs.SortLoop.{State, state_start, state_inside, state_few, state_end, state_put, state_gone, state_past, state_into, state_as}
 use Rattle.sorttext.proofs.sort.Goals as goal
+use Rattle.sorttext.proofs.sort.Goals.{then-n-eq0, else-n-eq0}
 
 pub loop-left-init : goal.loop-left-init
 loop-left-init c =
@@ -47,24 +48,24 @@ loop-left-smaller c = omega (arith, c.size-a.ensures, size-some c.sort_at-node.r
 pub loop-left-preserved : goal.loop-left-preserved
 loop-left-preserved c =
     let f = piece_put c.opened.ensures c.in-To.is in
-    ⊎_elim
-    (λ v. (
-      ap length v.7 ∙ v.4.kept.1.1.0 ∙ c.opened.auto.out ∙ c.loop-left.invariant.0,
-      within_as v.9 v.10 v.2.ensures.0,
-      λ limit s n e.
-          state_as v.7 v.8 v.9 v.10
-          (state_past (c.loop-left.invariant.2 limit s n e) c.loop-left-test.true c.sort_at-node.ensures f c.count-n.ensures v.0.taken c.size-a.ensures
-          (λ cs w t o. v.4.ensures cs (v.2.ensures.1.0 cs w t o) t)
-          v.2.ensures.1.1),
-    ))
-    (λ v. (
-      ap length v.3 ∙ c.opened.auto.out ∙ c.loop-left.invariant.0,
-      within_as v.5 v.6 v.2.ensures.0,
-      λ limit s n e.
-          state_as v.3 v.4 v.5 v.6
-          (state_into (c.loop-left.invariant.2 limit s n e) c.loop-left-test.true c.sort_at-node.ensures f c.count-n.ensures v.0.left c.size-a.ensures v.2.ensures.1),
-    ))
-    c.if-n-eq0.branch
+    elim c.if-n-eq0.branch [
+      | then-n-eq0 w ↦ (
+        ap length w.out-is ∙ w.ended-p.auto.out ∙ c.opened.auto.out ∙ c.loop-left.invariant.0,
+        within_as w.bases-is w.known-is w.endings_known-e.ensures.room,
+        λ limit s n e.
+            state_as w.out-is w.p-is w.bases-is w.known-is
+            (state_past (c.loop-left.invariant.2 limit s n e) c.loop-left-test.true c.sort_at-node.ensures f c.count-n.ensures w.if-n-eq0.true c.size-a.ensures
+            (λ cs v t o. w.ended-p.ensures cs (w.endings_known-e.ensures.lists cs v t o) t)
+            w.endings_known-e.ensures.known),
+      )
+      | else-n-eq0 w ↦ (
+        ap length w.out-is ∙ c.opened.auto.out ∙ c.loop-left.invariant.0,
+        within_as w.bases-is w.known-is w.entered-known.ensures.room,
+        λ limit s n e.
+            state_as w.out-is w.p-is w.bases-is w.known-is
+            (state_into (c.loop-left.invariant.2 limit s n e) c.loop-left-test.true c.sort_at-node.ensures f c.count-n.ensures w.if-n-eq0.false c.size-a.ensures w.entered-known.ensures.lists),
+      )
+    ]
 
 pub returns-in-No : goal.returns-in-No
 returns-in-No c limit s n e = gone-told (state_gone (c.loop-left.invariant.2 limit s n e) c.loop-left-test.true c.sort_at-node.ensures (piece_gone c.opened.ensures c.in-No.is))

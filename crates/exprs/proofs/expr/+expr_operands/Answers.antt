@@ -1,90 +1,54 @@
 use Rattle.scopes.proofs.Frame.{kept_same, kept_then}
-use Rattle.scopes.specs.Scopes.{Kept}
 use Rattle.reading.proofs.TreeHead.{tree-two}
 use Rattle.places.proofs.Spots.{spot-within}
-use Rattle.exprs.proofs.Steps.{as_stop, as_leaf, as_run, run_row, run-refused, last_end, last-spot, last-here, last_done, run_twice, run-done, late_room, late_kept, inside-kept, Going, progress_start, progress_end, progress_short, next-spot, next_here, progress_refused, progress_more}
-use Rattle.plans.specs.Plans.{Row}
-use Rattle.std.proofs.Common.{◌≡◌, ℕ, ◌+◌, ◌-◌, ◌*◌, ◌<◌, length, sym, refl, ◌∙◌, arith, rules}
+use Rattle.exprs.proofs.Steps.{as_stop, as_leaf, as_run, run_row, run-refused, last_end, last-spot, last-here, last_done, run_twice, run-done, late_room, late_kept, inside-kept, progress_start, progress_end, progress_short, next-spot, next_here, progress_refused, progress_more}
+use Rattle.std.proofs.Common.{◌<◌, sym, refl, ◌∙◌, arith, rules}
 use Rattle.exprs.proofs.expr.+expr_operands.Goals as goal
 
-abbrev μ-expr : Measures 4 expr-kinds.ps ℕ
-μ-expr κs a = 2 * (length a.1.0.now - a.1.1.0)
-
-abbrev μ-operands : Measures 4 operands-kinds.ps ℕ
-μ-operands κs a = 2 * (length a.1.0.now - a.1.1.0) + 1
-
-abbrev expr-at : ℕ → In 4 expr-kinds.ps
-expr-at t = and 4 expr-kinds.ps (is 4 expr-kinds.ps μ-expr t) expr.Pre
-
-abbrev expr-below : ℕ → In 4 expr-kinds.ps
-expr-below t = and 4 expr-kinds.ps (falls 4 expr-kinds.ps ◌<◌ μ-expr t) expr.Pre
-
-abbrev operands-at : ℕ → In 4 operands-kinds.ps
-operands-at t = and 4 operands-kinds.ps (is 4 operands-kinds.ps μ-operands t) operands.Pre
-
-abbrev operands-below : ℕ → In 4 operands-kinds.ps
-operands-below t =
-    and 4 operands-kinds.ps (falls 4 operands-kinds.ps ◌<◌ μ-operands t) operands.Pre
-
--- what expr goes by, of the functions that it calls
-abbrev expr-claims : ℕ → expr-lts.Claims
-expr-claims t = (planned-reads.Asked, planned-reads.Learnt, opened-reads.Asked, opened-reads.Learnt, operands-below t, operands.Post, reach-reads.Asked, reach-reads.Learnt, late-reads.Asked, late-reads.Learnt, expr-below t, expr.Post, long-to-length-reads.Asked, long-to-length-reads.Learnt, twice-reads.Asked, twice-reads.Learnt)
-
--- what operands goes by, of the functions that it calls
-abbrev operands-claims : ℕ → operands-lts.Claims
-operands-claims t = (through-reads.Asked, through-reads.Learnt, expr-below t, expr.Post, words-at-reads.Asked, words-at-reads.Learnt)
-
-abbrev operands-Inv-loop : operands-lts.invariant-loop
-operands-Inv-loop text tree at have want scopes₀ depth count next out₀ w i₀ p₀ n₀ v₀ scopes out i p n v =
-    (length out ≡ length out₀) × (length scopes ≡ length scopes₀) × (Kept scopes₀ scopes depth) × ((h : Row text tree at have scopes₀ depth w next) → Going text count tree at have want scopes₀ depth w next h out₀ out i p n v)
-
-abbrev operands-μ-loop : operands-lts.decreases-loop
-operands-μ-loop text tree at have want scopes₀ depth count next out₀ w i₀ p₀ n₀ v₀ scopes out i p n v = want - i
-
 pub expr-planned-requires : goal.expr-planned-requires
-expr-planned-requires t c = c.requires.1
+expr-planned-requires t c = c.requires
 
 pub expr-opened-inner-requires : goal.expr-opened-inner-requires
 expr-opened-inner-requires t c =
-    let x = (as_run c.args.text.now c.args.count c.args.tree.now c.args.at c.args.scopes.now c.args.depth c.args.w c.args.next c.requires.1 c.args.out.now c.planned.new.out c.in-Go.is (c.planned.ensures c.requires.1)) in
-    omega (arith, x.shallow, c.requires.1.long)
+    let x = (as_run c.args.text.now c.args.count c.args.tree.now c.args.at c.args.scopes.now c.args.depth c.args.w c.args.next c.requires c.args.out.now c.planned.new.out c.in-Go.is (c.planned.ensures c.requires)) in
+    omega (arith, x.shallow, c.requires.long)
 
 pub expr-overflow_add-next : goal.expr-overflow_add-next
 expr-overflow_add-next t c =
-    let x = (as_run c.args.text.now c.args.count c.args.tree.now c.args.at c.args.scopes.now c.args.depth c.args.w c.args.next c.requires.1 c.args.out.now c.planned.new.out c.in-Go.is (c.planned.ensures c.requires.1)) in
-    omega (arith, x.room, c.requires.1.room)
+    let x = (as_run c.args.text.now c.args.count c.args.tree.now c.args.at c.args.scopes.now c.args.depth c.args.w c.args.next c.requires c.args.out.now c.planned.new.out c.in-Go.is (c.planned.ensures c.requires)) in
+    omega (arith, x.room, c.requires.room)
 
 pub expr-operands-requires : goal.expr-operands-requires
 expr-operands-requires t c =
-    let x = (as_run c.args.text.now c.args.count c.args.tree.now c.args.at c.args.scopes.now c.args.depth c.args.w c.args.next c.requires.1 c.args.out.now c.planned.new.out c.in-Go.is (c.planned.ensures c.requires.1)) in
-    (omega (arith, c.requires.0, x.beyond, spot-within c.requires.1.spot, tree-two c.requires.1.spot.tree), run_row c.args.text.now c.args.count c.args.tree.now c.args.at c.args.scopes.now c.args.depth c.args.w c.args.next c.requires.1 c.args.out.now c.planned.new.out _ x c.opened-inner.new.scopes c.opened-inner.result c.opened-inner.ensures.0 c.opened-inner.ensures.1)
+    let x = (as_run c.args.text.now c.args.count c.args.tree.now c.args.at c.args.scopes.now c.args.depth c.args.w c.args.next c.requires c.args.out.now c.planned.new.out c.in-Go.is (c.planned.ensures c.requires)) in
+    (omega (arith, c.decreases, x.beyond, spot-within c.requires.spot, tree-two c.requires.spot.tree), run_row c.args.text.now c.args.count c.args.tree.now c.args.at c.args.scopes.now c.args.depth c.args.w c.args.next c.requires c.args.out.now c.planned.new.out _ x c.opened-inner.new.scopes c.opened-inner.result c.opened-inner.ensures.0 c.opened-inner.ensures.1)
 
 pub expr-reach-q-requires : goal.expr-reach-q-requires
 expr-reach-q-requires t c =
-    let x = (as_run c.args.text.now c.args.count c.args.tree.now c.args.at c.args.scopes.now c.args.depth c.args.w c.args.next c.requires.1 c.args.out.now c.planned.new.out c.in-Go.is (c.planned.ensures c.requires.1)) in
-    let row = run_row c.args.text.now c.args.count c.args.tree.now c.args.at c.args.scopes.now c.args.depth c.args.w c.args.next c.requires.1 c.args.out.now c.planned.new.out _ x c.opened-inner.new.scopes c.opened-inner.result c.opened-inner.ensures.0 c.opened-inner.ensures.1 in
+    let x = (as_run c.args.text.now c.args.count c.args.tree.now c.args.at c.args.scopes.now c.args.depth c.args.w c.args.next c.requires c.args.out.now c.planned.new.out c.in-Go.is (c.planned.ensures c.requires)) in
+    let row = run_row c.args.text.now c.args.count c.args.tree.now c.args.at c.args.scopes.now c.args.depth c.args.w c.args.next c.requires c.args.out.now c.planned.new.out _ x c.opened-inner.new.scopes c.opened-inner.result c.opened-inner.ensures.0 c.opened-inner.ensures.1 in
     let y = c.operands.ensures.1 row in
-    last-spot c.args.text.now c.args.count c.args.tree.now c.args.at c.args.scopes.now c.args.depth c.args.w c.args.next c.requires.1 c.args.out.now c.planned.new.out _ x c.opened-inner.new.scopes c.opened-inner.result c.opened-inner.ensures.0 c.opened-inner.ensures.1 y c.in-Done.is x.room (last_end c.args.text.now c.args.count c.args.tree.now c.args.at c.args.scopes.now c.args.depth c.args.w c.args.next c.requires.1 c.args.out.now c.planned.new.out _ x c.opened-inner.new.scopes c.opened-inner.result c.opened-inner.ensures.0 c.opened-inner.ensures.1 y c.in-Done.is x.room c.if-run-ne0.true)
+    last-spot c.args.text.now c.args.count c.args.tree.now c.args.at c.args.scopes.now c.args.depth c.args.w c.args.next c.requires c.args.out.now c.planned.new.out _ x c.opened-inner.new.scopes c.opened-inner.result c.opened-inner.ensures.0 c.opened-inner.ensures.1 y c.in-Done.is x.room (last_end c.args.text.now c.args.count c.args.tree.now c.args.at c.args.scopes.now c.args.depth c.args.w c.args.next c.requires c.args.out.now c.planned.new.out _ x c.opened-inner.new.scopes c.opened-inner.result c.opened-inner.ensures.0 c.opened-inner.ensures.1 y c.in-Done.is x.room c.if-run-ne0.true)
 
 pub expr-overflow_add-w : goal.expr-overflow_add-w
-expr-overflow_add-w t c = omega (arith, c.requires.1.room)
+expr-overflow_add-w t c = omega (arith, c.requires.room)
 
 pub expr-late-deep-requires : goal.expr-late-deep-requires
 expr-late-deep-requires t c =
-    let x = (as_run c.args.text.now c.args.count c.args.tree.now c.args.at c.args.scopes.now c.args.depth c.args.w c.args.next c.requires.1 c.args.out.now c.planned.new.out c.in-Go.is (c.planned.ensures c.requires.1)) in
-    let row = run_row c.args.text.now c.args.count c.args.tree.now c.args.at c.args.scopes.now c.args.depth c.args.w c.args.next c.requires.1 c.args.out.now c.planned.new.out _ x c.opened-inner.new.scopes c.opened-inner.result c.opened-inner.ensures.0 c.opened-inner.ensures.1 in
+    let x = (as_run c.args.text.now c.args.count c.args.tree.now c.args.at c.args.scopes.now c.args.depth c.args.w c.args.next c.requires c.args.out.now c.planned.new.out c.in-Go.is (c.planned.ensures c.requires)) in
+    let row = run_row c.args.text.now c.args.count c.args.tree.now c.args.at c.args.scopes.now c.args.depth c.args.w c.args.next c.requires c.args.out.now c.planned.new.out _ x c.opened-inner.new.scopes c.opened-inner.result c.opened-inner.ensures.0 c.opened-inner.ensures.1 in
     let y = c.operands.ensures.1 row in
-    let e = last_end c.args.text.now c.args.count c.args.tree.now c.args.at c.args.scopes.now c.args.depth c.args.w c.args.next c.requires.1 c.args.out.now c.planned.new.out _ x c.opened-inner.new.scopes c.opened-inner.result c.opened-inner.ensures.0 c.opened-inner.ensures.1 y c.in-Done.is x.room c.if-run-ne0.true in
-    late_room c.args.text.now c.args.count c.args.tree.now c.args.at c.args.scopes.now c.args.depth c.args.w c.args.next c.requires.1 c.args.out.now c.planned.new.out _ x c.opened-inner.new.scopes c.opened-inner.result c.opened-inner.ensures.0 c.opened-inner.ensures.1 y c.in-Done.is x.room e _ c.operands.auto.scopes
+    let e = last_end c.args.text.now c.args.count c.args.tree.now c.args.at c.args.scopes.now c.args.depth c.args.w c.args.next c.requires c.args.out.now c.planned.new.out _ x c.opened-inner.new.scopes c.opened-inner.result c.opened-inner.ensures.0 c.opened-inner.ensures.1 y c.in-Done.is x.room c.if-run-ne0.true in
+    late_room c.args.text.now c.args.count c.args.tree.now c.args.at c.args.scopes.now c.args.depth c.args.w c.args.next c.requires c.args.out.now c.planned.new.out _ x c.opened-inner.new.scopes c.opened-inner.result c.opened-inner.ensures.0 c.opened-inner.ensures.1 y c.in-Done.is x.room e _ c.operands.auto.scopes
 
 pub expr-expr-requires : goal.expr-expr-requires
 expr-expr-requires t c =
-    let x = (as_run c.args.text.now c.args.count c.args.tree.now c.args.at c.args.scopes.now c.args.depth c.args.w c.args.next c.requires.1 c.args.out.now c.planned.new.out c.in-Go.is (c.planned.ensures c.requires.1)) in
-    let row = run_row c.args.text.now c.args.count c.args.tree.now c.args.at c.args.scopes.now c.args.depth c.args.w c.args.next c.requires.1 c.args.out.now c.planned.new.out _ x c.opened-inner.new.scopes c.opened-inner.result c.opened-inner.ensures.0 c.opened-inner.ensures.1 in
+    let x = (as_run c.args.text.now c.args.count c.args.tree.now c.args.at c.args.scopes.now c.args.depth c.args.w c.args.next c.requires c.args.out.now c.planned.new.out c.in-Go.is (c.planned.ensures c.requires)) in
+    let row = run_row c.args.text.now c.args.count c.args.tree.now c.args.at c.args.scopes.now c.args.depth c.args.w c.args.next c.requires c.args.out.now c.planned.new.out _ x c.opened-inner.new.scopes c.opened-inner.result c.opened-inner.ensures.0 c.opened-inner.ensures.1 in
     let y = c.operands.ensures.1 row in
-    let e = last_end c.args.text.now c.args.count c.args.tree.now c.args.at c.args.scopes.now c.args.depth c.args.w c.args.next c.requires.1 c.args.out.now c.planned.new.out _ x c.opened-inner.new.scopes c.opened-inner.result c.opened-inner.ensures.0 c.opened-inner.ensures.1 y c.in-Done.is x.room c.if-run-ne0.true in
-    let k = c.reach-q.ensures (last-spot c.args.text.now c.args.count c.args.tree.now c.args.at c.args.scopes.now c.args.depth c.args.w c.args.next c.requires.1 c.args.out.now c.planned.new.out _ x c.opened-inner.new.scopes c.opened-inner.result c.opened-inner.ensures.0 c.opened-inner.ensures.1 y c.in-Done.is x.room e) in
-    (omega (arith, c.requires.0, e.place.beyond, k.forward, spot-within k.spot, tree-two k.spot.tree), last-here c.args.text.now c.args.count c.args.tree.now c.args.at c.args.scopes.now c.args.depth c.args.w c.args.next c.requires.1 c.args.out.now c.planned.new.out _ x c.opened-inner.new.scopes c.opened-inner.result c.opened-inner.ensures.0 c.opened-inner.ensures.1 y c.in-Done.is x.room e k c.operands.ensures.0 c.operands.auto.scopes c.late-deep.ensures.0 c.late-deep.ensures.2 c.late-deep.ensures.3)
+    let e = last_end c.args.text.now c.args.count c.args.tree.now c.args.at c.args.scopes.now c.args.depth c.args.w c.args.next c.requires c.args.out.now c.planned.new.out _ x c.opened-inner.new.scopes c.opened-inner.result c.opened-inner.ensures.0 c.opened-inner.ensures.1 y c.in-Done.is x.room c.if-run-ne0.true in
+    let k = c.reach-q.ensures (last-spot c.args.text.now c.args.count c.args.tree.now c.args.at c.args.scopes.now c.args.depth c.args.w c.args.next c.requires c.args.out.now c.planned.new.out _ x c.opened-inner.new.scopes c.opened-inner.result c.opened-inner.ensures.0 c.opened-inner.ensures.1 y c.in-Done.is x.room e) in
+    (omega (arith, c.decreases, e.place.beyond, k.forward, spot-within k.spot, tree-two k.spot.tree), last-here c.args.text.now c.args.count c.args.tree.now c.args.at c.args.scopes.now c.args.depth c.args.w c.args.next c.requires c.args.out.now c.planned.new.out _ x c.opened-inner.new.scopes c.opened-inner.result c.opened-inner.ensures.0 c.opened-inner.ensures.1 y c.in-Done.is x.room e k c.operands.ensures.0 c.operands.auto.scopes c.late-deep.ensures.0 c.late-deep.ensures.2 c.late-deep.ensures.3)
 
 pub expr-shape_of-scopes-then-run-ne0 : goal.expr-shape_of-scopes-then-run-ne0
 expr-shape_of-scopes-then-run-ne0 t c = omega (arith, c.expr.auto.scopes, c.late-deep.auto.scopes, c.operands.auto.scopes, c.opened-inner.auto.scopes)
@@ -94,8 +58,8 @@ expr-shape_of-out-then-run-ne0 t c = omega (arith, c.expr.auto.out, c.late-deep.
 
 pub expr-returns-then-run-ne0 : goal.expr-returns-then-run-ne0
 expr-returns-then-run-ne0 t c = (
-  let x = (as_run c.args.text.now c.args.count c.args.tree.now c.args.at c.args.scopes.now c.args.depth c.args.w c.args.next c.requires.1 c.args.out.now c.planned.new.out c.in-Go.is (c.planned.ensures c.requires.1)) in
-      inside-kept c.args.text.now c.args.count c.args.tree.now c.args.at c.args.scopes.now c.args.depth c.args.w c.args.next c.requires.1 c.args.out.now c.planned.new.out _ x c.opened-inner.new.scopes c.opened-inner.result c.opened-inner.ensures.0 c.opened-inner.ensures.1 (kept_then c.operands.ensures.0 (late_kept _ _ c.late-deep.ensures.0 c.late-deep.ensures.2 c.expr.ensures.0)),
+  let x = (as_run c.args.text.now c.args.count c.args.tree.now c.args.at c.args.scopes.now c.args.depth c.args.w c.args.next c.requires c.args.out.now c.planned.new.out c.in-Go.is (c.planned.ensures c.requires)) in
+      inside-kept c.args.text.now c.args.count c.args.tree.now c.args.at c.args.scopes.now c.args.depth c.args.w c.args.next c.requires c.args.out.now c.planned.new.out _ x c.opened-inner.new.scopes c.opened-inner.result c.opened-inner.ensures.0 c.opened-inner.ensures.1 (kept_then c.operands.ensures.0 (late_kept _ _ c.late-deep.ensures.0 c.late-deep.ensures.2 c.expr.ensures.0)),
   λ h.
       (let x = (as_run c.args.text.now c.args.count c.args.tree.now c.args.at c.args.scopes.now c.args.depth c.args.w c.args.next h c.args.out.now c.planned.new.out c.in-Go.is (c.planned.ensures h)) in
       let row = run_row c.args.text.now c.args.count c.args.tree.now c.args.at c.args.scopes.now c.args.depth c.args.w c.args.next h c.args.out.now c.planned.new.out _ x c.opened-inner.new.scopes c.opened-inner.result c.opened-inner.ensures.0 c.opened-inner.ensures.1 in
@@ -107,7 +71,7 @@ expr-returns-then-run-ne0 t c = (
 
 pub expr-twice-requires : goal.expr-twice-requires
 expr-twice-requires t c =
-    let x = (as_run c.args.text.now c.args.count c.args.tree.now c.args.at c.args.scopes.now c.args.depth c.args.w c.args.next c.requires.1 c.args.out.now c.planned.new.out c.in-Go.is (c.planned.ensures c.requires.1)) in
+    let x = (as_run c.args.text.now c.args.count c.args.tree.now c.args.at c.args.scopes.now c.args.depth c.args.w c.args.next c.requires c.args.out.now c.planned.new.out c.in-Go.is (c.planned.ensures c.requires)) in
     rw c.long_to_length.ensures x.bind
 
 pub expr-shape_of-out-then-twice : goal.expr-shape_of-out-then-twice
@@ -115,8 +79,8 @@ expr-shape_of-out-then-twice t c = omega (arith, c.operands.auto.out, c.planned.
 
 pub expr-returns-then-twice : goal.expr-returns-then-twice
 expr-returns-then-twice t c = (
-  let x = (as_run c.args.text.now c.args.count c.args.tree.now c.args.at c.args.scopes.now c.args.depth c.args.w c.args.next c.requires.1 c.args.out.now c.planned.new.out c.in-Go.is (c.planned.ensures c.requires.1)) in
-      inside-kept c.args.text.now c.args.count c.args.tree.now c.args.at c.args.scopes.now c.args.depth c.args.w c.args.next c.requires.1 c.args.out.now c.planned.new.out _ x c.opened-inner.new.scopes c.opened-inner.result c.opened-inner.ensures.0 c.opened-inner.ensures.1 c.operands.ensures.0,
+  let x = (as_run c.args.text.now c.args.count c.args.tree.now c.args.at c.args.scopes.now c.args.depth c.args.w c.args.next c.requires c.args.out.now c.planned.new.out c.in-Go.is (c.planned.ensures c.requires)) in
+      inside-kept c.args.text.now c.args.count c.args.tree.now c.args.at c.args.scopes.now c.args.depth c.args.w c.args.next c.requires c.args.out.now c.planned.new.out _ x c.opened-inner.new.scopes c.opened-inner.result c.opened-inner.ensures.0 c.opened-inner.ensures.1 c.operands.ensures.0,
   λ h.
       (let x = (as_run c.args.text.now c.args.count c.args.tree.now c.args.at c.args.scopes.now c.args.depth c.args.w c.args.next h c.args.out.now c.planned.new.out c.in-Go.is (c.planned.ensures h)) in
       let row = run_row c.args.text.now c.args.count c.args.tree.now c.args.at c.args.scopes.now c.args.depth c.args.w c.args.next h c.args.out.now c.planned.new.out _ x c.opened-inner.new.scopes c.opened-inner.result c.opened-inner.ensures.0 c.opened-inner.ensures.1 in
@@ -140,8 +104,8 @@ expr-returns-in-Leaf t c = (
 
 pub expr-returns-in-Refused : goal.expr-returns-in-Refused
 expr-returns-in-Refused t c = (
-  let x = (as_run c.args.text.now c.args.count c.args.tree.now c.args.at c.args.scopes.now c.args.depth c.args.w c.args.next c.requires.1 c.args.out.now c.planned.new.out c.in-Go.is (c.planned.ensures c.requires.1)) in
-      inside-kept c.args.text.now c.args.count c.args.tree.now c.args.at c.args.scopes.now c.args.depth c.args.w c.args.next c.requires.1 c.args.out.now c.planned.new.out _ x c.opened-inner.new.scopes c.opened-inner.result c.opened-inner.ensures.0 c.opened-inner.ensures.1 c.operands.ensures.0,
+  let x = (as_run c.args.text.now c.args.count c.args.tree.now c.args.at c.args.scopes.now c.args.depth c.args.w c.args.next c.requires c.args.out.now c.planned.new.out c.in-Go.is (c.planned.ensures c.requires)) in
+      inside-kept c.args.text.now c.args.count c.args.tree.now c.args.at c.args.scopes.now c.args.depth c.args.w c.args.next c.requires c.args.out.now c.planned.new.out _ x c.opened-inner.new.scopes c.opened-inner.result c.opened-inner.ensures.0 c.opened-inner.ensures.1 c.operands.ensures.0,
   λ h.
       (let x = (as_run c.args.text.now c.args.count c.args.tree.now c.args.at c.args.scopes.now c.args.depth c.args.w c.args.next h c.args.out.now c.planned.new.out c.in-Go.is (c.planned.ensures h)) in
       let row = run_row c.args.text.now c.args.count c.args.tree.now c.args.at c.args.scopes.now c.args.depth c.args.w c.args.next h c.args.out.now c.planned.new.out _ x c.opened-inner.new.scopes c.opened-inner.result c.opened-inner.ensures.0 c.opened-inner.ensures.1 in
@@ -154,8 +118,8 @@ expr-shape_of-out-else-twice t c = omega (arith, c.operands.auto.out, c.planned.
 
 pub expr-returns-else-twice : goal.expr-returns-else-twice
 expr-returns-else-twice t c = (
-  let x = (as_run c.args.text.now c.args.count c.args.tree.now c.args.at c.args.scopes.now c.args.depth c.args.w c.args.next c.requires.1 c.args.out.now c.planned.new.out c.in-Go.is (c.planned.ensures c.requires.1)) in
-      inside-kept c.args.text.now c.args.count c.args.tree.now c.args.at c.args.scopes.now c.args.depth c.args.w c.args.next c.requires.1 c.args.out.now c.planned.new.out _ x c.opened-inner.new.scopes c.opened-inner.result c.opened-inner.ensures.0 c.opened-inner.ensures.1 c.operands.ensures.0,
+  let x = (as_run c.args.text.now c.args.count c.args.tree.now c.args.at c.args.scopes.now c.args.depth c.args.w c.args.next c.requires c.args.out.now c.planned.new.out c.in-Go.is (c.planned.ensures c.requires)) in
+      inside-kept c.args.text.now c.args.count c.args.tree.now c.args.at c.args.scopes.now c.args.depth c.args.w c.args.next c.requires c.args.out.now c.planned.new.out _ x c.opened-inner.new.scopes c.opened-inner.result c.opened-inner.ensures.0 c.opened-inner.ensures.1 c.operands.ensures.0,
   λ h.
       (let x = (as_run c.args.text.now c.args.count c.args.tree.now c.args.at c.args.scopes.now c.args.depth c.args.w c.args.next h c.args.out.now c.planned.new.out c.in-Go.is (c.planned.ensures h)) in
       let row = run_row c.args.text.now c.args.count c.args.tree.now c.args.at c.args.scopes.now c.args.depth c.args.w c.args.next h c.args.out.now c.planned.new.out _ x c.opened-inner.new.scopes c.opened-inner.result c.opened-inner.ensures.0 c.opened-inner.ensures.1 in
@@ -176,13 +140,13 @@ operands-returns-then-have-i t c = (
 pub operands-through-q-requires : goal.operands-through-q-requires
 operands-through-q-requires t c =
     let e : c.loop-i.i < c.args.have = omega arith in
-    next-spot c.args.text.now c.args.count c.args.tree.now c.args.at c.args.have c.args.want c.args.scopes.now c.args.depth c.args.w c.args.next c.requires.1 c.args.out.now c.loop-i.out c.loop-i.i c.loop-i.p c.loop-i.n c.loop-i.v (c.loop-i.invariant.3 c.requires.1) c.loop-i-test.true e
+    next-spot c.args.text.now c.args.count c.args.tree.now c.args.at c.args.have c.args.want c.args.scopes.now c.args.depth c.args.w c.args.next c.requires c.args.out.now c.loop-i.out c.loop-i.i c.loop-i.p c.loop-i.n c.loop-i.v (c.loop-i.invariant.3 c.requires) c.loop-i-test.true e
 
 pub operands-expr-requires : goal.operands-expr-requires
 operands-expr-requires t c =
     let e : c.loop-i.i < c.args.have = omega arith in
-    let k = c.through-q.ensures (next-spot c.args.text.now c.args.count c.args.tree.now c.args.at c.args.have c.args.want c.args.scopes.now c.args.depth c.args.w c.args.next c.requires.1 c.args.out.now c.loop-i.out c.loop-i.i c.loop-i.p c.loop-i.n c.loop-i.v (c.loop-i.invariant.3 c.requires.1) c.loop-i-test.true e) in
-    (omega (arith, c.requires.0, (c.loop-i.invariant.3 c.requires.1).forward, k.forward, spot-within k.spot, tree-two k.spot.tree), next_here c.args.text.now c.args.count c.args.tree.now c.args.at c.args.have c.args.want c.args.scopes.now c.args.depth c.args.w c.args.next c.requires.1 c.args.out.now c.loop-i.out c.loop-i.i c.loop-i.p c.loop-i.n c.loop-i.v (c.loop-i.invariant.3 c.requires.1) c.loop-i-test.true e k c.loop-i.invariant.2 c.loop-i.invariant.1)
+    let k = c.through-q.ensures (next-spot c.args.text.now c.args.count c.args.tree.now c.args.at c.args.have c.args.want c.args.scopes.now c.args.depth c.args.w c.args.next c.requires c.args.out.now c.loop-i.out c.loop-i.i c.loop-i.p c.loop-i.n c.loop-i.v (c.loop-i.invariant.3 c.requires) c.loop-i-test.true e) in
+    (omega (arith, c.decreases, (c.loop-i.invariant.3 c.requires).forward, k.forward, spot-within k.spot, tree-two k.spot.tree), next_here c.args.text.now c.args.count c.args.tree.now c.args.at c.args.have c.args.want c.args.scopes.now c.args.depth c.args.w c.args.next c.requires c.args.out.now c.loop-i.out c.loop-i.i c.loop-i.p c.loop-i.n c.loop-i.v (c.loop-i.invariant.3 c.requires) c.loop-i-test.true e k c.loop-i.invariant.2 c.loop-i.invariant.1)
 
 pub operands-returns-in-Refused : goal.operands-returns-in-Refused
 operands-returns-in-Refused t c = (
@@ -196,13 +160,13 @@ operands-returns-in-Refused t c = (
 pub operands-words_at-p-requires : goal.operands-words_at-p-requires
 operands-words_at-p-requires t c =
     let e : c.loop-i.i < c.args.have = omega arith in
-    next-spot c.args.text.now c.args.count c.args.tree.now c.args.at c.args.have c.args.want c.args.scopes.now c.args.depth c.args.w c.args.next c.requires.1 c.args.out.now c.loop-i.out c.loop-i.i c.loop-i.p c.loop-i.n c.loop-i.v (c.loop-i.invariant.3 c.requires.1) c.loop-i-test.true e
+    next-spot c.args.text.now c.args.count c.args.tree.now c.args.at c.args.have c.args.want c.args.scopes.now c.args.depth c.args.w c.args.next c.requires c.args.out.now c.loop-i.out c.loop-i.i c.loop-i.p c.loop-i.n c.loop-i.v (c.loop-i.invariant.3 c.requires) c.loop-i-test.true e
 
 pub operands-overflow_add-p : goal.operands-overflow_add-p
 operands-overflow_add-p t c =
     let e : c.loop-i.i < c.args.have = omega arith in
-    let j = c.words_at-p.ensures (next-spot c.args.text.now c.args.count c.args.tree.now c.args.at c.args.have c.args.want c.args.scopes.now c.args.depth c.args.w c.args.next c.requires.1 c.args.out.now c.loop-i.out c.loop-i.i c.loop-i.p c.loop-i.n c.loop-i.v (c.loop-i.invariant.3 c.requires.1) c.loop-i-test.true e) in
-    omega (arith, j, spot-within (next-spot c.args.text.now c.args.count c.args.tree.now c.args.at c.args.have c.args.want c.args.scopes.now c.args.depth c.args.w c.args.next c.requires.1 c.args.out.now c.loop-i.out c.loop-i.i c.loop-i.p c.loop-i.n c.loop-i.v (c.loop-i.invariant.3 c.requires.1) c.loop-i-test.true e))
+    let j = c.words_at-p.ensures (next-spot c.args.text.now c.args.count c.args.tree.now c.args.at c.args.have c.args.want c.args.scopes.now c.args.depth c.args.w c.args.next c.requires c.args.out.now c.loop-i.out c.loop-i.i c.loop-i.p c.loop-i.n c.loop-i.v (c.loop-i.invariant.3 c.requires) c.loop-i-test.true e) in
+    omega (arith, j, spot-within (next-spot c.args.text.now c.args.count c.args.tree.now c.args.at c.args.have c.args.want c.args.scopes.now c.args.depth c.args.w c.args.next c.requires c.args.out.now c.loop-i.out c.loop-i.i c.loop-i.p c.loop-i.n c.loop-i.v (c.loop-i.invariant.3 c.requires) c.loop-i-test.true e))
 
 pub operands-loop-i-preserved : goal.operands-loop-i-preserved
 operands-loop-i-preserved t c =

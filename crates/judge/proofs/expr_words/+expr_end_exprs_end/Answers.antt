@@ -1,41 +1,7 @@
 use borrow.Author.Rules.{rules}
-use mathlib.Core.Path.{◌≡◌, sym, ◌∙◌}
-use Rattle.judging.specs.Ends.{end_of}
-use Rattle.judge.proofs.ReadExpr.{siblings, several-no, several-at, several-end, expr-full, expr-no, expr-operands, expr-arguments, expr-sort, expr-app}
-use Prim.Native.Nat.{ℕ, ◌<◌, ◌+◌, ◌*◌}
+use mathlib.Core.Path.{sym, ◌∙◌}
+use Rattle.judge.proofs.ReadExpr.{several-no, several-at, several-end, expr-full, expr-no, expr-operands, expr-arguments, expr-sort, expr-app}
 use Rattle.judge.proofs.expr_words.+expr_end_exprs_end.Goals as goal
-
-abbrev μ-expr-end : Measures 1 expr-end-kinds.ps ℕ
-μ-expr-end κs a = a.1.1.1.0 * 2
-
-abbrev μ-exprs-end : Measures 1 exprs-end-kinds.ps ℕ
-μ-exprs-end κs a = a.1.1.1.1.0 * 2 + 1
-
-abbrev expr-end-at : ℕ → In 1 expr-end-kinds.ps
-expr-end-at t = and 1 expr-end-kinds.ps (is 1 expr-end-kinds.ps μ-expr-end t) expr-end.Pre
-
-abbrev expr-end-below : ℕ → In 1 expr-end-kinds.ps
-expr-end-below t = and 1 expr-end-kinds.ps (falls 1 expr-end-kinds.ps ◌<◌ μ-expr-end t) expr-end.Pre
-
-abbrev exprs-end-at : ℕ → In 1 exprs-end-kinds.ps
-exprs-end-at t = and 1 exprs-end-kinds.ps (is 1 exprs-end-kinds.ps μ-exprs-end t) exprs-end.Pre
-
-abbrev exprs-end-below : ℕ → In 1 exprs-end-kinds.ps
-exprs-end-below t = and 1 exprs-end-kinds.ps (falls 1 exprs-end-kinds.ps ◌<◌ μ-exprs-end t) exprs-end.Pre
-
--- what expr-end goes by, of the functions that it calls
-abbrev expr-end-claims : ℕ → expr-end-lts.Claims
-expr-end-claims t = (no-room-reads.Asked, no-room-reads.Learnt, head-reads.Asked, head-reads.Learnt, exprs-end-below t, exprs-end.Post, out-sort-reads.Asked, out-sort-reads.Learnt, expr-end-below t, expr-end.Post)
-
--- what exprs-end goes by, of the functions that it calls
-abbrev exprs-end-claims : ℕ → exprs-end-lts.Claims
-exprs-end-claims t = (expr-end-below t, expr-end.Post)
-
-abbrev exprs-end-Inv-loop : exprs-end-lts.invariant-loop
-exprs-end-Inv-loop words at n limit room a₀ i₀ a i = end_of (siblings limit room n words at) ≡ end_of (siblings limit room i words a)
-
-abbrev exprs-end-μ-loop : exprs-end-lts.decreases-loop
-exprs-end-μ-loop words at n limit room a₀ i₀ a i = i
 
 pub expr_end-returns-then-room-eq0 : goal.expr_end-returns-then-room-eq0
 expr_end-returns-then-room-eq0 t c = expr-full _ _ _ _ c.if-room-eq0.true c.no_room.ensures

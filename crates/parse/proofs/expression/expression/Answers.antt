@@ -6,6 +6,4 @@ use borrow.Author.Rules.{rules}
 use Rattle.parse.proofs.expression.expression.Goals as goal
 
 pub returns : goal.returns
-returns c = let r =
-    let a = c.attempt-answer.ensures in
-    (c.close.ensures.answer ∙ a.answer, (c.close.ensures.working.0 ∙ ap (λ (m : ℕ). replicate m 0) c.attempt-answer.auto.tree, c.close.ensures.working.1 ∙ closed a c.attempt-answer.auto.out)) in record { answer = r.0; working = r.1; output = r.2 }
+returns c = let a = c.attempt-answer.ensures in record { answer = c.close.ensures.answer ∙ a.answer; working = c.close.ensures.working ∙ ap (λ (m : ℕ). replicate m 0) c.attempt-answer.auto.tree; output = c.close.ensures.output ∙ closed a c.attempt-answer.auto.out }

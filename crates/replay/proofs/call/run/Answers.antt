@@ -18,4 +18,4 @@ pub returns-in-66 : goal.returns-in-66
 returns-in-66 c = ran-bind c.args.op c.args.reader.next c.args.text.now c.args.tree.now c.args.draft.now c.args.out.now c.in-66.is c.bind.ensures
 
 pub returns-in_default : goal.returns-in_default
-returns-in_default c = let k = c.in_default.rest in ran-solution c.args.op c.args.reader.next c.args.text.now c.args.tree.now c.args.draft.now c.args.out.now k.0.0.0.0.1 k.0.0.0.1 k.0.0.1 k.0.1 k.1 c.solution.ensures
+returns-in_default c = let k = c.in_default.in_default-own.rest in ran-solution c.args.op c.args.reader.next c.args.text.now c.args.tree.now c.args.draft.now c.args.out.now k.0.0.0.0.1 k.0.0.0.1 k.0.0.1 k.0.1 k.1 c.solution.ensures

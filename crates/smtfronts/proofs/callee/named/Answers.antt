@@ -2,6 +2,7 @@ use mathlib.Core.Path.{refl, sym}
 use Rattle.smtnames.specs.Written.{tells, keeps}
 use Rattle.smtfronts.proofs.FrontsRest.{rest-callee}
 use borrow.Author.Rules.{rules}
+use borrow.Enum.Refused.{opened}
 use Rattle.smtfronts.proofs.callee.named.Goals as goal
 
 -- src/callee.rt:49:1
@@ -18,4 +19,4 @@ returns-in-Theory c = rw c.in-Theory.is c.function.ensures
 
 -- src/callee.rt:49:1
 pub returns-in_default : goal.returns-in_default
-returns-in_default c = rw (← rest-callee c.args.text.now c.args.node c.in_default.in_default-own.keys4) (keeps refl refl)
+returns-in_default c = rw (← rest-callee c.args.text.now c.args.node (opened c.in_default.in_default-own.keys4)) (keeps refl refl)

@@ -1,6 +1,7 @@
 use Rattle.smtfronts.proofs.FrontsRest.{rest-front}
 use Rattle.smtfronts.proofs.FrontsSteps.{front-never, front-exists, front-plain}
 use borrow.Author.Rules.{rules}
+use borrow.Enum.Refused.{opened}
 use Rattle.smtfronts.proofs.fronts.front.Goals as goal
 
 -- src/fronts.rt:226:17
@@ -13,4 +14,4 @@ returns-else-words-at c limit k a e f = front-exists limit _ _ _ k e f c.in-Exis
 
 -- src/fronts.rt:220:1
 pub returns-in_default : goal.returns-in_default
-returns-in_default c limit k a e f = front-plain limit _ _ _ k e f (λ m q. rest-front c.args.node m c.in_default.in_default-own.keys2 q) c.plain_front.ensures
+returns-in_default c limit k a e f = front-plain limit _ _ _ k e f (λ m q. rest-front c.args.node m (opened c.in_default.in_default-own.keys2) q) c.plain_front.ensures
