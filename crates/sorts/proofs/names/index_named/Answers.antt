@@ -24,3 +24,6 @@ slice_bounds-u64_of-count c = omega (arith, index-three c.args.name.now (sym c.b
 
 pub returns : goal.returns
 returns c = index_is _ (sym c.begins_with.ensures ∙ not-false _ (ap not c.if-not-begins_with.false)) c.if-name-end-ne41.false c.u64_of.ensures
+
+pub slice_bounds-u64_of-start : goal.slice_bounds-u64_of-start
+slice_bounds-u64_of-start c = omega (arith, index-three c.args.name.now (sym c.begins_with.ensures ∙ not-false _ (ap not c.if-not-begins_with.false)) c.if-name-end-ne41.false)

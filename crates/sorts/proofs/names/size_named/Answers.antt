@@ -17,3 +17,6 @@ slice_bounds-u32_of-count c = omega (arith, begins-length (ascii "Size") c.args.
 
 pub returns : goal.returns
 returns c = size_is _ (sym c.begins_with.ensures ∙ not-false _ (ap not c.if-not-begins_with.false)) c.u32_of.ensures
+
+pub slice_bounds-u32_of-start : goal.slice_bounds-u32_of-start
+slice_bounds-u32_of-start c = omega (arith, begins-length (ascii "Size") c.args.name.now (sym c.begins_with.ensures ∙ not-false _ (ap not c.if-not-begins_with.false)))
