@@ -236,7 +236,7 @@ list_sort-each_sort-requires t c =
 pub list_sort-overflow_add-w : goal.list_sort-overflow_add-w
 list_sort-overflow_add-w t c =
     let d = this-row t (goal.at.list_sort-overflow_add-w t c).In-Row in
-    omega (arith, c.requires.small, d.size, c.put_row-w.ensures.0, head-short c.in-Row.row (get_or c.args.tree.now 1 0 - 1), row-bound c.args.text.now 0 d.others (c.each_sort.ensures d.others d.part) c.in-Done.is)
+    omega (arith, c.requires.small, d.size, c.put_row-w.ensures.0, head-short c.in-Row.row (get_or c.args.tree.now 1 0 - 1), row-bound c.args.text.now _ d.others (c.each_sort.ensures d.others d.part) c.in-Done.is)
 
 pub list_sort-returns-in-Bad : goal.list_sort-returns-in-Bad
 list_sort-returns-in-Bad t c ts e =
