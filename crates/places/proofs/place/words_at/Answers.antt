@@ -11,6 +11,9 @@ offset_bounds-tree-at c = omega (arith, two-there c.requires)
 pub slice_bounds-node_words-count : goal.slice_bounds-node_words-count
 slice_bounds-node_words-count c = omega (arith, two-there c.requires)
 
+pub slice_bounds-node_words-start : goal.slice_bounds-node_words-start
+slice_bounds-node_words-start c = omega (arith, two-there c.requires)
+
 pub node_words-requires : goal.node_words-requires
 node_words-requires c = let p = c.requires in record { first = p.tree; rest = p.rest; words = tail c.args.tree.now c.args.at ∙ p.words }
 

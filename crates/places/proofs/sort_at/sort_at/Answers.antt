@@ -12,6 +12,9 @@ overflow_add-end c = omega (arith, (c.words_at.ensures c.requires.0.spot), spot-
 pub offset_bounds-tree-at : goal.offset_bounds-tree-at
 offset_bounds-tree-at c = omega (arith, two-there c.requires.0.spot)
 
+pub slice_bounds-sort-end : goal.slice_bounds-sort-end
+slice_bounds-sort-end c = omega (arith, (c.words_at.ensures c.requires.0.spot), spot-within c.requires.0.spot)
+
 pub sort-requires : goal.sort-requires
 sort-requires c =
     let p = c.requires.0 in

@@ -1,4 +1,4 @@
-use mathlib.Core.Path.{ap, refl}
+use mathlib.Core.Path.{ap}
 use Rattle.reading.specs.Answer.{got}
 use Rattle.reading.proofs.Bytes.{lookup-here, lookup-later, lookup-none}
 use Rattle.grammar.specs.Names.{one_sort}

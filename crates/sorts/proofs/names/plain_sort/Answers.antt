@@ -1,8 +1,4 @@
-use mathlib.Core.Path.{◌≡◌, refl}
-use lib.ListN.{drop}
-use Rattle.reading.specs.Bytes.{Maybe, lookup}
 use Rattle.reading.proofs.Bytes.{lookup-here, lookup-later, lookup-none}
-use Rattle.grammar.specs.Sort.{Sort}
 use Rattle.grammar.specs.Names.{plain_sorts}
 use Rattle.sorts.proofs.names.plain_sort.Goals as goal
 

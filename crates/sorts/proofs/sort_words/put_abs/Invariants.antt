@@ -1,11 +1,7 @@
 use Prim.Native.Nat.{◌-◌, ◌≤◌}
-use mathlib.Core.Path.{◌≡◌, refl, ap, ◌∙◌}
-use native.Mathlib.Omega.{arith}
-use lib.ListN.{length}
+use mathlib.Core.Path.{◌≡◌}
 use Rattle.reading.specs.Answer.{over}
-use Rattle.reading.proofs.Over.{over-length}
 use Rattle.sorts.specs.Rows.{abs_words}
-use Rattle.sorts.proofs.RowWords.{abs_next}
 use Rattle.sorts.proofs.sort_words.put_abs.Given as goal
 
 abbrev pub invariant-loop-i : goal.invariant-loop-i

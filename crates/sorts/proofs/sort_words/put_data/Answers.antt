@@ -1,7 +1,6 @@
 use mathlib.Core.Path.{refl}
 use mathlib.Core.List.{[], ◌∷◌}
 use Rattle.sorts.proofs.Lend.{over-stored}
-use borrow.Author.Rules.{rules}
 use Rattle.sorts.proofs.sort_words.put_data.Goals as goal
 
 pub returns : goal.returns

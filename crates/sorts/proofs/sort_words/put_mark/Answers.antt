@@ -1,7 +1,6 @@
 use mathlib.Core.Path.{refl}
 use native.Mathlib.Omega.{arith}
 use Rattle.sorts.proofs.RowWords.{mark-none, mark-some}
-use borrow.Author.Rules.{rules}
 use Rattle.sorts.proofs.sort_words.put_mark.Goals as goal
 
 pub returns-then-m-eq0 : goal.returns-then-m-eq0

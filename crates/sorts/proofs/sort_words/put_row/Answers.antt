@@ -1,4 +1,3 @@
-use borrow.Author.Rules.{rules}
 use Rattle.sorts.proofs.sort_words.put_row.Goals as goal
 
 pub returns-in-Function : goal.returns-in-Function

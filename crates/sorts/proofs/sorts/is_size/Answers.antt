@@ -4,7 +4,6 @@ use Rattle.sorts.specs.SortNames.{width_in}
 use Rattle.grammar.specs.ParseSort.{size_named}
 use Rattle.sorts.specs.Rows.{is_got}
 use Rattle.sorts.proofs.NamedSorts.{size-other, size-short, size-told}
-use borrow.Author.Rules.{rules}
 use Rattle.sorts.proofs.sorts.is_size.Goals as goal
 
 pub returns-then-items-lt3 : goal.returns-then-items-lt3

@@ -2,7 +2,6 @@ use mathlib.Core.Path.{◌∙◌}
 use native.Mathlib.Omega.{arith}
 use Rattle.reading.proofs.TreeHead.{list-first, list-none, list-three}
 use Rattle.sorts.proofs.ListForms.{form-none, form-bad, first-long, form-symbol}
-use borrow.Author.Rules.{rules}
 use Rattle.sorts.proofs.sorts.list_form.Goals as goal
 
 pub bounds-tree-1 : goal.bounds-tree-1

@@ -1,8 +1,7 @@
-use mathlib.Core.Path.{sym, ap, ◌∙◌, refl}
+use mathlib.Core.Path.{sym, ap, ◌∙◌}
 use Rattle.reading.specs.Answer.{or_bad, malformed}
 use Rattle.sorts.specs.SortNames.{width_in}
 use Rattle.sorts.proofs.NamedSorts.{other-size, other-bad, other-var, other_data}
-use borrow.Author.Rules.{rules}
 use Rattle.sorts.proofs.sorts.other_sort.Goals as goal
 
 pub returns-in-Is : goal.returns-in-Is

@@ -1,6 +1,5 @@
 use mathlib.Core.Path.{refl, sym, ap, ◌∙◌}
 use Rattle.sorts.specs.Rows.{judged, ended}
-use borrow.Author.Rules.{rules}
 use Rattle.sorts.proofs.sorts.row_end.Goals as goal
 
 pub returns-then-is_size : goal.returns-then-is_size

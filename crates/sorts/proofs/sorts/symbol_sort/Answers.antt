@@ -2,7 +2,6 @@ use mathlib.Core.Path.{refl, sym, ap, ◌∙◌}
 use Rattle.grammar.specs.Sort.{s_int, s_bool, s_real, s_str, sort_words}
 use Rattle.sorts.specs.SortNames.{plain_in}
 use Rattle.sorts.proofs.NamedSorts.{symbol-plain, symbol-other}
-use borrow.Author.Rules.{rules}
 use Rattle.sorts.proofs.sorts.symbol_sort.Goals as goal
 
 pub returns-in-Int : goal.returns-in-Int
