@@ -41,6 +41,8 @@ pair-at ws p n (tcons t ts) (s ∷ ss) rest (more {us = us} x) e m h =
       six = omega (arith, spot-within sp, k);
       fits = omega (arith, spot-within sp, k);
     }
+pair-at ws p n tnil (s ∷ ss) rest x e m h = elim x [ ]
+pair-at ws p n (tcons t ts) [] rest x e m h = elim x [ ]
 
 pub first-pair : {ws : List ℕ} {p n : ℕ} (h : Pairs ws p n) → 0 < n → PairAt ws p n h.names
 first-pair {ws} {p} {n} h l = pair-at ws p n h.pairs h.names h.rest h.named h.words h.many l
@@ -49,6 +51,8 @@ pub named-trees : (pairs : Trees) (names : List Span) → Named pairs names → 
 unfolding trees
 named-trees tnil [] none = refl
 named-trees (tcons t ts) (s ∷ ss) (more x) = ap suc (named-trees ts ss x)
+named-trees tnil (s ∷ ss) x = elim x [ ]
+named-trees (tcons t ts) [] x = elim x [ ]
 
 -- ---- a search among names
 

@@ -4,7 +4,7 @@ use Rattle.scopes.proofs.ScopeNames.{Search, search_start, search_end, search_pa
 use Rattle.scopes.proofs.entries.find.Given as goal
 
 abbrev pub invariant-loop-d : goal.invariant-loop-d
-invariant-loop-d l = (h : OpenScopes l.tree l.scopes l.depth) → Search l.text l.tree l.scopes l.depth h (record { l.start = l.start; l.len = l.len }) l.d
+invariant-loop-d l = (h : OpenScopes l.tree l.scopes l.depth) → Search l.text l.tree l.scopes l.depth h (record { start = l.start; len = l.len }) l.d
 
 abbrev pub decreases-loop-d : goal.decreases-loop-d
 decreases-loop-d l = l.d
