@@ -10,12 +10,12 @@ use Rattle.smtfronts.proofs.fronts.bits.Goals as goal
 
 -- src/fronts.rt:142:9
 pub returns-then-not-fits : goal.returns-then-not-fits
-returns-then-not-fits c = tells_as (sym (bits_refused _ _ c.before.fits2.ensures (ap not c.if-not-fits.true))) (tells-no unwritable refl)
+returns-then-not-fits c = tells_as (sym (bits_refused _ _ c.fits.ensures (ap not c.if-not-fits.true))) (tells-no unwritable refl)
 
 -- src/fronts.rt:138:1
 pub returns : goal.returns
 returns c =
-    tells_as (sym (bits_taken _ _ c.before.before.before.before.before.before.before.before.before.before.before.before.before.before.before.before.before.before.before.before.before.before.fits2.ensures (ap not c.if-not-fits.false)))
+    tells_as (sym (bits_taken _ _ c.fits.ensures (ap not c.if-not-fits.false)))
     (tells-to
     (wrote_seq _ _ c.bytes-a.ensures
     (wrote_seq _ _ c.decimal-b.ensures
