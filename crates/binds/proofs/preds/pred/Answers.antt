@@ -6,6 +6,7 @@ use Rattle.binds.proofs.ListHead.{head-spot}
 use Rattle.binds.proofs.PredPlans.{pred-atom, pred-none, pred-other, six-there, pred-and, pred-named, kvar-here, pred-kvar, expr-here, expr-bad, expr-read}
 use borrow.Author.Rules.{rules}
 use Rattle.binds.proofs.preds.pred.Goals as goal
+use Rattle.binds.proofs.preds.pred.Goals.{then-tree-first-eq-SYMBOL+else-same+else-begins_with, else-tree-first-eq-SYMBOL}
 
 pub node_at-requires : goal.node_at-requires
 node_at-requires c = c.requires.0.spot
@@ -65,7 +66,10 @@ pub overflow_add-result-in-Done : goal.overflow_add-result-in-Done
 overflow_add-result-in-Done c = omega (arith, c.words_at.ensures c.requires.0.spot, spot-within c.requires.0.spot)
 
 pub returns-in-Refused : goal.returns-in-Refused
-returns-in-Refused c h = expr-bad h (c.through-q.ensures h.spot) (⊎_elim (λ w. pred-named h (node-list c.args.tree.now c.args.at c.node_at.ensures c.in-List.is) c.if-n-eq0.false w.0.taken w.3.ensures w.5.ensures w.6.left w.8.ensures w.9.left) (λ w. pred-other h (node-list c.args.tree.now c.args.at c.node_at.ensures c.in-List.is) c.if-n-eq0.false w.left) c.if-tree-first-eq-SYMBOL.branch) _ (c.expr.ensures.1 (expr-here h (c.through-q.ensures h.spot) c.put1-v.ensures.is c.args.scopes.now c.requires.1)) c.in-Refused.is
+returns-in-Refused c h = expr-bad h (c.through-q.ensures h.spot) (elim c.if-tree-first-eq-SYMBOL.branch [ then-tree-first-eq-SYMBOL+else-same+else-begins_with w ↦ pred-named h (node-list c.args.tree.now c.args.at c.node_at.ensures c.in-List.is) c.if-n-eq0.false w.if-tree-first-eq-SYMBOL.true w.bytes_at-name.ensures w.same.ensures w.if-same.false w.begins_with.ensures w.if-begins_with.false | else-tree-first-eq-SYMBOL w ↦ pred-other h (node-list c.args.tree.now c.args.at c.node_at.ensures c.in-List.is) c.if-n-eq0.false w.if-tree-first-eq-SYMBOL.false ]) _ (c.expr.ensures.1 (expr-here h (c.through-q.ensures h.spot) c.put1-v.ensures.is c.args.scopes.now c.requires.1)) c.in-Refused.is
 
 pub returns-in-Done : goal.returns-in-Done
-returns-in-Done c h = expr-read h (c.through-q.ensures h.spot) (⊎_elim (λ w. pred-named h (node-list c.args.tree.now c.args.at c.node_at.ensures c.in-List.is) c.if-n-eq0.false w.0.taken w.3.ensures w.5.ensures w.6.left w.8.ensures w.9.left) (λ w. pred-other h (node-list c.args.tree.now c.args.at c.node_at.ensures c.in-List.is) c.if-n-eq0.false w.left) c.if-tree-first-eq-SYMBOL.branch) _ c.put1-v.ensures (c.expr.ensures.1 (expr-here h (c.through-q.ensures h.spot) c.put1-v.ensures.is c.args.scopes.now c.requires.1)) c.in-Done.is (c.words_at.ensures h.spot)
+returns-in-Done c h = expr-read h (c.through-q.ensures h.spot) (elim c.if-tree-first-eq-SYMBOL.branch [ then-tree-first-eq-SYMBOL+else-same+else-begins_with w ↦ pred-named h (node-list c.args.tree.now c.args.at c.node_at.ensures c.in-List.is) c.if-n-eq0.false w.if-tree-first-eq-SYMBOL.true w.bytes_at-name.ensures w.same.ensures w.if-same.false w.begins_with.ensures w.if-begins_with.false | else-tree-first-eq-SYMBOL w ↦ pred-other h (node-list c.args.tree.now c.args.at c.node_at.ensures c.in-List.is) c.if-n-eq0.false w.if-tree-first-eq-SYMBOL.false ]) _ c.put1-v.ensures (c.expr.ensures.1 (expr-here h (c.through-q.ensures h.spot) c.put1-v.ensures.is c.args.scopes.now c.requires.1)) c.in-Done.is (c.words_at.ensures h.spot)
+
+pub overflow_add-result : goal.overflow_add-result
+overflow_add-result c = omega (arith, six-there c.requires.0 (node-list c.args.tree.now c.args.at c.node_at.ensures c.in-List.is) c.if-n-eq0.false c.if-tree-first-eq-SYMBOL.true)
