@@ -4,7 +4,7 @@ use borrow.Author.Rules.{rules}
 use Rattle.show.proofs.solution.Goals as goal
 
 pub lines-requires : goal.lines-requires
-lines-requires c = sym c.before.before.fits2.ensures ∙ c.if-fits.true
+lines-requires c = sym c.fits.ensures ∙ c.if-fits.true
 
 pub returns : goal.returns
-returns c = hides _ _ (sym c.before.before.before.before.before.fits2.ensures ∙ c.if-fits.false) c.clear.ensures
+returns c = hides _ _ (sym c.fits.ensures ∙ c.if-fits.false) c.clear.ensures
