@@ -6,4 +6,4 @@ pub returns : goal.returns
 returns c =
     let a = c.args in
     let e = c.flatten.ensures in
-    flat-reply a.words_in_lem.now a.out.now _ _ _ _ c.numbers-told.ensures c.sized.ensures e.0 e.1
+    flat-reply a.words_in.now a.out.now _ _ _ _ c.numbers-told.ensures c.sized.ensures e.answer e.output

@@ -6,4 +6,4 @@ pub returns : goal.returns
 returns c =
     let a = c.args in
     let e = c.smtlib.ensures in
-    spoken-reply a.words.now a.text.now a.out.now _ _ _ _ c.numbers-told.ensures c.written.ensures e.0 e.1
+    spoken-reply a.words.now a.text.now a.out.now _ _ _ _ c.numbers-told.ensures c.written.ensures e.answer e.output

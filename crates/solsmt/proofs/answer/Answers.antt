@@ -11,15 +11,12 @@ returns-then-text-gt8192 c = printed-long c.args.text.now c.args.out.now c.requi
 
 pub slice_bounds-words-end : goal.slice_bounds-words-end
 unfolding slice
-slice_bounds-words-end c = words_inside ((let the_told : ToldSolution c.args.text.now slice slice slice c.open.result.next c.solution-call.result.said c.solution-call.new.out = record { new = c.open.ensures; says = c.solution-call.ensures.said; leaves = c.solution-call.ensures.output } in the_told)) c.in-Accepted.is
-
-pub slice_bounds-lines-end : goal.slice_bounds-lines-end
-slice_bounds-lines-end c = sym (length-take-le _ _ (array-share-prefix-words c.before))
+slice_bounds-words-end c = words_inside (let the_told : ToldSolution c.args.text.now slice slice slice c.open.result.next c.solution-call.result.said c.solution-call.new.out = record { new = c.open.ensures; says = c.solution-call.ensures.said; leaves = c.solution-call.ensures.output } in the_told) c.in-Accepted.is
 
 pub returns-in-Accepted : goal.returns-in-Accepted
 unfolding slice
-returns-in-Accepted c = printed-accepted c.args.text.now c.args.out.now c.requires ((let the_told : ToldSolution c.args.text.now slice slice slice c.open.result.next c.solution-call.result.said c.solution-call.new.out = record { new = c.open.ensures; says = c.solution-call.ensures.said; leaves = c.solution-call.ensures.output } in the_told)) c.if-text-gt8192.false c.in-Accepted.is c.lines.ensures
+returns-in-Accepted c = printed-accepted c.args.text.now c.args.out.now c.requires (let the_told : ToldSolution c.args.text.now slice slice slice c.open.result.next c.solution-call.result.said c.solution-call.new.out = record { new = c.open.ensures; says = c.solution-call.ensures.said; leaves = c.solution-call.ensures.output } in the_told) c.if-text-gt8192.false c.in-Accepted.is c.lines.ensures
 
 pub returns-in-Refused : goal.returns-in-Refused
 unfolding slice
-returns-in-Refused c = printed-refused c.args.text.now c.args.out.now c.requires ((let the_told : ToldSolution c.args.text.now slice slice slice c.open.result.next c.solution-call.result.said c.solution-call.new.out = record { new = c.open.ensures; says = c.solution-call.ensures.said; leaves = c.solution-call.ensures.output } in the_told)) c.if-text-gt8192.false c.in-Refused.is c.comment-in-Refused.ensures
+returns-in-Refused c = printed-refused c.args.text.now c.args.out.now c.requires (let the_told : ToldSolution c.args.text.now slice slice slice c.open.result.next c.solution-call.result.said c.solution-call.new.out = record { new = c.open.ensures; says = c.solution-call.ensures.said; leaves = c.solution-call.ensures.output } in the_told) c.if-text-gt8192.false c.in-Refused.is c.comment-in-Refused.ensures

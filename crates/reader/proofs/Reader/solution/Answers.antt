@@ -10,5 +10,5 @@ returns c =
     let a = c.args in
     let e = c.solution-answer.ensures in
     let k = solution-known a.text.now a.tree.now a.out.now a.self.next a.draft.now in
-    let q = counted-told flat_items _ _ _ k _ e.0 in
-    reply k (c.counted.ensures ∙ q.0, c.count_after.ensures ∙ q.1) e.1.0 e.1.1.0 e.1.1.1
+    let q = counted-told flat_items _ _ _ k _ e.answer in
+    reply k (c.counted.ensures ∙ q.0, c.count_after.ensures ∙ q.1) e.working e.body e.output

@@ -13,5 +13,5 @@ returns c =
     let e = c.sort.ensures in
     let small : a.self.next ≤ max_number = omega arith in
     let k = sort-known a.text.now a.out.now a.self.next small a.tree.now in
-    let q = sort-told a.text.now a.tree.now a.out.now a.self.next small _ e.0 in
-    reply k (c.sized.ensures ∙ q.0, q.1) e.1.0 refl e.1.1
+    let q = sort-told a.text.now a.tree.now a.out.now a.self.next small _ e.answer in
+    reply k (c.sized.ensures ∙ q.0, q.1) e.working refl e.output

@@ -17,19 +17,7 @@ returns-then-line-gt-WORDS-2 c = long-draft c.args.lines.now c.args.line c.args.
 pub returns-then-line-gt-WORDS-3 : goal.returns-then-line-gt-WORDS-3
 returns-then-line-gt-WORDS-3 c = long-out c.args.lines.now c.args.line c.args.text.now c.args.reader.next c.if-line-gt-WORDS-3.true
 
-pub slice_bounds-asked-end : goal.slice_bounds-asked-end
-slice_bounds-asked-end c = sym (length-take-le _ _ (array-share-prefix-words c.before))
-
-pub slice_bounds-asked-end-2 : goal.slice_bounds-asked-end-2
-slice_bounds-asked-end-2 c = sym (length-take-le _ _ (array-borrow-prefix-tree c.before))
-
-pub slice_bounds-asked-end-3 : goal.slice_bounds-asked-end-3
-slice_bounds-asked-end-3 c = sym (length-take-le _ _ (array-borrow-prefix-draft c.before))
-
-pub slice_bounds-asked-end-4 : goal.slice_bounds-asked-end-4
-slice_bounds-asked-end-4 c = sym (length-take-le _ _ (array-borrow-prefix-out c.before))
-
 pub returns : goal.returns
 returns c =
     let p = c.put_words-n.ensures in
-    lend_done c.args.lines.now c.args.line c.args.text.now c.args.reader.next p.0 c.if-n-gt-WORDS.false c.if-line-gt-WORDS.false c.if-line-gt-WORDS-2.false c.if-line-gt-WORDS-3.false (spelled-there _ _ p.0 p.1 (array-share-prefix-words c.before.before.before.before.before.before.before.before) (omega (arith, c.if-n-gt-WORDS.false))) (slice-aggregate-asked-2 c.before.before.before.before.before.before) (slice-aggregate-asked-3 c.before.before.before.before.before) (slice-aggregate-asked-4 c.before.before.before.before) c.asked.ensures.same c.asked.ensures.count
+    lend_done c.args.lines.now c.args.line c.args.text.now c.args.reader.next p.0 c.if-n-gt-WORDS.false c.if-line-gt-WORDS.false c.if-line-gt-WORDS-2.false c.if-line-gt-WORDS-3.false (spelled-there _ _ p.0 p.1 (search rules) (omega (arith, c.if-n-gt-WORDS.false))) (sym (length-take-le _ _ (search rules))) (sym (length-take-le _ _ (search rules))) (sym (length-take-le _ _ (search rules))) c.asked.ensures.same c.asked.ensures.count
