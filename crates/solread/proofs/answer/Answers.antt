@@ -13,9 +13,6 @@ pub slice_bounds-words-end : goal.slice_bounds-words-end
 unfolding slice
 slice_bounds-words-end c = words_inside (let the_told : ToldSolution c.args.text.now slice slice slice c.open.result.next c.solution-call.result.said c.solution-call.new.out = record { new = c.open.ensures; says = c.solution-call.ensures.said; leaves = c.solution-call.ensures.output } in the_told) c.in-Accepted.is
 
-pub slice_bounds-solution-end-in-Accepted : goal.slice_bounds-solution-end-in-Accepted
-slice_bounds-solution-end-in-Accepted c = sym (length-take-le _ _ (search rules))
-
 pub returns-in-Accepted : goal.returns-in-Accepted
 unfolding slice
 returns-in-Accepted c = shown-accepted c.args.text.now c.args.out.now c.requires (let the_told : ToldSolution c.args.text.now slice slice slice c.open.result.next c.solution-call.result.said c.solution-call.new.out = record { new = c.open.ensures; says = c.solution-call.ensures.said; leaves = c.solution-call.ensures.output } in the_told) c.if-text-gt8192.false c.in-Accepted.is c.solution.ensures
@@ -23,3 +20,7 @@ returns-in-Accepted c = shown-accepted c.args.text.now c.args.out.now c.requires
 pub returns-in-Refused : goal.returns-in-Refused
 unfolding slice
 returns-in-Refused c = shown-refused c.args.text.now c.args.out.now c.requires (let the_told : ToldSolution c.args.text.now slice slice slice c.open.result.next c.solution-call.result.said c.solution-call.new.out = record { new = c.open.ensures; says = c.solution-call.ensures.said; leaves = c.solution-call.ensures.output } in the_told) c.if-text-gt8192.false c.in-Refused.is c.refusal-in-Refused.ensures
+
+pub slice_bounds-solution-end-in-Accepted : goal.slice_bounds-solution-end-in-Accepted
+unfolding slice
+slice_bounds-solution-end-in-Accepted c = sym (length-take-le _ _ (words_inside (let the_told : ToldSolution c.args.text.now slice slice slice c.open.result.next c.solution-call.result.said c.solution-call.new.out = record { new = c.open.ensures; says = c.solution-call.ensures.said; leaves = c.solution-call.ensures.output } in the_told) c.in-Accepted.is))

@@ -20,3 +20,7 @@ returns-in-Accepted c = printed-accepted c.args.text.now c.args.out.now c.requir
 pub returns-in-Refused : goal.returns-in-Refused
 unfolding slice
 returns-in-Refused c = printed-refused c.args.text.now c.args.out.now c.requires (let the_told : ToldSolution c.args.text.now slice slice slice c.open.result.next c.solution-call.result.said c.solution-call.new.out = record { new = c.open.ensures; says = c.solution-call.ensures.said; leaves = c.solution-call.ensures.output } in the_told) c.if-text-gt8192.false c.in-Refused.is c.comment-in-Refused.ensures
+
+pub slice_bounds-lines-end : goal.slice_bounds-lines-end
+unfolding slice
+slice_bounds-lines-end c = sym (length-take-le _ _ (words_inside (let the_told : ToldSolution c.args.text.now slice slice slice c.open.result.next c.solution-call.result.said c.solution-call.new.out = record { new = c.open.ensures; says = c.solution-call.ensures.said; leaves = c.solution-call.ensures.output } in the_told) c.in-Accepted.is))

@@ -17,3 +17,6 @@ returns-in-Done c s n judged = wrote_as (made-text (let the_long : length c.list
 
 pub returns-in-Refused : goal.returns-in-Refused
 returns-in-Refused c s n judged = wrote_as (sym (not_made _ _ _ s n (let the_long : length c.list_end-k.new.out ≡ 65536 = search rules in the_long) judged (sym c.in-Refused.is ∙ c.smtlib.ensures.answer))) refl c.comment.ensures
+
+pub slice_bounds-function-end : goal.slice_bounds-function-end
+slice_bounds-function-end c = sym (length-take-le _ _ (made_inside (let the_long : length c.list_end-k.new.out ≡ 65536 = search rules in the_long) (let the_made_of : Made c.args.words.now c.args.text.now c.list_end-k.new.out c.smtlib.new.out c.in-Done.n = made _ _ _ (sym c.in-Done.is ∙ c.smtlib.ensures.answer) c.smtlib.ensures.output in the_made_of) c.list_end-k.ensures))
