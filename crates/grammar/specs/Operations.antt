@@ -2,7 +2,7 @@
 use Rattle.std.specs.Prelude.{ℕ, false, List}
 use Rattle.reading.specs.Tree.{Tree}
 use Rattle.reading.specs.Reading.{read_text, read_words}
-use Rattle.reading.specs.Answer.{Ans, and_then, check, no_room, M, ◌>>=◌, chain, lifted, Final, finish, fits_in}
+use Rattle.reading.specs.Answer.{Ans, and_then, check, no_room, M, ◌>>=◌, lifted, Final, finish, fits_in}
 use Rattle.grammar.specs.Sort.{Sort, sort_words}
 use Rattle.grammar.specs.Item.{words_of}
 use Rattle.grammar.specs.Expr.{Expr, expr_items, Bind, bind_items, Solution}

@@ -3,7 +3,7 @@ use Rattle.std.specs.Prelude.{ℕ, Bool, false, ◌≡◌, List, [], ◌∷◌}
 use Rattle.reading.specs.Pick.{pick}
 use Rattle.reading.specs.Bytes.{ascii, same_bytes, bytes_at}
 use Rattle.reading.specs.Tree.{Atom, symbol, quoted, integer, decimal, boolean, Tree, Trees, atom, list, tnil, tcons}
-use Rattle.reading.specs.Answer.{◌>>=◌, chain, lifted}
+use Rattle.reading.specs.Answer.{◌>>=◌, lifted}
 use Rattle.grammar.specs.ParseExpr.{P, Child, child_at, atom_child, atom_expr, let_form, lit_form, headed, list_of, child}
 
 module _ (text name : List ℕ) where

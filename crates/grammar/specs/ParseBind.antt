@@ -1,7 +1,7 @@
 -- The bind that a tree is read as: `parse_bind`.
 use Rattle.std.specs.Prelude.{ℕ, List}
 use Rattle.reading.specs.Tree.{Tree}
-use Rattle.reading.specs.Answer.{and_then, M, ◌>>=◌, chain, done, lifted}
+use Rattle.reading.specs.Answer.{and_then, M, ◌>>=◌, done, lifted}
 use Rattle.grammar.specs.ParseSort.{in_list, in_symbol, tree_at, parse_sort}
 use Rattle.grammar.specs.Expr.{Bind}
 use Rattle.grammar.specs.Scope.{var_of}

@@ -5,7 +5,7 @@ use Rattle.reading.specs.Pick.{pick}
 use Rattle.reading.specs.Bytes.{ascii, same_bytes, begins_with, Span, bytes_at, Maybe, nothing, just, lookup}
 use Rattle.reading.specs.Number.{Wide, wide_of, minus_of, value_of, below, digits}
 use Rattle.reading.specs.Tree.{Atom, symbol, quoted, integer, decimal, boolean, Tree, Trees, atom, list, tnil, tcons, trees}
-use Rattle.reading.specs.Answer.{Ans, got, bad, and_then, or_bad, check, malformed, decimal_read, bad_literal, wrong_width, M, ◌>>=◌, chain, done, lifted, fresh}
+use Rattle.reading.specs.Answer.{Ans, got, bad, and_then, or_bad, check, malformed, decimal_read, bad_literal, wrong_width, M, ◌>>=◌, done, lifted, fresh}
 use Rattle.grammar.specs.Sort.{Sort}
 use Rattle.grammar.specs.ParseSort.{in_list, in_atom, in_symbol, tree_at, size_of, parse_sort}
 use Rattle.grammar.specs.Expr.{VarName, Kind, k_num, k_bool, k_str, k_bit_vec, k_neg, k_bin, op_sub, k_let_fresh, k_is_ctor, k_exists, Expr, Exprs, node, app, leaf, one_of, enil, econs, Pred, kvar, expr}

@@ -2,7 +2,7 @@
 use Rattle.std.specs.Prelude.{ℕ, List, [], ◌∷◌, eqb, length}
 use Rattle.reading.specs.Bytes.{Span}
 use Rattle.reading.specs.Tree.{Tree, Trees, tnil, tcons, trees}
-use Rattle.reading.specs.Answer.{Ans, got, and_then, check, malformed, M, ◌>>=◌, chain, done, lifted, fresh}
+use Rattle.reading.specs.Answer.{Ans, got, and_then, check, malformed, M, ◌>>=◌, done, lifted, fresh}
 use Rattle.grammar.specs.Sort.{Sort}
 use Rattle.grammar.specs.ParseSort.{in_list, tree_at}
 use Rattle.grammar.specs.Expr.{Solution}

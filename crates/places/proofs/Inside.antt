@@ -14,7 +14,6 @@ use Rattle.grammar.specs.ParseExpr
 use Rattle.grammar.specs.ParseExpr.{atom_child}
 use Rattle.places.specs.Spot.{Spot}
 use Rattle.places.specs.declared.place.Node.{Node}
-use Rattle.places.specs.declared.place.Node.TheVariants as Node
 use Rattle.places.proofs.Spots.{word}
 
 -- A list stands at a place: its items stand behind three words, which say what it is, how many items there are, and how many words they have.

@@ -7,9 +7,7 @@ use Rattle.reading.specs.Bytes.{Span}
 use Rattle.reading.specs.Tree.{symbol, quoted, integer, decimal, boolean, Tree, Trees, atom, list, tnil, tcons, trees, atom_words, tree_words, trees_words, nesting, nestings}
 use Rattle.reading.specs.Answer.{no, malformed}
 use Rattle.grammar.specs.Scope.{Scope, repeated}
-use Rattle.grammar.specs.Item.{plain}
 use Rattle.grammar.specs.Expr.{Kind}
-use Rattle.grammar.specs.Names.{many}
 use Rattle.grammar.specs.ParseExpr
 use Rattle.grammar.specs.ParseExpr.{child_at, node_form}
 use Rattle.grammar.specs.Written.{W, kind_words, told, ahead, after, operands_w, end_w, no_last, plain_last}

@@ -1,5 +1,5 @@
 -- What is done between the binding of a let and its body: a number is laid in front of the binding's words, and a scope opened.
-use Rattle.std.specs.Prelude.{◌≡◌, ℕ, ◌+◌, ◌*◌, ◌≤◌, List, length, ◌==◌, ◌≢◌}
+use Rattle.std.specs.Prelude.{ℕ, ◌+◌, ◌*◌, ◌≤◌, List, length, ◌==◌, ◌≢◌}
 use Rattle.reading.specs.Pick.{pick}
 use Rattle.grammar.specs.Sort.{two}
 use Rattle.writing.specs.Laid.{laid}

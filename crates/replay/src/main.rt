@@ -5,7 +5,7 @@
 
 ghost use Rattle.std.specs.Prelude.{◌≡◌, true, min, length};
 ghost use Rattle.recorded.specs.Numbers.{most};
-ghost use Rattle.replay.specs.Tally.{more as moreOf, Told, Stepped, lines_of, wrong};
+ghost use Rattle.replay.specs.Tally.{more as more_of, Told, Stepped, lines_of, wrong};
 
 mod call;
 mod flat;
@@ -30,7 +30,12 @@ const ROOM: usize = 524288;
 
 fn main() {
     let mut data = [0u8; ROOM];
-    let n = io::read_full(0, &mut data);
+    replayed(&mut data);
+}
+
+// Reads all lines, replays them, and says what came of it. An array as long as this is not looked into in the function that makes it.
+fn replayed(data: &mut [u8; ROOM]) {
+    let n = io::read_full(0, data);
     if n == ROOM {
         io::write_all(1, b"there are more lines than can be read\n");
     }
@@ -124,7 +129,7 @@ fn told(state: State, same: bool) -> State
 
 // One more.
 fn more(n: u64) -> u64
-    ensures { result ≡ moreOf n }
+    ensures { result ≡ more_of n }
 {
     if n < u64::MAX {
         return n + 1;

@@ -1,5 +1,5 @@
 -- The words of symbols.
-use Rattle.std.proofs.Common.{◌≡◌, ℕ, ◌+◌, ◌-◌, ◌/◌, ◌%◌, ◌^◌, List, [], ◌∷◌, sym, refl, ap, ◌∙◌, arith}
+use Rattle.std.proofs.Common.{◌≡◌, ℕ, ◌+◌, ◌/◌, ◌%◌, ◌^◌, List, [], ◌∷◌, sym, refl, ap, ◌∙◌, arith}
 use Rattle.reading.specs.Bytes.{Span, bytes_at, Maybe, nothing, just, lookup}
 use Rattle.grammar.specs.Item.{raise, words_of}
 use Rattle.grammar.specs.Expr.{exprs, expr_items, exprs_items, kind_items}

@@ -18,7 +18,7 @@ use Rattle.smt.specs.SexpBack.{then}
 use Rattle.smt.specs.Term.{Ident, plain_ident, SmtSort, SmtSorts, Var, Term, tnum, tstr, tid, tapp, Terms, tnil, tcons, terms, Closed, closed_bytes}
 use Rattle.smt.specs.TermBack.{read_closed}
 use Rattle.smt.specs.Writer.{plainly, fresh_symbol, bits_ident, fits_width, width_of, Form, alone, operator, folded, letting, some, applying, folding, quantified, formed, application, all_writable, bytes_of, symbol_of, sort_of, sorts_of, vars_of, fields_of, head_kind, head_of, term_of, terms_of, solution_term, written}
-use Rattle.smt.specs.Meant.{data_sort, MeantSorts, onil, ocons, MeantVar, MeantKind, m_num, m_bool, m_str, m_if, m_and, m_or, m_not, m_imp, m_atom, m_let, m_is_ctor, m_let_fresh, Meant, says, calls, Meants, mnil, mcons, meants}
+use Rattle.smt.specs.Meant.{data_sort, MeantSorts, onil, ocons, MeantVar, MeantKind, m_num, m_bool, m_str, m_if, m_and, m_or, m_not, m_imp, m_atom, m_is_ctor, m_let_fresh, Meant, says, calls, Meants, mnil, mcons, meants}
 use Rattle.smt.specs.Meaning.{Own, own_fresh, own_name, lettered, own_of, let_only, joining, variable, value, sense, plain_sorts, own_sorted, named_sort, sort_sense, sort_meaning, sorts_meaning, vars_meaning, meaning, meanings, closed_meaning, read_solution}
 use Rattle.smt.specs.Shape.{joined, bound, called, sort_shape, sorts_shape, vars_shape, node_shape, expr_shape, exprs_shape, shape}
 use Rattle.smt.specs.Claims.{ReadsBack}

@@ -1,7 +1,7 @@
 -- The bytes of the parts of a solution, as the code writes them one behind the other.
 use Rattle.std.specs.Prelude.{ℕ, List, [], ◌∷◌, ◌++◌}
 use Rattle.reading.specs.Bytes.{Span}
-use Rattle.reading.specs.Answer.{Ans, got, bad, and_then}
+use Rattle.reading.specs.Answer.{Ans, got, and_then}
 use Rattle.grammar.specs.Sort.{Sort}
 use Rattle.grammar.specs.Expr.{Binder}
 use Rattle.writing.specs.Digits.{decimal}

@@ -8,7 +8,7 @@ use lib.Dec.{ltb, leb}
 use lib.ListN.{length, get_or}
 use Rattle.reading.specs.Pick.{pick}
 use Rattle.reading.specs.Answer.{not_words}
-use Rattle.grammar.specs.Sort.{Sort, Ctor, c_set, c_map, c_data, s_int, s_bool, s_real, s_str, s_bit_vec, s_size, s_var, s_func, s_abs, s_app, snil, scons}
+use Rattle.grammar.specs.Sort.{Sort, c_set, c_map, c_data, s_int, s_bool, s_real, s_str, s_bit_vec, s_size, s_var, s_func, s_abs, s_app, snil, scons}
 use Rattle.judging.specs.Judge.{Judged, reads, fails, FromWords, go_on, ◌>>=◌, ret, fail, word, among, or_fail, choose, two_words, several, span_within, ctors, sort_kinds, sort_deep, sort_at}
 use Rattle.sortwords.specs.SortFields.{one_field, ctor_at, app_fields, sort_fields, sort_head, inside_of}
 use Rattle.judging.specs.Ends.{end_of}
@@ -221,17 +221,34 @@ module _ (limit : ℕ) (ws : List ℕ) where
   enters_kinds : (lo : ℕ) (d : FromWords Sort) → Walks lo d 1 → (j : ℕ) → Enters lo (or_fail (among (sort_kinds limit d) j)) (or_fail (among (sort_fields limit) j))
   unfolding sort_kinds sort_fields one_field
   enters_kinds lo d D =
-      enters_among lo (sort_kinds limit d) (sort_fields limit)
-      (enters_ret lo s_int,
-      (enters_ret lo s_bool,
-      (enters_ret lo s_real,
-      (enters_ret lo s_str,
-      (enters_map lo 1 d s_bit_vec D,
-      (enters_bind lo word _ _ onward_word (λ i. enters_ret lo (s_size i)),
-      (enters_bind lo two_words _ _ onward_two (λ i. enters_ret lo (s_var i)),
-      (enters_walks lo 2 (d >>= λ s. d >>= λ t. ret (s_func s t)) (walks_then lo 1 1 d (λ s. d >>= λ t. ret (s_func s t)) D (λ s. walks_map lo 1 d (s_func s) D)),
-      (enters_bind lo word _ _ onward_word (λ i. enters_map lo 1 d (s_abs i) D),
-      (enters_app lo d D, tt))))))))))
+      enters_among lo (sort_kinds limit d) (sort_fields limit) (
+        enters_ret lo s_int,
+        (
+          enters_ret lo s_bool,
+          (
+            enters_ret lo s_real,
+            (
+              enters_ret lo s_str,
+              (
+                enters_map lo 1 d s_bit_vec D,
+                (
+                  enters_bind lo word _ _ onward_word (λ i. enters_ret lo (s_size i)),
+                  (
+                    enters_bind lo two_words _ _ onward_two (λ i. enters_ret lo (s_var i)),
+                    (
+                      enters_walks lo 2 (d >>= λ s. d >>= λ t. ret (s_func s t)) (walks_then lo 1 1 d (λ s. d >>= λ t. ret (s_func s t)) D (λ s. walks_map lo 1 d (s_func s) D)),
+                      (
+                        enters_bind lo word _ _ onward_word (λ i. enters_map lo 1 d (s_abs i) D),
+                        (enters_app lo d D, tt),
+                      ),
+                    ),
+                  ),
+                ),
+              ),
+            ),
+          ),
+        ),
+      )
 
   -- The kind of a sort and what follows it, where the kind is inside the words.
   sort_enters : (deep lo at q g : ℕ) (k : Sort → ℕ → End) → lo ≤ at → at < length ws → length ws ≤ at + g → Follows at q k → Walks (suc lo) (sort_deep limit deep) 1 → after (choose 1 (sort_kinds limit (sort_deep limit deep)) (get_or ws at 0) ws (at + 1)) k ≡ walk limit ws g (1 + q) at
@@ -331,17 +348,34 @@ module _ (limit : ℕ) (ws : List ℕ) where
   only-fields : (j : ℕ) → Only14 (or_fail (among (sort_fields limit) j))
   unfolding sort_fields one_field app_fields
   only-fields =
-      only-among (sort_fields limit)
-      (only-ret 0,
-      (only-ret 0,
-      (only-ret 0,
-      (only-ret 0,
-      (only-ret 1,
-      (only-bind word _ only-word (λ i. only-ret 0),
-      (only-bind two_words _ only_two (λ i. only-ret 0),
-      (only-ret 2,
-      (only-bind word _ only-word (λ i. only-ret 1),
-      (only-bind (ctor_at limit) _ only-ctor (λ c. only-bind word _ only-word (λ n. only-ret n)), tt))))))))))
+      only-among (sort_fields limit) (
+        only-ret 0,
+        (
+          only-ret 0,
+          (
+            only-ret 0,
+            (
+              only-ret 0,
+              (
+                only-ret 1,
+                (
+                  only-bind word _ only-word (λ i. only-ret 0),
+                  (
+                    only-bind two_words _ only_two (λ i. only-ret 0),
+                    (
+                      only-ret 2,
+                      (
+                        only-bind word _ only-word (λ i. only-ret 1),
+                        (only-bind (ctor_at limit) _ only-ctor (λ c. only-bind word _ only-word (λ n. only-ret n)), tt),
+                      ),
+                    ),
+                  ),
+                ),
+              ),
+            ),
+          ),
+        ),
+      )
 
   only-head : Only14 (sort_head limit)
   unfolding sort_head choose

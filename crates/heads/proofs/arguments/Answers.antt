@@ -1,5 +1,4 @@
 use Rattle.heads.proofs.ReadHead.{arguments_in, arguments-half, arguments-no, arguments-out}
-use borrow.Author.Rules.{rules}
 use Rattle.heads.proofs.arguments.Goals as goal
 
 pub returns-then-a-words : goal.returns-then-a-words

@@ -1,5 +1,4 @@
 use Rattle.judging.proofs.ReadFields.{below_in, below-no, below_out}
-use borrow.Author.Rules.{rules}
 use Rattle.heads.proofs.below.Goals as goal
 
 pub returns-then-words-at : goal.returns-then-words-at

@@ -1,5 +1,4 @@
 use Rattle.heads.proofs.ReadHead.{counted_in, counted-out}
-use borrow.Author.Rules.{rules}
 use Rattle.heads.proofs.counted.Goals as goal
 
 pub returns-then-at-words : goal.returns-then-at-words

@@ -1,5 +1,4 @@
 use Rattle.heads.proofs.ReadHead.{at_32, at_33, at_34, at_35, at_36, at_37, at_38, at_39, at_40, at_41, at_42, at_43, at_44, at_45, at_46, at_47, at_48, at_49, at_50, at_52, head-high, head-kind, head-low, head-out, next}
-use borrow.Author.Rules.{rules}
 use Rattle.heads.proofs.head.Goals as goal
 
 pub returns-then-words-at : goal.returns-then-words-at

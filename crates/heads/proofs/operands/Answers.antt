@@ -1,5 +1,4 @@
 use Rattle.heads.proofs.ReadHead.{fields-end, fields-no}
-use borrow.Author.Rules.{rules}
 use Rattle.heads.proofs.operands.Goals as goal
 
 pub returns-in-At : goal.returns-in-At

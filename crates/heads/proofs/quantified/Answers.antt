@@ -1,5 +1,4 @@
 use Rattle.heads.proofs.ReadHead.{quantified_in, quantified-out}
-use borrow.Author.Rules.{rules}
 use Rattle.heads.proofs.quantified.Goals as goal
 
 pub returns-then-at-words : goal.returns-then-at-words

@@ -1,5 +1,4 @@
 use Rattle.judging.proofs.ReadFields.{any_in, any_out}
-use borrow.Author.Rules.{rules}
 use Rattle.heads.proofs.skip.Goals as goal
 
 pub returns-then-words-at : goal.returns-then-words-at

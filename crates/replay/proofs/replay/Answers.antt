@@ -19,3 +19,6 @@ pub returns-then-line-at : goal.returns-then-line-at
 returns-then-line-at c =
     let g = line-next c.args.lines.now c.loop-at.at c.loop-at-test.true in
     absurd (omega (arith, g, c.if-line-at.true, ap (λ (l : Line). l.next) c.line_at-line.ensures))
+
+pub loop-at-smaller : goal.loop-at-smaller
+loop-at-smaller c = omega arith

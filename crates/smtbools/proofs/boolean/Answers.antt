@@ -1,7 +1,6 @@
 use mathlib.Core.Path.{refl, sym, ap}
 use Rattle.writing.proofs.Wrote.{wrote_as}
 use Rattle.smtbools.specs.Bools.{bool_text}
-use borrow.Author.Rules.{rules}
 use Rattle.smtbools.proofs.boolean.Goals as goal
 
 -- src/operators.rt:57:9

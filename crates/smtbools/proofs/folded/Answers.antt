@@ -1,7 +1,6 @@
 use mathlib.Core.Path.{refl}
 use Rattle.writing.proofs.Wrote.{wrote_none, wrote_seq, wrote_as}
 use Rattle.smtbools.proofs.ByCount.{folded-none, folded-one, folded_more}
-use borrow.Author.Rules.{rules}
 use Rattle.smtbools.proofs.folded.Goals as goal
 
 -- src/operators.rt:42:9

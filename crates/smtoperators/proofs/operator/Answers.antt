@@ -2,7 +2,6 @@ use mathlib.Core.Path.{◌≡◌}
 use native.Mathlib.Omega.{arith}
 use Rattle.smt.specs.Vocabulary.{operators}
 use Rattle.smtoperators.proofs.Spelled.{spelled_as}
-use borrow.Author.Rules.{rules}
 use Rattle.smtoperators.proofs.operator.Goals as goal
 
 -- src/operators.rt:11:1

@@ -2,7 +2,6 @@ use mathlib.Core.Path.{◌≡◌}
 use native.Mathlib.Omega.{arith}
 use Rattle.smt.specs.Vocabulary.{relations}
 use Rattle.smtoperators.proofs.Spelled.{spelled_as}
-use borrow.Author.Rules.{rules}
 use Rattle.smtoperators.proofs.relation.Goals as goal
 
 -- src/operators.rt:24:1

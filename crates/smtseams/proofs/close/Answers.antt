@@ -1,7 +1,6 @@
 use mathlib.Core.Path.{refl, sym, ap}
 use Rattle.writing.proofs.Wrote.{wrote_none, wrote_as}
 use Rattle.smtseams.specs.Seams.{close_text}
-use borrow.Author.Rules.{rules}
 use Rattle.smtseams.proofs.close.Goals as goal
 
 -- src/operands.rt:54:9

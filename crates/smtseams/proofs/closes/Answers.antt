@@ -2,8 +2,6 @@ use mathlib.Core.Path.{sym, ap}
 use Rattle.nodes.specs.declared.kind.Node.{Node}
 use Rattle.smtseams.specs.Seams.{node_closes}
 use Rattle.smtseams.proofs.Rest.{rest-closes}
-use borrow.Author.Rules.{rules}
-use borrow.Enum.Refused.{opened}
 use Rattle.smtseams.proofs.closes.Goals as goal
 
 pub returns-in-Num : goal.returns-in-Num

@@ -1,7 +1,6 @@
 use mathlib.Core.Path.{sym, ap}
 use Rattle.smtseams.specs.Seams.{node_lets}
 use Rattle.smtseams.proofs.Rest.{rest-lets}
-use borrow.Author.Rules.{rules}
 use borrow.Enum.Refused.{opened}
 use Rattle.smtseams.proofs.lets.Goals as goal
 

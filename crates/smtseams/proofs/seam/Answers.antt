@@ -1,7 +1,6 @@
 use mathlib.Core.Path.{refl, sym, ap}
 use Rattle.writing.proofs.Wrote.{wrote_as}
 use Rattle.smtseams.specs.Seams.{seam_of}
-use borrow.Author.Rules.{rules}
 use Rattle.smtseams.proofs.seam.Goals as goal
 
 -- src/operands.rt:44:9

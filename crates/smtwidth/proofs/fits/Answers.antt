@@ -1,6 +1,5 @@
 use native.Mathlib.Omega.{arith}
 use Rattle.smtwidth.proofs.Powers.{fits-never, fits_all, fits-d, over-d, fits-c, over-c, fits-b, over-b, fits-a}
-use borrow.Author.Rules.{rules}
 use Rattle.smtwidth.proofs.fits.Goals as goal
 
 -- src/width.rt:27:9

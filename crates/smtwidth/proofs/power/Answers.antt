@@ -1,6 +1,5 @@
 use native.Mathlib.Omega.{arith}
-use Rattle.smtwidth.proofs.Powers.{Doubled, double_none, double_fits, double_next, double_all}
-use borrow.Author.Rules.{rules}
+use Rattle.smtwidth.proofs.Powers.{double_none, double_fits, double_next, double_all}
 use Rattle.smtwidth.proofs.power.Goals as goal
 
 -- src/width.rt:15:5

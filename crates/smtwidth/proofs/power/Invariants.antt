@@ -1,6 +1,4 @@
-use native.Mathlib.Omega.{arith}
-use Rattle.smtwidth.proofs.Powers.{Doubled, double_none, double_fits, double_next, double_all}
-use borrow.Author.Rules.{rules}
+use Rattle.smtwidth.proofs.Powers.{Doubled}
 use Rattle.smtwidth.proofs.power.Given as goal
 
 abbrev pub invariant-loop-i : goal.invariant-loop-i

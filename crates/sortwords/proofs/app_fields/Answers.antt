@@ -1,6 +1,5 @@
 use mathlib.Core.Path.{sym, ◌∙◌}
 use Rattle.sortwords.proofs.SortRead.{app-no, app-out, app_in}
-use borrow.Author.Rules.{rules}
 use Rattle.sortwords.proofs.app_fields.Goals as goal
 
 pub returns-then-words-a : goal.returns-then-words-a

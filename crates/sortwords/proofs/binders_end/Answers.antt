@@ -1,7 +1,4 @@
-use mathlib.Core.Path.{◌≡◌, refl, sym, ◌∙◌}
-use borrow.Author.Rules.{rules}
-use Rattle.judging.specs.Judge.{binders_at}
-use Rattle.judging.specs.Ends.{end_of}
+use mathlib.Core.Path.{refl, sym, ◌∙◌}
 use Rattle.sortwords.proofs.SortRead.{binders-done, binders-next, binders-two, binders-sort}
 use Rattle.sortwords.proofs.binders_end.Goals as goal
 

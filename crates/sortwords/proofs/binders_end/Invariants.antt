@@ -1,8 +1,6 @@
-use mathlib.Core.Path.{◌≡◌, refl, sym, ◌∙◌}
-use borrow.Author.Rules.{rules}
+use mathlib.Core.Path.{◌≡◌}
 use Rattle.judging.specs.Judge.{binders_at}
 use Rattle.judging.specs.Ends.{end_of}
-use Rattle.sortwords.proofs.SortRead.{binders-done, binders-next, binders-two, binders-sort}
 use Rattle.sortwords.proofs.binders_end.Given as goal
 
 abbrev pub invariant-loop-left : goal.invariant-loop-left

@@ -1,6 +1,5 @@
 use native.Mathlib.Omega.{arith}
 use Rattle.sortwords.proofs.SortRead.{ctor-out, ctor-set, ctor-map, ctor_data, ctor-other}
-use borrow.Author.Rules.{rules}
 use Rattle.sortwords.proofs.ctor_end.Goals as goal
 
 pub returns-then-words-at : goal.returns-then-words-at

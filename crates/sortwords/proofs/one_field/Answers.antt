@@ -1,5 +1,4 @@
 use Rattle.sortwords.proofs.SortRead.{field_out, field_in}
-use borrow.Author.Rules.{rules}
 use Rattle.sortwords.proofs.one_field.Goals as goal
 
 pub returns-then-words-at : goal.returns-then-words-at

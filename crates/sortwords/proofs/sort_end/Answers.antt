@@ -1,10 +1,6 @@
-use Prim.Native.Nat.{◌≤◌}
-use mathlib.Core.Path.{◌≡◌, sym, ◌∙◌}
-use lib.ListN.{length}
+use mathlib.Core.Path.{sym, ◌∙◌}
 use borrow.Author.Rules.{rules}
-use Rattle.judging.specs.Judge.{sort_at}
-use Rattle.judging.specs.Ends.{end_of}
-use Rattle.sortwords.proofs.SortWalk.{walk, walk_start, walk-done, walk-short, walk-bad, walk-next}
+use Rattle.sortwords.proofs.SortWalk.{walk_start, walk-done, walk-short, walk-bad, walk-next}
 use Rattle.sortwords.proofs.sort_end.Goals as goal
 
 pub loop-pending-init : goal.loop-pending-init

@@ -1,10 +1,9 @@
 use Prim.Native.Nat.{◌≤◌}
-use mathlib.Core.Path.{◌≡◌, sym, ◌∙◌}
+use mathlib.Core.Path.{◌≡◌}
 use lib.ListN.{length}
-use borrow.Author.Rules.{rules}
 use Rattle.judging.specs.Judge.{sort_at}
 use Rattle.judging.specs.Ends.{end_of}
-use Rattle.sortwords.proofs.SortWalk.{walk, walk_start, walk-done, walk-short, walk-bad, walk-next}
+use Rattle.sortwords.proofs.SortWalk.{walk}
 use Rattle.sortwords.proofs.sort_end.Given as goal
 
 abbrev pub invariant-loop-pending : goal.invariant-loop-pending

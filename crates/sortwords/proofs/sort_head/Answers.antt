@@ -1,7 +1,6 @@
 use mathlib.Core.Path.{sym, ◌∙◌}
 use native.Mathlib.Omega.{arith}
 use Rattle.sortwords.proofs.SortRead.{head-out, head_plain, head-none, head-other, head_bitvec, head-func, head-size, head_abs, head-var, head-var-no, head-app}
-use borrow.Author.Rules.{rules}
 use Rattle.sortwords.proofs.sort_head.Goals as goal
 
 pub returns-then-words-at : goal.returns-then-words-at

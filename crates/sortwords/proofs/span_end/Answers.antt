@@ -1,5 +1,4 @@
 use Rattle.sortwords.proofs.SortRead.{span-out, span-half, span_far, span_in}
-use borrow.Author.Rules.{rules}
 use Rattle.sortwords.proofs.span_end.Goals as goal
 
 pub returns-then-words-at : goal.returns-then-words-at

@@ -1,5 +1,4 @@
 use Rattle.sortwords.proofs.SortRead.{two_out, two-half, two_in}
-use borrow.Author.Rules.{rules}
 use Rattle.sortwords.proofs.two_end.Goals as goal
 
 pub returns-then-words-at : goal.returns-then-words-at

@@ -2,7 +2,6 @@ use native.Mathlib.Omega.{arith}
 use mathlib.Core.Path.{refl}
 use Rattle.writing.specs.Laid.{laid}
 use Rattle.writing.proofs.Wrote.{wrote-all, wrote-over}
-use borrow.Author.Rules.{rules}
 use Rattle.writing.proofs.byte.Goals as goal
 
 pub returns-then-place-out : goal.returns-then-place-out

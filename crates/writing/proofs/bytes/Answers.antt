@@ -1,9 +1,6 @@
-use borrow.Author.Rules.{rules}
-use Prim.Native.Nat.{◌-◌}
 use native.Mathlib.Omega.{arith}
-use lib.ListN.{length}
 use Rattle.writing.proofs.Wrote.{wrote-over}
-use Rattle.writing.proofs.Pieces.{Copied, copy_none, copy_next, copy_all}
+use Rattle.writing.proofs.Pieces.{copy_none, copy_next, copy_all}
 use Rattle.writing.proofs.bytes.Goals as goal
 
 pub returns-then-out-place : goal.returns-then-out-place

@@ -1,8 +1,6 @@
-use Prim.Native.Nat.{◌-◌, zero-le}
+use Prim.Native.Nat.{zero-le}
 use mathlib.Core.Path.{refl}
-use native.Mathlib.Omega.{arith}
-use lib.ListN.{length}
-use Rattle.reading.proofs.Zeros.{Cleared, clear-more, clear-all}
+use Rattle.reading.proofs.Zeros.{clear-more, clear-all}
 use Rattle.writing.proofs.clear.Goals as goal
 
 pub loop-i-init : goal.loop-i-init

@@ -1,8 +1,6 @@
-use Prim.Native.Nat.{◌-◌, zero-le}
-use mathlib.Core.Path.{refl}
-use native.Mathlib.Omega.{arith}
+use Prim.Native.Nat.{◌-◌}
 use lib.ListN.{length}
-use Rattle.reading.proofs.Zeros.{Cleared, clear-more, clear-all}
+use Rattle.reading.proofs.Zeros.{Cleared}
 use Rattle.writing.proofs.clear.Given as goal
 
 abbrev pub invariant-loop-i : goal.invariant-loop-i

@@ -1,12 +1,10 @@
-use Prim.Native.Nat.{◌<◌}
-use borrow.Author.Rules.{rules}
 use native.Mathlib.Omega.{arith}
 use Rattle.reading.specs.Number.{value_of}
 use Rattle.writing.specs.Quads.{as_wide}
 use Rattle.writing.proofs.Wrote.{wrote-over}
 use Rattle.writing.proofs.Decimals.{decimal-some}
 use Rattle.writing.proofs.Quads.{digit-lowest}
-use Rattle.writing.proofs.Pieces.{Ended, end_none, end-next, end-few, end-all}
+use Rattle.writing.proofs.Pieces.{end_none, end-next, end-few, end-all}
 use Rattle.writing.proofs.decimal.Goals as goal
 
 pub returns-then-out-place : goal.returns-then-out-place

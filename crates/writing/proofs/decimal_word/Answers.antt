@@ -2,7 +2,6 @@ use mathlib.Core.Path.{refl, ap}
 use Rattle.writing.specs.Digits.{decimal}
 use Rattle.writing.proofs.Wrote.{wrote_as}
 use Rattle.writing.proofs.Quads.{word_value}
-use borrow.Author.Rules.{rules}
 use Rattle.writing.proofs.decimal_word.Goals as goal
 
 pub returns : goal.returns

@@ -1,12 +1,10 @@
 use Rattle.writing.proofs.Decimals.{tenth_less}
 use mathlib.Core.Path.{sym, ◌∙◌}
-use borrow.Author.Tests.{ltb-true, ltb-false, not-true, not-false}
+use borrow.Author.Tests.{ltb-true, ltb-false}
 use borrow.Author.Rules.{rules}
 use native.Mathlib.Omega.{arith}
-use Rattle.reading.specs.Number.{value_of}
-use Rattle.writing.specs.Quads.{as_wide}
 use Rattle.writing.proofs.Quads.{quad_long}
-use Rattle.writing.proofs.Pieces.{Counted, count-one, count_next, count-all, count-few}
+use Rattle.writing.proofs.Pieces.{count-one, count_next, count-all, count-few}
 use Rattle.writing.proofs.figures.Goals as goal
 
 pub loop-rest-init : goal.loop-rest-init

@@ -1,6 +1,5 @@
 use mathlib.Core.Path.{sym, ◌∙◌}
 use Rattle.writing.proofs.Quads.{digit_low, digit-more}
-use borrow.Author.Rules.{rules}
 use Rattle.writing.proofs.one_digit.Goals as goal
 
 pub returns-then-one_word : goal.returns-then-one_word

@@ -1,6 +1,5 @@
 use mathlib.Core.Path.{sym, ◌∙◌}
 use Rattle.writing.proofs.Quads.{tenth_low, tenth_words}
-use borrow.Author.Rules.{rules}
 use Rattle.writing.proofs.shortened.Goals as goal
 
 pub returns-then-one_word : goal.returns-then-one_word

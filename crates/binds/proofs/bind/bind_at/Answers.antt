@@ -4,7 +4,6 @@ use Rattle.places.proofs.Inside.{node-list, node-other}
 use Rattle.places.proofs.SortPlace.{got-at, bad-at}
 use Rattle.binds.proofs.PredNames.{symbol-there}
 use Rattle.binds.proofs.BindOf.{whole-spot, bind-atom, bind-none, pair-spot, bind-no-pair, bind-short, name-spot, bind-no-name, sort-small, bind-no-sort, bind-one, pred-here, bind-preds}
-use borrow.Author.Rules.{rules}
 use Rattle.binds.proofs.bind.bind_at.Goals as goal
 
 pub node_at-requires : goal.node_at-requires

@@ -3,7 +3,6 @@ use native.Mathlib.Omega.{arith}
 use Rattle.places.proofs.SortPlace.{got-at, bad-at}
 use Rattle.places.proofs.Spots.{spot-within}
 use Rattle.binds.proofs.PredNames.{kvar-spot, kvar-there, kvar-row, kvar-few, kvar-bad, kvar-read}
-use borrow.Author.Rules.{rules}
 use Rattle.binds.proofs.preds.kvar.Goals as goal
 
 pub overflow_add-n : goal.overflow_add-n

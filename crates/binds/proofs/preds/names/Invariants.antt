@@ -1,11 +1,8 @@
 use lib.ListN.{length}
-use mathlib.Core.Path.{◌≡◌, refl}
-use native.Mathlib.Omega.{arith}
-use borrow.Author.Rules.{rules}
+use mathlib.Core.Path.{◌≡◌}
 use Prim.Native.Nat.{◌-◌}
 use Rattle.binds.specs.PredWords.{NameRow}
-use Rattle.places.proofs.Spots.{two-there}
-use Rattle.binds.proofs.PredNames.{Naming, naming_start, naming_end, naming_bad, naming_more, name-spot, name-room, symbol-there}
+use Rattle.binds.proofs.PredNames.{Naming}
 use Rattle.binds.proofs.preds.names.Given as goal
 
 abbrev pub invariant-loop-i : goal.invariant-loop-i

@@ -1,10 +1,8 @@
-use mathlib.Core.Logic.{⊎_elim}
 use native.Mathlib.Omega.{arith}
 use Rattle.places.proofs.Spots.{two-there, spot-within}
 use Rattle.places.proofs.Inside.{node-list, node-other}
 use Rattle.binds.proofs.ListHead.{head-spot}
 use Rattle.binds.proofs.PredPlans.{pred-atom, pred-none, pred-other, six-there, pred-and, pred-named, kvar-here, pred-kvar, expr-here, expr-bad, expr-read}
-use borrow.Author.Rules.{rules}
 use Rattle.binds.proofs.preds.pred.Goals as goal
 use Rattle.binds.proofs.preds.pred.Goals.{then-tree-first-eq-SYMBOL+else-same+else-begins_with, else-tree-first-eq-SYMBOL}
 

@@ -1,12 +1,8 @@
-use Rattle.scopes.specs.Scopes.{slots}
-use lib.ListN.{length}
-use mathlib.Core.Path.{◌≡◌, refl, sym}
+use mathlib.Core.Path.{refl, sym}
 use native.Mathlib.Omega.{arith}
 use borrow.Author.Rules.{rules}
-use Prim.Native.Nat.{◌-◌, ◌+◌}
-use Rattle.binds.specs.PredWords.{PredHere}
 use Rattle.places.proofs.Spots.{spot-within}
-use Rattle.binds.proofs.PredLoop.{Reading, reading-start, reading-end, reading-refused, reading-more, reading-less, many-fits, pred-here}
+use Rattle.binds.proofs.PredLoop.{reading-start, reading-end, reading-refused, reading-more, reading-less, many-fits, pred-here}
 use Rattle.binds.proofs.preds.preds.Goals as goal
 
 pub words_at-requires : goal.words_at-requires

@@ -1,12 +1,9 @@
 use Rattle.scopes.specs.Scopes.{slots}
 use lib.ListN.{length}
-use mathlib.Core.Path.{◌≡◌, refl, sym}
-use native.Mathlib.Omega.{arith}
-use borrow.Author.Rules.{rules}
+use mathlib.Core.Path.{◌≡◌}
 use Prim.Native.Nat.{◌-◌, ◌+◌}
 use Rattle.binds.specs.PredWords.{PredHere}
-use Rattle.places.proofs.Spots.{spot-within}
-use Rattle.binds.proofs.PredLoop.{Reading, reading-start, reading-end, reading-refused, reading-more, reading-less, many-fits, pred-here}
+use Rattle.binds.proofs.PredLoop.{Reading}
 use Rattle.binds.proofs.preds.preds.Given as goal
 
 abbrev pub invariant-loop-p : goal.invariant-loop-p

@@ -1,6 +1,5 @@
 use Rattle.places.proofs.Puts.{put_append}
 use mathlib.Core.List.{[], ◌∷◌}
-use borrow.Author.Rules.{rules}
 use Rattle.binds.proofs.preds.put_kvar.Goals as goal
 
 pub returns : goal.returns

@@ -2,7 +2,7 @@ use Rattle.scopes.proofs.Frame.{kept_same, kept_then}
 use Rattle.reading.proofs.TreeHead.{tree-two}
 use Rattle.places.proofs.Spots.{spot-within}
 use Rattle.exprs.proofs.Steps.{as_stop, as_leaf, as_run, run_row, run-refused, last_end, last-spot, last-here, last_done, run_twice, run-done, late_room, late_kept, inside-kept, progress_start, progress_end, progress_short, next-spot, next_here, progress_refused, progress_more}
-use Rattle.std.proofs.Common.{◌<◌, sym, refl, ◌∙◌, arith, rules}
+use Rattle.std.proofs.Common.{◌<◌, sym, refl, ◌∙◌, arith}
 use Rattle.exprs.proofs.expr.+expr_operands.Goals as goal
 
 pub expr-planned-requires : goal.expr-planned-requires

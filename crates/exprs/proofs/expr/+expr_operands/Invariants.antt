@@ -1,7 +1,7 @@
 use Rattle.scopes.specs.Scopes.{Kept}
 use Rattle.exprs.proofs.Steps.{Going}
 use Rattle.plans.specs.Plans.{Row}
-use Rattle.std.proofs.Common.{◌≡◌, ◌+◌, ◌-◌, ◌*◌, length, arith, rules}
+use Rattle.std.proofs.Common.{◌≡◌, ◌+◌, ◌-◌, ◌*◌, length}
 use Rattle.exprs.proofs.expr.+expr_operands.Given as goal
 
 abbrev pub decreases-expr : goal.decreases-expr

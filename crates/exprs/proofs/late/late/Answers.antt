@@ -1,4 +1,4 @@
-use Rattle.std.proofs.Common.{◌+◌, sym, refl, add-zero, arith, rules, ne_eqb}
+use Rattle.std.proofs.Common.{◌+◌, sym, refl, add-zero, arith, ne_eqb}
 use Rattle.reading.specs.Pick.{pick}
 use Rattle.scopes.specs.Scopes.{pushed, deeper}
 use Rattle.plans.specs.Late.{filled, taken}

@@ -1,9 +1,7 @@
-use mathlib.Core.Path.{◌≡◌, refl}
-use lib.ListN.{drop}
-use Rattle.reading.specs.Bytes.{Maybe, lookup}
+use mathlib.Core.Path.{refl}
 use Rattle.reading.proofs.Bytes.{lookup-here, lookup-later}
 use Rattle.grammar.specs.Expr.{k_bin, op_add, op_div, op_mod, op_mul, kind_items}
-use Rattle.grammar.specs.Names.{Form, keywords}
+use Rattle.grammar.specs.Names.{keywords}
 use Rattle.forms.proofs.FormCode.{keyword_is, rest-says}
 use Rattle.forms.proofs.keywords.arithmetic.Goals as goal
 

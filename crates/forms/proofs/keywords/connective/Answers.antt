@@ -1,10 +1,8 @@
-use mathlib.Core.Path.{◌≡◌, refl}
+use mathlib.Core.Path.{refl}
 use mathlib.Core.Bool.{true, false}
-use lib.ListN.{drop}
-use Rattle.reading.specs.Bytes.{Maybe, lookup}
 use Rattle.reading.proofs.Bytes.{lookup-here, lookup-later, lookup-none}
 use Rattle.grammar.specs.Expr.{k_iff, k_imp, kind_items}
-use Rattle.grammar.specs.Names.{Form, keywords}
+use Rattle.grammar.specs.Names.{keywords}
 use Rattle.forms.proofs.FormCode.{keyword_is, keyword_not}
 use Rattle.forms.proofs.keywords.connective.Goals as goal
 

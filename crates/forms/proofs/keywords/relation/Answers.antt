@@ -1,9 +1,7 @@
-use mathlib.Core.Path.{◌≡◌, refl}
-use lib.ListN.{drop}
-use Rattle.reading.specs.Bytes.{Maybe, lookup}
+use mathlib.Core.Path.{refl}
 use Rattle.reading.proofs.Bytes.{lookup-here, lookup-later}
 use Rattle.grammar.specs.Expr.{k_atom, rel_eq, rel_ge, rel_gt, rel_le, rel_lt, rel_ne, kind_items}
-use Rattle.grammar.specs.Names.{Form, keywords}
+use Rattle.grammar.specs.Names.{keywords}
 use Rattle.forms.proofs.FormCode.{keyword_is, rest-says}
 use Rattle.forms.proofs.keywords.relation.Goals as goal
 

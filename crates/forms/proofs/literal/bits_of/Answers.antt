@@ -1,10 +1,6 @@
 use mathlib.Core.Path.{sym, ◌∙◌}
-use borrow.Author.Tests.{not-true, not-false}
 use Rattle.forms.proofs.LiteralBits.{bits_not, bits_there, bits_are}
 use native.Mathlib.Omega.{arith}
-use borrow.Author.Rules.{rules}
-use mathlib.Core.Path.{ap}
-use mathlib.Core.Bool.{not}
 use Rattle.forms.proofs.literal.bits_of.Goals as goal
 
 pub returns-then-not-begins_with : goal.returns-then-not-begins_with

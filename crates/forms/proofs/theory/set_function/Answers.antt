@@ -1,7 +1,3 @@
-use Prim.Native.Nat.{ℕ}
-use mathlib.Core.Path.{◌≡◌, refl}
-use lib.ListN.{drop}
-use Rattle.reading.specs.Bytes.{Maybe, lookup}
 use Rattle.reading.proofs.Bytes.{lookup-here, lookup-later}
 use Rattle.grammar.specs.Names.{theory}
 use Rattle.forms.proofs.theory.set_function.Goals as goal

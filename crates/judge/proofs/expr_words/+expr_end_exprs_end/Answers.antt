@@ -1,4 +1,3 @@
-use borrow.Author.Rules.{rules}
 use mathlib.Core.Path.{sym, ◌∙◌}
 use Rattle.judge.proofs.ReadExpr.{several-no, several-at, several-end, expr-full, expr-no, expr-operands, expr-arguments, expr-sort, expr-app}
 use Rattle.judge.proofs.expr_words.+expr_end_exprs_end.Goals as goal

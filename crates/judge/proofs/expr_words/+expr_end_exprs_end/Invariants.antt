@@ -1,4 +1,3 @@
-use borrow.Author.Rules.{rules}
 use mathlib.Core.Path.{◌≡◌}
 use Rattle.judging.specs.Ends.{end_of}
 use Rattle.judge.proofs.ReadExpr.{siblings}

@@ -1,6 +1,5 @@
 use mathlib.Core.Path.{sym, ◌∙◌}
 use Rattle.judge.proofs.ReadExpr.{whole-all, whole-left, whole-no}
-use borrow.Author.Rules.{rules}
 use Rattle.judge.proofs.expr_words.judge.Goals as goal
 
 pub returns-then-n-words : goal.returns-then-n-words

@@ -1,5 +1,4 @@
 use Rattle.judge.proofs.ReadExpr.{full-known, full-high, full-low, full-out}
-use borrow.Author.Rules.{rules}
 use Rattle.judge.proofs.expr_words.no_room.Goals as goal
 
 pub returns-then-k-lt-KINDS_END : goal.returns-then-k-lt-KINDS_END

@@ -1,5 +1,4 @@
 use Rattle.judge.proofs.ReadExpr.{sort-none, sort-some}
-use borrow.Author.Rules.{rules}
 use Rattle.judge.proofs.expr_words.out_sort.Goals as goal
 
 pub returns-then-flag : goal.returns-then-flag

@@ -1,6 +1,5 @@
 use mathlib.Core.Path.{sym, ◌∙◌}
 use Rattle.judge.proofs.ReadExpr.{solution-none, solution-params, solution-body, solution-left, solution-all}
-use borrow.Author.Rules.{rules}
 use Rattle.judge.proofs.expr_words.solution.Goals as goal
 
 -- src/expr_words.rt:244:9

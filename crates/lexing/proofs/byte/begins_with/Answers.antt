@@ -3,7 +3,6 @@ use Rattle.reading.specs.Bytes.{same_bytes}
 use Rattle.lexing.proofs.Lexing.Parts.{front}
 use mathlib.Core.Path.{sym, ◌∙◌, ap}
 use Rattle.reading.proofs.Bytes.{begins-take, begins_longer}
-use borrow.Author.Rules.{rules}
 use Rattle.lexing.proofs.byte.begins_with.Goals as goal
 
 pub returns-then-s-n : goal.returns-then-s-n

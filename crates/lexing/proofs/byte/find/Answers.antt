@@ -1,8 +1,6 @@
-use Prim.Native.Nat.{◌+◌, ◌-◌, ◌≤◌}
-use mathlib.Core.Path.{◌≡◌, refl}
+use mathlib.Core.Path.{refl}
 use native.Mathlib.Omega.{arith}
-use lib.ListN.{length, drop}
-use Rattle.reading.specs.Bytes.{before, starts_with}
+use Rattle.reading.specs.Bytes.{starts_with}
 use Rattle.reading.proofs.Bytes.{before_stop, before_more, before-end, starts-yes, starts-no}
 use Rattle.lexing.proofs.byte.find.Goals as goal
 

@@ -1,9 +1,7 @@
 use Prim.Native.Nat.{◌+◌, ◌-◌, ◌≤◌}
-use mathlib.Core.Path.{◌≡◌, refl}
-use native.Mathlib.Omega.{arith}
+use mathlib.Core.Path.{◌≡◌}
 use lib.ListN.{length, drop}
 use Rattle.reading.specs.Bytes.{before, starts_with}
-use Rattle.reading.proofs.Bytes.{before_stop, before_more, before-end, starts-yes, starts-no}
 use Rattle.lexing.proofs.byte.find.Given as goal
 
 abbrev pub invariant-loop-i : goal.invariant-loop-i

@@ -1,8 +1,5 @@
-use Prim.Native.Nat.{◌≤◌, ◌-◌, ◌+◌}
-use mathlib.Core.Path.{◌≡◌, refl, sym, ◌∙◌}
+use mathlib.Core.Path.{refl, sym, ◌∙◌}
 use native.Mathlib.Omega.{arith}
-use lib.ListN.{length, drop, get_or}
-use Rattle.reading.specs.Bytes.{same_bytes}
 use Rattle.reading.proofs.Bytes.{same_length, same-apart, same_more, same_differ, same_end, same-last}
 use Rattle.lexing.proofs.byte.same.Goals as goal
 

@@ -1,9 +1,7 @@
 use Prim.Native.Nat.{◌≤◌, ◌-◌, ◌+◌}
-use mathlib.Core.Path.{◌≡◌, refl, sym, ◌∙◌}
-use native.Mathlib.Omega.{arith}
+use mathlib.Core.Path.{◌≡◌}
 use lib.ListN.{length, drop, get_or}
 use Rattle.reading.specs.Bytes.{same_bytes}
-use Rattle.reading.proofs.Bytes.{same_length, same-apart, same_more, same_differ, same_end, same-last}
 use Rattle.lexing.proofs.byte.same.Given as goal
 
 abbrev pub invariant-loop-i : goal.invariant-loop-i

@@ -1,7 +1,6 @@
 use mathlib.Core.Path.{ap, ◌∙◌}
 use Rattle.reading.specs.Decimal.{is_unsigned_decimal, is_decimal}
 use Rattle.lexing.proofs.Lexing.Parts.{tail_at}
-use borrow.Author.Rules.{rules}
 use Rattle.lexing.proofs.decimal.is_decimal.Goals as goal
 
 pub returns : goal.returns

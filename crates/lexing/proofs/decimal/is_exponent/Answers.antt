@@ -7,7 +7,6 @@ use Rattle.reading.specs.Number.{sign_bytes}
 use Rattle.reading.specs.Decimal.{some_digits}
 use Rattle.lexing.proofs.Lexing.Parts.{tail}
 use Rattle.lexing.proofs.Lexing.Decimals.{exponent-end, exponent_small, exponent-large, exponent-no}
-use borrow.Author.Rules.{rules}
 use Rattle.lexing.proofs.decimal.is_exponent.Goals as goal
 
 pub returns-then-t-eq0 : goal.returns-then-t-eq0

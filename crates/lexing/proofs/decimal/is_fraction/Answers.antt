@@ -5,7 +5,6 @@ use lib.Seq.{drop-drop}
 use Rattle.reading.specs.Decimal.{leading_digits, is_exponent}
 use Rattle.lexing.proofs.Lexing.Parts.{tail}
 use Rattle.lexing.proofs.Lexing.Decimals.{fraction_end, fraction_alone, fraction_point, fraction_none, fraction_whole}
-use borrow.Author.Rules.{rules}
 use Rattle.lexing.proofs.decimal.is_fraction.Goals as goal
 
 pub returns-then-t-n : goal.returns-then-t-n

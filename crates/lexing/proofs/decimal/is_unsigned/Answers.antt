@@ -2,7 +2,6 @@ use Prim.Native.Nat.{ℕ}
 use mathlib.Core.Path.{ap, ◌∙◌}
 use lib.ListN.{drop}
 use Rattle.reading.specs.Decimal.{is_fraction, is_unsigned_decimal}
-use borrow.Author.Rules.{rules}
 use Rattle.lexing.proofs.decimal.is_unsigned.Goals as goal
 
 pub returns : goal.returns

@@ -1,12 +1,8 @@
 use Prim.Native.Nat.{◌+◌, ◌-◌, ◌≤◌}
-use mathlib.Core.Bool.{not}
-use mathlib.Core.Path.{◌≡◌, sym, ap, ◌∙◌}
-use native.Mathlib.Omega.{arith}
+use mathlib.Core.Path.{◌≡◌}
 use lib.ListN.{length, drop}
 use Rattle.reading.specs.Bytes.{before}
 use Rattle.reading.specs.Decimal.{no_digit}
-use Rattle.reading.proofs.Bytes.{before_stop, before_more, before-end}
-use Rattle.lexing.proofs.Lexing.Decimals.{no_digit_lem}
 use Rattle.lexing.proofs.decimal.leading_digits.Given as goal
 
 abbrev pub invariant-loop-i : goal.invariant-loop-i

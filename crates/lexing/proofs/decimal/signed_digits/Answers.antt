@@ -1,7 +1,6 @@
 use mathlib.Core.Path.{ap, ◌∙◌}
 use Rattle.reading.specs.Decimal.{some_digits}
 use Rattle.lexing.proofs.Lexing.Parts.{tail_at}
-use borrow.Author.Rules.{rules}
 use Rattle.lexing.proofs.decimal.signed_digits.Goals as goal
 
 pub returns : goal.returns

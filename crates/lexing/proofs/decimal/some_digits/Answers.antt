@@ -1,5 +1,4 @@
 use Rattle.lexing.proofs.Lexing.Decimals.{some-none, some-leading}
-use borrow.Author.Rules.{rules}
 use Rattle.lexing.proofs.decimal.some_digits.Goals as goal
 
 pub returns-then-t-eq0 : goal.returns-then-t-eq0

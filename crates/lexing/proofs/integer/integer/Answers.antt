@@ -5,7 +5,6 @@ use Rattle.reading.specs.Number.{digits, below}
 use Rattle.lexing.specs.Quads.{as_mag}
 use Rattle.lexing.proofs.Lexing.Parts.{tail}
 use Rattle.lexing.proofs.Lexing.Signs.{integer-none, integer-some}
-use borrow.Author.Rules.{rules}
 use Rattle.lexing.proofs.integer.integer.Goals as goal
 
 pub returns-then-t-eq0 : goal.returns-then-t-eq0

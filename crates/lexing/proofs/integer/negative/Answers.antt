@@ -1,7 +1,6 @@
 use native.Mathlib.Nat.{le_of_lt}
 use native.Mathlib.Omega.{arith}
 use Rattle.lexing.proofs.Lexing.Signs.{value-under, value-lowest, value-past, value-past-low, negative_in, negative_out}
-use borrow.Author.Rules.{rules}
 use Rattle.lexing.proofs.integer.negative.Goals as goal
 
 pub returns-then-q-lt2147483648 : goal.returns-then-q-lt2147483648

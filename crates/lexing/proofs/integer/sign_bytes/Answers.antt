@@ -2,7 +2,6 @@ use native.Mathlib.Omega.{arith}
 use Rattle.reading.specs.Number.{sign_bytes}
 use Rattle.reading.proofs.Picks.{picks, pick_ne}
 use Rattle.lexing.proofs.Lexing.Signs.{sign-none}
-use borrow.Author.Rules.{rules}
 use Rattle.lexing.proofs.integer.sign_bytes.Goals as goal
 
 pub returns-then-t-eq0 : goal.returns-then-t-eq0

@@ -1,5 +1,4 @@
 use Rattle.reading.specs.Number.{signed}
-use borrow.Author.Rules.{rules}
 use Rattle.lexing.proofs.integer.signed.Goals as goal
 
 pub returns-then-minus : goal.returns-then-minus

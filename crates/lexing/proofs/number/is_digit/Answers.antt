@@ -1,6 +1,5 @@
 use Rattle.reading.proofs.Picks.{picks}
 use Rattle.reading.specs.Number.{is_digit}
-use borrow.Author.Rules.{rules}
 use Rattle.lexing.proofs.number.is_digit.Goals as goal
 
 pub returns-then-b-lt48 : goal.returns-then-b-lt48

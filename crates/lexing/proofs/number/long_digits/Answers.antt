@@ -1,14 +1,11 @@
-use Prim.Native.Nat.{◌-◌, ◌≤◌, ◌^◌}
-use mathlib.Core.Path.{◌≡◌, sym, ap, ◌∙◌}
+use Prim.Native.Nat.{◌^◌}
+use mathlib.Core.Path.{sym, ap, ◌∙◌}
 use native.Mathlib.Omega.{arith}
-use lib.ListN.{length, drop}
-use borrow.Author.Tests.{not-true, not-false}
-use Rattle.reading.specs.Number.{value_of, digits, below}
-use Rattle.lexing.specs.Quads.{as_mag, as_wide, Fit}
-use Rattle.lexing.proofs.Lexing.Digits.{digits_from, digits-none, digits-some, from_end, from_bad, from_more, from_over, digit_range}
+use Rattle.reading.specs.Number.{value_of, below}
+use Rattle.lexing.specs.Quads.{as_mag, as_wide}
+use Rattle.lexing.proofs.Lexing.Digits.{digits-none, digits-some, from_end, from_bad, from_more, from_over, digit_range}
 use Rattle.lexing.proofs.Lexing.Limbs.{grown-value, grown-over}
 use Rattle.lexing.proofs.Lexing.Mags.{mag_none, mag_is}
-use mathlib.Core.Bool.{not}
 use Rattle.lexing.proofs.number.long_digits.Goals as goal
 
 pub returns-then-t-eq0 : goal.returns-then-t-eq0

@@ -1,13 +1,9 @@
 use Prim.Native.Nat.{◌-◌, ◌≤◌, ◌^◌}
-use mathlib.Core.Path.{◌≡◌, sym, ap, ◌∙◌}
-use native.Mathlib.Omega.{arith}
+use mathlib.Core.Path.{◌≡◌}
 use lib.ListN.{length, drop}
-use borrow.Author.Tests.{not-true, not-false}
 use Rattle.reading.specs.Number.{value_of, digits, below}
-use Rattle.lexing.specs.Quads.{as_mag, as_wide, Fit}
-use Rattle.lexing.proofs.Lexing.Digits.{digits_from, digits-none, digits-some, from_end, from_bad, from_more, from_over, digit_range}
-use Rattle.lexing.proofs.Lexing.Limbs.{grown-value, grown-over}
-use Rattle.lexing.proofs.Lexing.Mags.{mag_none, mag_is}
+use Rattle.lexing.specs.Quads.{as_wide, Fit}
+use Rattle.lexing.proofs.Lexing.Digits.{digits_from}
 use Rattle.lexing.proofs.number.long_digits.Given as goal
 
 abbrev pub invariant-loop-i : goal.invariant-loop-i

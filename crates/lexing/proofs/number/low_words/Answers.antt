@@ -1,6 +1,5 @@
 use native.Mathlib.Omega.{arith}
 use Rattle.lexing.proofs.Lexing.Mags.{words_in_lem, words-out, value_higher}
-use borrow.Author.Rules.{rules}
 use Rattle.lexing.proofs.number.low_words.Goals as goal
 
 pub returns-then-q-ne0 : goal.returns-then-q-ne0

@@ -4,7 +4,6 @@ use Rattle.reading.specs.Number.{digits}
 use Rattle.lexing.specs.Quads.{QuickOf}
 use Rattle.lexing.specs.declared.number.Quick.{Quick}
 use Rattle.lexing.proofs.Lexing.Mags.{mag_none, mag_small}
-use borrow.Author.Rules.{rules}
 use Rattle.lexing.proofs.number.magnitude.Goals as goal
 
 pub returns-in-Is : goal.returns-in-Is

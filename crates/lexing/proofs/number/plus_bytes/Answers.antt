@@ -2,7 +2,6 @@ use native.Mathlib.Omega.{arith}
 use Rattle.reading.specs.Number.{plus_bytes}
 use Rattle.reading.proofs.Picks.{picks}
 use Rattle.lexing.proofs.Lexing.Signs.{plus_none}
-use borrow.Author.Rules.{rules}
 use Rattle.lexing.proofs.number.plus_bytes.Goals as goal
 
 pub returns-then-t-eq0 : goal.returns-then-t-eq0

@@ -1,12 +1,6 @@
-use Prim.Native.Nat.{◌-◌, ◌≤◌}
-use mathlib.Core.Path.{◌≡◌, sym, ◌∙◌}
+use mathlib.Core.Path.{sym, ◌∙◌}
 use native.Mathlib.Omega.{arith}
-use lib.ListN.{length, drop}
-use borrow.Author.Tests.{not-true, not-false}
-use Rattle.reading.specs.Number.{digits}
-use Rattle.lexing.proofs.Lexing.Digits.{digits_from, digits-none, digits-some, from_end, from_bad, from_more, digit_range, base_times}
-use mathlib.Core.Path.{ap}
-use mathlib.Core.Bool.{not}
+use Rattle.lexing.proofs.Lexing.Digits.{digits-none, digits-some, from_end, from_bad, from_more, digit_range, base_times}
 use Rattle.lexing.proofs.number.short_digits.Goals as goal
 
 pub returns-then-t-eq0 : goal.returns-then-t-eq0

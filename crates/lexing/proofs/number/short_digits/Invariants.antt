@@ -1,10 +1,8 @@
 use Prim.Native.Nat.{◌-◌, ◌≤◌}
-use mathlib.Core.Path.{◌≡◌, sym, ◌∙◌}
-use native.Mathlib.Omega.{arith}
+use mathlib.Core.Path.{◌≡◌}
 use lib.ListN.{length, drop}
-use borrow.Author.Tests.{not-true, not-false}
 use Rattle.reading.specs.Number.{digits}
-use Rattle.lexing.proofs.Lexing.Digits.{digits_from, digits-none, digits-some, from_end, from_bad, from_more, digit_range, base_times}
+use Rattle.lexing.proofs.Lexing.Digits.{digits_from}
 use Rattle.lexing.proofs.number.short_digits.Given as goal
 
 abbrev pub invariant-loop-i : goal.invariant-loop-i

@@ -5,7 +5,6 @@ use Rattle.reading.specs.Number.{below}
 use Rattle.lexing.specs.Quads.{as_word32, number_of}
 use Rattle.lexing.specs.declared.number.Mag.{Mag}
 use Rattle.lexing.proofs.Lexing.Signs.{unsigned-words}
-use borrow.Author.Rules.{rules}
 use Rattle.lexing.proofs.number.u32_of.Goals as goal
 
 pub returns-in-Is : goal.returns-in-Is

@@ -4,7 +4,6 @@ use mathlib.Core.List.{List}
 use Rattle.reading.specs.Number.{digits, below, unsigned}
 use Rattle.lexing.specs.Quads.{as_mag}
 use Rattle.lexing.proofs.Lexing.Parts.{tail_at}
-use borrow.Author.Rules.{rules}
 use Rattle.lexing.proofs.number.unsigned.Goals as goal
 
 pub returns : goal.returns

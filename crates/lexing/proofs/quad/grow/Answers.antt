@@ -1,5 +1,4 @@
 use Rattle.lexing.proofs.Lexing.Limbs.{grown}
-use borrow.Author.Rules.{rules}
 use Rattle.lexing.proofs.quad.grow.Goals as goal
 
 pub returns : goal.returns

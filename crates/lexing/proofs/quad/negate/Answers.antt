@@ -1,7 +1,6 @@
 use mathlib.Core.Path.{ap}
 use Rattle.lexing.specs.Quads.{as_quad, as_wide}
 use Rattle.lexing.proofs.Lexing.Limbs.{flipped}
-use borrow.Author.Rules.{rules}
 use Rattle.lexing.proofs.quad.negate.Goals as goal
 
 pub returns : goal.returns

@@ -2,7 +2,6 @@ use mathlib.Core.Path.{ap}
 use native.Mathlib.Omega.{arith}
 use Rattle.lexing.specs.Quads.{as_quad}
 use Rattle.lexing.proofs.Lexing.Limbs.{wide-small}
-use borrow.Author.Rules.{rules}
 use Rattle.lexing.proofs.quad.quad_of.Goals as goal
 
 pub returns : goal.returns

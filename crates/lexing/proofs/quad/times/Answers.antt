@@ -1,6 +1,5 @@
 use native.Mathlib.Omega.{arith}
 use Rattle.lexing.proofs.Lexing.Limbs.{product}
-use borrow.Author.Rules.{rules}
 use Rattle.lexing.proofs.quad.times.Goals as goal
 
 pub overflow_mul-t : goal.overflow_mul-t

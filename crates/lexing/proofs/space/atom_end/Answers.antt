@@ -1,8 +1,5 @@
-use Prim.Native.Nat.{◌+◌, ◌-◌, ◌≤◌}
-use mathlib.Core.Path.{◌≡◌, refl, sym, ◌∙◌}
+use mathlib.Core.Path.{refl, sym, ◌∙◌}
 use native.Mathlib.Omega.{arith}
-use lib.ListN.{length, drop}
-use Rattle.reading.specs.Bytes.{before}
 use Rattle.reading.specs.Space.{ends_atom}
 use Rattle.reading.proofs.Bytes.{before_stop, before_more, before-end}
 use Rattle.lexing.proofs.space.atom_end.Goals as goal

@@ -1,6 +1,5 @@
 use native.Mathlib.Omega.{arith}
 use Rattle.lexing.proofs.Lexing.White.{char_one, char_two, char_three, char_four}
-use borrow.Author.Rules.{rules}
 use Rattle.lexing.proofs.space.char_at.Goals as goal
 
 pub returns-then-a-lt128 : goal.returns-then-a-lt128

@@ -1,7 +1,6 @@
 use mathlib.Core.Path.{sym, ap, ◌∙◌}
 use Rattle.reading.specs.Space.{is_white}
 use Rattle.lexing.proofs.Lexing.White.{space-white, space-short, space-other}
-use borrow.Author.Rules.{rules}
 use Rattle.lexing.proofs.space.decoded_space.Goals as goal
 
 pub returns-then-text-at : goal.returns-then-text-at

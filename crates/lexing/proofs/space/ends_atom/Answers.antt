@@ -1,6 +1,5 @@
 use mathlib.Core.Path.{refl}
 use Rattle.lexing.proofs.Lexing.White.{between, ends_open, ends_close, ends-quote, ends-other, ends-blank, ends_graphic}
-use borrow.Author.Rules.{rules}
 use Rattle.lexing.proofs.space.ends_atom.Goals as goal
 
 pub returns-then-b : goal.returns-then-b

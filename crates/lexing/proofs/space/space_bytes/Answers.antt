@@ -1,7 +1,6 @@
 use mathlib.Core.Path.{refl, sym, ◌∙◌}
 use native.Mathlib.Omega.{arith}
 use Rattle.lexing.proofs.Lexing.White.{between, white-ascii, space-blank, space-ascii, space_graphic, space_middle, space-two, space-three}
-use borrow.Author.Rules.{rules}
 use Rattle.lexing.proofs.space.space_bytes.Goals as goal
 
 pub returns-then-b-eq32 : goal.returns-then-b-eq32

@@ -1,5 +1,4 @@
 use Rattle.lexing.proofs.Lexing.Leaves.{symbol_open, symbol-leaf}
-use borrow.Author.Rules.{rules}
 use Rattle.lexing.proofs.tokens.at_sign.Goals as goal
 
 pub returns-then-text-e : goal.returns-then-text-e

@@ -3,7 +3,6 @@ use Rattle.reading.specs.Tree.{atom_words}
 use Rattle.reading.specs.Token.{atom_of}
 use Rattle.lexing.specs.TokenWords.{as_coded}
 use Rattle.reading.proofs.Picks.{pick_yes, pick_no}
-use borrow.Author.Rules.{rules}
 use Rattle.lexing.proofs.tokens.atom.Goals as goal
 
 pub returns-then-same : goal.returns-then-same

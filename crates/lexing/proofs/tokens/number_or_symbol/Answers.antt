@@ -2,7 +2,6 @@ use mathlib.Core.Path.{sym, ap, ◌∙◌}
 use Rattle.lexing.specs.Quads.{as_integer}
 use Rattle.lexing.proofs.Lexing.Leaves.{coded-integer, coded-decimal, coded-symbol}
 use Rattle.lexing.proofs.Lexing.Letters.{letter_integer, letter_decimal}
-use borrow.Author.Rules.{rules}
 use Rattle.lexing.proofs.tokens.number_or_symbol.Goals as goal
 
 pub returns-then-t-gt57 : goal.returns-then-t-gt57

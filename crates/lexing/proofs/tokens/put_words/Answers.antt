@@ -1,7 +1,6 @@
 use mathlib.Core.Path.{◌≡◌}
 use native.Mathlib.Omega.{arith}
 use native.Mathlib.Numerals.{add-one, add-three, add-four}
-use borrow.Author.Rules.{rules}
 use Rattle.lexing.proofs.tokens.put_words.Goals as goal
 
 pub returns-then-n-le2 : goal.returns-then-n-le2

@@ -1,5 +1,4 @@
 use Rattle.lexing.proofs.Lexing.Leaves.{quoted_open, quoted-leaf}
-use borrow.Author.Rules.{rules}
 use Rattle.lexing.proofs.tokens.quoted.Goals as goal
 
 pub returns-then-text-e : goal.returns-then-text-e

@@ -6,7 +6,6 @@ use Rattle.lexing.specs.TokenWords.{as_token}
 use Rattle.reading.proofs.Picks.{pick_eq, pick_ne}
 use Rattle.reading.proofs.Token.{space_le}
 use Rattle.lexing.proofs.Lexing.Leaves.{token-blank, token-leaf}
-use borrow.Author.Rules.{rules}
 use Rattle.lexing.proofs.tokens.token_at.Goals as goal
 
 pub returns-then-b-eq40 : goal.returns-then-b-eq40

@@ -1,8 +1,5 @@
-use Prim.Native.Nat.{◌-◌, ◌≤◌}
-use mathlib.Core.Path.{◌≡◌, refl, ◌∙◌}
+use mathlib.Core.Path.{refl, ◌∙◌}
 use native.Mathlib.Omega.{arith}
-use lib.ListN.{length, drop}
-use Rattle.reading.specs.Utf8.{first, well_formed}
 use Rattle.lexing.proofs.Lexing.WellFormed.{formed-ascii}
 use Rattle.lexing.proofs.utf8.ascii_end.Goals as goal
 

@@ -1,9 +1,7 @@
 use Prim.Native.Nat.{◌-◌, ◌≤◌}
-use mathlib.Core.Path.{◌≡◌, refl, ◌∙◌}
-use native.Mathlib.Omega.{arith}
+use mathlib.Core.Path.{◌≡◌}
 use lib.ListN.{length, drop}
 use Rattle.reading.specs.Utf8.{first, well_formed}
-use Rattle.lexing.proofs.Lexing.WellFormed.{formed-ascii}
 use Rattle.lexing.proofs.utf8.ascii_end.Given as goal
 
 abbrev pub invariant-loop-i : goal.invariant-loop-i

@@ -4,7 +4,6 @@ use native.Mathlib.Omega.{arith}
 use Rattle.reading.specs.Utf8.{first}
 use Rattle.lexing.specs.Next.{expected}
 use Rattle.lexing.proofs.Lexing.WellFormed.{formed-first, formed-wrong, ends-not, ends-before, ends-false, ends-first}
-use borrow.Author.Rules.{rules}
 use Rattle.lexing.proofs.utf8.character.Goals as goal
 
 pub returns-in-First : goal.returns-in-First

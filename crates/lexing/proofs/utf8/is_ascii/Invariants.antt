@@ -1,10 +1,8 @@
-use Prim.Native.Nat.{◌-◌, ◌≤◌, zero-le}
-use mathlib.Core.Path.{◌≡◌, refl, sym, ap, ◌∙◌}
-use mathlib.Core.Bool.{Bool, ◌&&◌, and-true, and_assoc}
-use native.Mathlib.Omega.{arith}
+use Prim.Native.Nat.{◌-◌, ◌≤◌}
+use mathlib.Core.Path.{◌≡◌}
+use mathlib.Core.Bool.{◌&&◌}
 use lib.ListN.{length, drop}
 use Rattle.lexing.specs.Next.{all_ascii}
-use Rattle.lexing.proofs.Lexing.WellFormed.{ascii-end, ascii_more}
 use Rattle.lexing.proofs.utf8.is_ascii.Given as goal
 
 abbrev pub invariant-loop-i : goal.invariant-loop-i

@@ -1,10 +1,7 @@
-use Prim.Native.Nat.{◌-◌, ◌≤◌}
-use mathlib.Core.Path.{◌≡◌, sym, ◌∙◌}
+use mathlib.Core.Path.{sym, ◌∙◌}
 use native.Mathlib.Omega.{arith}
-use lib.ListN.{length, drop}
-use Rattle.reading.specs.Utf8.{first, well_formed, utf8}
+use Rattle.reading.specs.Utf8.{utf8}
 use Rattle.lexing.proofs.Lexing.WellFormed.{formed-end, ends-false, ends-first, ascii-formed}
-use borrow.Author.Rules.{rules}
 use Rattle.lexing.proofs.utf8.is_utf8.Goals as goal
 
 pub returns-then-is_ascii : goal.returns-then-is_ascii

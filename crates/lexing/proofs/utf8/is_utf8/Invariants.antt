@@ -1,10 +1,7 @@
 use Prim.Native.Nat.{◌-◌, ◌≤◌}
-use mathlib.Core.Path.{◌≡◌, sym, ◌∙◌}
-use native.Mathlib.Omega.{arith}
+use mathlib.Core.Path.{◌≡◌}
 use lib.ListN.{length, drop}
-use Rattle.reading.specs.Utf8.{first, well_formed, utf8}
-use Rattle.lexing.proofs.Lexing.WellFormed.{formed-end, ends-false, ends-first, ascii-formed}
-use borrow.Author.Rules.{rules}
+use Rattle.reading.specs.Utf8.{first, well_formed}
 use Rattle.lexing.proofs.utf8.is_utf8.Given as goal
 
 abbrev pub invariant-loop-i : goal.invariant-loop-i

@@ -1,8 +1,8 @@
-use Prim.Native.Nat.{◌+◌, ◌-◌, ◌≤◌}
-use mathlib.Core.Path.{◌≡◌, refl, ap, ◌∙◌}
+use Prim.Native.Nat.{◌+◌}
+use mathlib.Core.Path.{refl, ap, ◌∙◌}
 use native.Mathlib.Omega.{arith}
-use lib.ListN.{length, drop}
-use Rattle.reading.specs.Utf8.{Expected, inside, well_formed}
+use lib.ListN.{drop}
+use Rattle.reading.specs.Utf8.{Expected, well_formed}
 use Rattle.lexing.proofs.Lexing.WellFormed.{formed-low, formed-high, formed-within, formed-end, come_none, come_more, ends-not, ends-before}
 use Rattle.lexing.proofs.utf8.rest.Goals as goal
 

@@ -1,9 +1,7 @@
-use Prim.Native.Nat.{◌+◌, ◌-◌, ◌≤◌}
-use mathlib.Core.Path.{◌≡◌, refl, ap, ◌∙◌}
-use native.Mathlib.Omega.{arith}
+use Prim.Native.Nat.{◌-◌, ◌≤◌}
+use mathlib.Core.Path.{◌≡◌}
 use lib.ListN.{length, drop}
-use Rattle.reading.specs.Utf8.{Expected, inside, well_formed}
-use Rattle.lexing.proofs.Lexing.WellFormed.{formed-low, formed-high, formed-within, formed-end, come_none, come_more, ends-not, ends-before}
+use Rattle.reading.specs.Utf8.{inside, well_formed}
 use Rattle.lexing.proofs.utf8.rest.Given as goal
 
 abbrev pub invariant-loop-i : goal.invariant-loop-i

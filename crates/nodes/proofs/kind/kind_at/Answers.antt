@@ -3,7 +3,6 @@ use native.Mathlib.Omega.{arith}
 use Rattle.nodes.specs.Node.{nodes_at}
 use Rattle.nodes.proofs.NodeAt.{behind-end, told_at, told-low, told-high}
 use Rattle.heads.proofs.ReadHead.{next}
-use borrow.Author.Rules.{rules}
 use Rattle.nodes.proofs.kind.kind_at.Goals as goal
 
 pub returns-then-words-at : goal.returns-then-words-at

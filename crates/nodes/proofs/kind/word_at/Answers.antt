@@ -1,6 +1,5 @@
 use Rattle.nodes.proofs.NodeAt.{behind-end}
 use mathlib.Core.Path.{sym}
-use borrow.Author.Rules.{rules}
 use Rattle.nodes.proofs.kind.word_at.Goals as goal
 
 -- src/kind.rt:53:1

@@ -1,6 +1,5 @@
 use mathlib.Core.Path.{refl}
 use Rattle.writing.specs.Laid.{laid}
-use borrow.Author.Rules.{rules}
 use Rattle.places.proofs.expr_words.put1.Goals as goal
 
 pub returns : goal.returns

@@ -1,6 +1,5 @@
 use mathlib.Core.Path.{refl}
 use Rattle.places.proofs.Puts.{puts_2}
-use borrow.Author.Rules.{rules}
 use Rattle.places.proofs.expr_words.put2.Goals as goal
 
 pub returns : goal.returns

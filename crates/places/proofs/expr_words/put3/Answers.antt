@@ -1,6 +1,5 @@
 use mathlib.Core.Path.{refl}
 use Rattle.places.proofs.Puts.{puts_3}
-use borrow.Author.Rules.{rules}
 use Rattle.places.proofs.expr_words.put3.Goals as goal
 
 pub returns : goal.returns

@@ -4,7 +4,6 @@ use Rattle.lexing.specs.Quads.{as_wide}
 use Rattle.lexing.proofs.Lexing.Signs.{value-under, value-over}
 use Rattle.places.proofs.Numerals.{numeral-plus, numeral-minus}
 use Rattle.places.proofs.Puts.{put_append}
-use borrow.Author.Rules.{rules}
 use Rattle.places.proofs.expr_words.put_numeral.Goals as goal
 
 pub returns-then-q-lt2147483648 : goal.returns-then-q-lt2147483648

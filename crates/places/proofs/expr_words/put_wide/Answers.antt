@@ -1,7 +1,6 @@
 use mathlib.Core.List.{[], ◌∷◌}
 use native.Mathlib.Omega.{arith}
 use Rattle.places.proofs.Puts.{put_append}
-use borrow.Author.Rules.{rules}
 use Rattle.places.proofs.expr_words.put_wide.Goals as goal
 
 pub put2-requires : goal.put2-requires

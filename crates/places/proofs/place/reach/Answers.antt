@@ -1,5 +1,4 @@
 use Rattle.places.proofs.Spots.{seen_here}
-use borrow.Author.Rules.{rules}
 use Rattle.places.proofs.place.reach.Goals as goal
 
 pub returns-then-plain : goal.returns-then-plain

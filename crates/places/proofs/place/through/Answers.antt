@@ -1,7 +1,4 @@
-use Rattle.places.proofs.Spots.{two-there, list-there, Inwards, in_start, in_atom_lem, in_many, in_one}
-use Rattle.places.specs.Spot.{Spot}
-use lib.ListN.{length}
-use Prim.Native.Nat.{◌-◌}
+use Rattle.places.proofs.Spots.{two-there, list-there, in_start, in_atom_lem, in_many, in_one}
 use native.Mathlib.Omega.{arith}
 use Rattle.places.proofs.place.through.Goals as goal
 

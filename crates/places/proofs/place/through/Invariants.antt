@@ -1,8 +1,7 @@
-use Rattle.places.proofs.Spots.{two-there, list-there, Inwards, in_start, in_atom_lem, in_many, in_one}
+use Rattle.places.proofs.Spots.{Inwards}
 use Rattle.places.specs.Spot.{Spot}
 use lib.ListN.{length}
 use Prim.Native.Nat.{◌-◌}
-use native.Mathlib.Omega.{arith}
 use Rattle.places.proofs.place.through.Given as goal
 
 abbrev pub invariant-loop-p : goal.invariant-loop-p

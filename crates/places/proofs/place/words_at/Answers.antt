@@ -2,7 +2,6 @@ use native.Mathlib.Omega.{arith}
 use mathlib.Core.Path.{◌∙◌}
 use Rattle.lexing.proofs.Lexing.Parts.{tail}
 use Rattle.places.proofs.Spots.{two-there}
-use borrow.Author.Rules.{rules}
 use Rattle.places.proofs.place.words_at.Goals as goal
 
 pub offset_bounds-tree-at : goal.offset_bounds-tree-at

@@ -3,7 +3,6 @@ use mathlib.Core.Path.{ap}
 use lib.ListN.{length}
 use Rattle.places.proofs.Spots.{spot-within, two-there}
 use Rattle.places.proofs.SortPlace.{exact, lent-done, lent-refused, got-at, over-at, sort-short}
-use borrow.Author.Rules.{rules}
 use Rattle.places.proofs.sort_at.sort_at.Goals as goal
 
 pub overflow_add-end : goal.overflow_add-end

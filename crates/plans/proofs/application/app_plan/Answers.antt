@@ -1,4 +1,4 @@
-use Rattle.std.proofs.Common.{◌+◌, sym, ◌∙◌, arith, rules}
+use Rattle.std.proofs.Common.{◌+◌, sym, ◌∙◌, arith}
 use Rattle.plans.proofs.Applied.{ap-many, head-spot, ap-two, ap-room, ap-atom, ap-short, inner-spot, second-spot, third-small, third-spot, in_call, in_short, in_bad, in_apply}
 use Rattle.places.proofs.Spots.{spot-within, two-there}
 use Rattle.places.proofs.Inside.{node-list, node-other}

@@ -1,4 +1,4 @@
-use Rattle.std.proofs.Common.{ap, ◌∙◌, arith, rules}
+use Rattle.std.proofs.Common.{ap, ◌∙◌, arith}
 use Rattle.reading.specs.Bytes.{ascii, same_bytes}
 use Rattle.places.proofs.Spots.{two-there}
 use Rattle.plans.proofs.Applied.{apply-other, apply-here, symbol-there}

@@ -1,10 +1,6 @@
-use Rattle.std.proofs.Common.{◌≡◌, ◌-◌, length, refl, arith, rules}
-use borrow.Author.Tests.{not-true, not-false}
-use Rattle.plans.specs.BinderWords.{BinderRow}
+use Rattle.std.proofs.Common.{refl, arith, rules}
 use Rattle.places.proofs.Spots.{spot-within}
-use Rattle.plans.proofs.BinderPairs.{Numbering, numbering_start, numbering_end, numbering_bad, numbering_refused, numbering_more, binder-spot, binder-room, sort-small, sort-within}
-use mathlib.Core.Path.{ap}
-use mathlib.Core.Bool.{not}
+use Rattle.plans.proofs.BinderPairs.{numbering_start, numbering_end, numbering_bad, numbering_refused, numbering_more, binder-spot, binder-room, sort-small, sort-within}
 use Rattle.plans.proofs.binders.binder_words.Goals as goal
 
 pub loop-i-init : goal.loop-i-init

@@ -1,8 +1,6 @@
-use Rattle.std.proofs.Common.{◌≡◌, ◌-◌, length, refl, arith, rules}
-use borrow.Author.Tests.{not-true, not-false}
+use Rattle.std.proofs.Common.{◌≡◌, ◌-◌, length}
 use Rattle.plans.specs.BinderWords.{BinderRow}
-use Rattle.places.proofs.Spots.{spot-within}
-use Rattle.plans.proofs.BinderPairs.{Numbering, numbering_start, numbering_end, numbering_bad, numbering_refused, numbering_more, binder-spot, binder-room, sort-small, sort-within}
+use Rattle.plans.proofs.BinderPairs.{Numbering}
 use Rattle.plans.proofs.binders.binder_words.Given as goal
 
 abbrev pub invariant-loop-i : goal.invariant-loop-i

@@ -1,4 +1,4 @@
-use Rattle.std.proofs.Common.{◌+◌, ◌∙◌, arith, rules}
+use Rattle.std.proofs.Common.{◌+◌, ◌∙◌, arith}
 use Rattle.plans.proofs.ExistsForm.{ex_there, ex_count, vars-spot, ex_atom, ex_row, ex_bad, ex_go}
 use Rattle.places.proofs.Spots.{spot-within}
 use Rattle.places.proofs.Inside.{node-list, node-other}

@@ -1,4 +1,4 @@
-use Rattle.std.proofs.Common.{refl, arith, rules}
+use Rattle.std.proofs.Common.{refl, arith}
 use Rattle.plans.specs.Plans.{refused}
 use Rattle.places.proofs.Spots.{spot-within, two-there}
 use Rattle.places.proofs.Rows.{lead-spot}

@@ -1,4 +1,4 @@
-use Rattle.std.proofs.Common.{◌+◌, false, ap, rules}
+use Rattle.std.proofs.Common.{◌+◌, false, ap}
 use Rattle.plans.specs.declared.plan.Plan.TheVariants.{Go}
 use Rattle.plans.proofs.lists.behind.Goals as goal
 

@@ -1,5 +1,5 @@
 use Rattle.plans.specs.declared.plan.Plan.TheVariants.{Stop}
-use Rattle.std.proofs.Common.{arith, rules}
+use Rattle.std.proofs.Common.{arith}
 use Rattle.plans.proofs.ListPlans.{list-within, first-there, some-headed, some-filled, read_none, read_named, read-applied}
 use Rattle.plans.proofs.lists.list_plan.Goals as goal
 

@@ -1,4 +1,4 @@
-use Rattle.std.proofs.Common.{arith, rules}
+use Rattle.std.proofs.Common.{arith}
 use Rattle.plans.proofs.ListPlans.{head-within, head-count}
 use Rattle.plans.proofs.NamedPlans.{minus_neg, minus_sub}
 use Rattle.plans.proofs.lists.minus_plan.Goals as goal

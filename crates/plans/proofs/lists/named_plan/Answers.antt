@@ -1,4 +1,4 @@
-use Rattle.std.proofs.Common.{refl, subst, arith, rules}
+use Rattle.std.proofs.Common.{refl, subst, arith}
 use Rattle.grammar.specs.Names.{minus, exists, let_in, lit}
 use Rattle.forms.specs.FormNames.{FormIs}
 use Rattle.grammar.specs.ParseExpr

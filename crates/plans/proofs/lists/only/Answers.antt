@@ -1,4 +1,4 @@
-use Rattle.std.proofs.Common.{refl, rules, le-ltb, lt-ltb}
+use Rattle.std.proofs.Common.{refl, le-ltb, lt-ltb}
 use Rattle.reading.specs.Pick.{pick}
 use Rattle.plans.proofs.lists.only.Goals as goal
 

@@ -1,4 +1,4 @@
-use Rattle.std.proofs.Common.{sym, refl, ap, ◌∙◌, arith, rules}
+use Rattle.std.proofs.Common.{sym, refl, ap, ◌∙◌, arith}
 use Rattle.reading.specs.Answer.{or_bad, malformed, bad_literal}
 use Rattle.sorts.specs.SortNames.{width_in}
 use Rattle.forms.specs.FormNames.{bits_in}

@@ -1,4 +1,4 @@
-use Rattle.std.proofs.Common.{arith, rules}
+use Rattle.std.proofs.Common.{arith}
 use Rattle.places.proofs.Spots.{two-there}
 use Rattle.places.proofs.Rows.{lead-spot}
 use Rattle.plans.proofs.TreePlans.{three-there}

@@ -1,4 +1,4 @@
-use Rattle.std.proofs.Common.{arith, rules}
+use Rattle.std.proofs.Common.{arith}
 use Rattle.places.proofs.Spots.{two-there}
 use Rattle.plans.proofs.TreePlans.{three-there, five-there, here-scopes, here-list, planned-list, planned-symbol, planned-integer, planned-boolean, planned-quoted, planned-decimal}
 use Rattle.plans.proofs.plan.planned.Goals as goal

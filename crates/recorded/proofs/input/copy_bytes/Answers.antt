@@ -1,12 +1,12 @@
-use Prim.Native.Nat.{◌+◌, ◌-◌, ◌*◌, ◌≤◌}
+use Prim.Native.Nat.{◌+◌, ◌*◌}
 use mathlib.Core.Path.{◌≡◌, ap, ◌∙◌}
 use mathlib.Core.List.{[], ◌∷◌}
 use native.Mathlib.Omega.{arith}
-use lib.ListN.{length, drop, get_or}
-use Rattle.recorded.specs.Numbers.{most, digit}
+use lib.ListN.{drop, get_or}
+use Rattle.recorded.specs.Numbers.{digit}
 use Rattle.recorded.specs.Spelled.{bytes_once}
 use Rattle.recorded.proofs.Parts.{once-end, once-high, once-low, once_more, low-inside}
-use Rattle.recorded.proofs.Storing.{Left, left-all, left-more, left-none}
+use Rattle.recorded.proofs.Storing.{left-all, left-more, left-none}
 use Rattle.recorded.proofs.input.copy_bytes.Goals as goal
 
 pub loop-i-init : goal.loop-i-init

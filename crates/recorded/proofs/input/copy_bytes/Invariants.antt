@@ -1,12 +1,8 @@
-use Prim.Native.Nat.{◌+◌, ◌-◌, ◌*◌, ◌≤◌}
-use mathlib.Core.Path.{◌≡◌, ap, ◌∙◌}
-use mathlib.Core.List.{[], ◌∷◌}
-use native.Mathlib.Omega.{arith}
-use lib.ListN.{length, drop, get_or}
-use Rattle.recorded.specs.Numbers.{most, digit}
+use Prim.Native.Nat.{◌-◌, ◌≤◌}
+use lib.ListN.{length, drop}
+use Rattle.recorded.specs.Numbers.{most}
 use Rattle.recorded.specs.Spelled.{bytes_once}
-use Rattle.recorded.proofs.Parts.{once-end, once-high, once-low, once_more, low-inside}
-use Rattle.recorded.proofs.Storing.{Left, left-all, left-more, left-none}
+use Rattle.recorded.proofs.Storing.{Left}
 use Rattle.recorded.proofs.input.copy_bytes.Given as goal
 
 abbrev pub invariant-loop-i : goal.invariant-loop-i

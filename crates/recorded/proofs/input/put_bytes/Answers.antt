@@ -1,5 +1,5 @@
 use lib.Seq.{sets}
-use Prim.Native.Nat.{◌+◌, ◌-◌, ◌≤◌, min, ℕ}
+use Prim.Native.Nat.{◌+◌, min, ℕ}
 use mathlib.Core.Path.{refl, sym, ap, ◌∙◌}
 use mathlib.Core.List.{[], List}
 use native.Mathlib.Omega.{arith}
@@ -9,7 +9,7 @@ use Rattle.recorded.specs.Fields.{ends}
 use Rattle.recorded.specs.Spelled.{bytes_in, bytes_once, again, times}
 use Rattle.recorded.proofs.Places.{ends-inside}
 use Rattle.recorded.proofs.Parts.{spelled-more, spelled-last}
-use Rattle.recorded.proofs.Storing.{Left, left-all, left-more, left-none, stored-over}
+use Rattle.recorded.proofs.Storing.{left-all, left-more, left-none, stored-over}
 use Rattle.recorded.proofs.input.put_bytes.Goals as goal
 
 pub loop-at-init : goal.loop-at-init

@@ -1,15 +1,8 @@
-use lib.Seq.{sets}
-use Prim.Native.Nat.{◌+◌, ◌-◌, ◌≤◌, min, ℕ}
-use mathlib.Core.Path.{refl, sym, ap, ◌∙◌}
-use mathlib.Core.List.{[], List}
-use native.Mathlib.Omega.{arith}
+use Prim.Native.Nat.{◌-◌, ◌≤◌}
 use lib.ListN.{length, drop}
 use Rattle.recorded.specs.Numbers.{most}
-use Rattle.recorded.specs.Fields.{ends}
-use Rattle.recorded.specs.Spelled.{bytes_in, bytes_once, again, times}
-use Rattle.recorded.proofs.Places.{ends-inside}
-use Rattle.recorded.proofs.Parts.{spelled-more, spelled-last}
-use Rattle.recorded.proofs.Storing.{Left, left-all, left-more, left-none, stored-over}
+use Rattle.recorded.specs.Spelled.{bytes_in}
+use Rattle.recorded.proofs.Storing.{Left}
 use Rattle.recorded.proofs.input.put_bytes.Given as goal
 
 abbrev pub invariant-loop-at : goal.invariant-loop-at

@@ -4,8 +4,6 @@ use lib.ListN.{get_or}
 use mathlib.Core.Path.{refl, ap, ◌∙◌}
 use native.Mathlib.Omega.{arith}
 use Rattle.recorded.specs.Numbers.{digit}
-use Rattle.recorded.specs.Spelled.{times}
-use borrow.Author.Rules.{rules}
 use Rattle.recorded.proofs.input.put_part.Goals as goal
 
 pub returns-then-digit-gt15 : goal.returns-then-digit-gt15

@@ -1,14 +1,13 @@
-use Prim.Native.Nat.{◌+◌, ◌-◌, ◌≤◌}
+use Prim.Native.Nat.{◌+◌}
 use mathlib.Core.Path.{refl, sym, ap, ◌∙◌}
 use mathlib.Core.List.{[]}
 use native.Mathlib.Omega.{arith}
-use lib.ListN.{length, drop}
-use Rattle.recorded.specs.Numbers.{most}
+use lib.ListN.{drop}
 use Rattle.recorded.specs.Fields.{ends}
 use Rattle.recorded.specs.Spelled.{words_in, word_once, again, times}
 use Rattle.recorded.proofs.Places.{ends-inside}
 use Rattle.recorded.proofs.Parts.{spelled-more, spelled-last}
-use Rattle.recorded.proofs.Storing.{Left, left-all, left-more, left-none, stored-over}
+use Rattle.recorded.proofs.Storing.{left-all, left-more, left-none, stored-over}
 use Rattle.recorded.proofs.input.put_words.Goals as goal
 
 pub loop-at-init : goal.loop-at-init

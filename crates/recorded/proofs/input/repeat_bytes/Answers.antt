@@ -1,10 +1,9 @@
-use Prim.Native.Nat.{◌+◌, ◌-◌, ◌≤◌}
+use Prim.Native.Nat.{◌+◌, ◌-◌}
 use mathlib.Core.Path.{◌≡◌}
 use native.Mathlib.Omega.{arith}
 use lib.ListN.{drop}
-use Rattle.recorded.specs.Numbers.{most}
 use Rattle.recorded.specs.Spelled.{bytes_once, again}
-use Rattle.recorded.proofs.Storing.{Left, left-all, left-more, left-none, again-next, again-none}
+use Rattle.recorded.proofs.Storing.{left-all, left-more, left-none, again-next, again-none}
 use Rattle.recorded.proofs.input.repeat_bytes.Goals as goal
 
 pub loop-k-init : goal.loop-k-init

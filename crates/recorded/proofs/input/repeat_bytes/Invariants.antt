@@ -1,10 +1,8 @@
-use Prim.Native.Nat.{◌+◌, ◌-◌, ◌≤◌}
-use mathlib.Core.Path.{◌≡◌}
-use native.Mathlib.Omega.{arith}
+use Prim.Native.Nat.{◌-◌, ◌≤◌}
 use lib.ListN.{drop}
 use Rattle.recorded.specs.Numbers.{most}
 use Rattle.recorded.specs.Spelled.{bytes_once, again}
-use Rattle.recorded.proofs.Storing.{Left, left-all, left-more, left-none, again-next, again-none}
+use Rattle.recorded.proofs.Storing.{Left}
 use Rattle.recorded.proofs.input.repeat_bytes.Given as goal
 
 abbrev pub invariant-loop-k : goal.invariant-loop-k

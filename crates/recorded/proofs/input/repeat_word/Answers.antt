@@ -1,11 +1,7 @@
-use Prim.Native.Nat.{◌+◌, ◌-◌, ◌≤◌, min}
-use borrow.Author.Rules.{rules}
+use Prim.Native.Nat.{◌+◌, ◌-◌}
 use mathlib.Core.Path.{◌≡◌}
-use mathlib.Core.List.{[], ◌∷◌}
 use native.Mathlib.Omega.{arith}
-use Rattle.recorded.specs.Numbers.{most}
-use Rattle.recorded.specs.Spelled.{again}
-use Rattle.recorded.proofs.Storing.{Left, left-all, word_more, word_end, word-last}
+use Rattle.recorded.proofs.Storing.{left-all, word_more, word_end, word-last}
 use Rattle.recorded.proofs.input.repeat_word.Goals as goal
 
 pub loop-i-init : goal.loop-i-init

@@ -1,11 +1,9 @@
 use Prim.Native.Nat.{◌+◌, ◌-◌, ◌≤◌, min}
-use borrow.Author.Rules.{rules}
 use mathlib.Core.Path.{◌≡◌}
 use mathlib.Core.List.{[], ◌∷◌}
-use native.Mathlib.Omega.{arith}
 use Rattle.recorded.specs.Numbers.{most}
 use Rattle.recorded.specs.Spelled.{again}
-use Rattle.recorded.proofs.Storing.{Left, left-all, word_more, word_end, word-last}
+use Rattle.recorded.proofs.Storing.{Left}
 use Rattle.recorded.proofs.input.repeat_word.Given as goal
 
 abbrev pub invariant-loop-i : goal.invariant-loop-i

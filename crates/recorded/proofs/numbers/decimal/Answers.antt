@@ -1,8 +1,7 @@
-use Prim.Native.Nat.{◌-◌, ◌≤◌}
-use mathlib.Core.Path.{◌≡◌, refl}
+use mathlib.Core.Path.{refl}
 use native.Mathlib.Omega.{arith}
-use lib.ListN.{length, drop, get_or}
-use Rattle.recorded.specs.Numbers.{number_from, most, decimal}
+use lib.ListN.{get_or}
+use Rattle.recorded.specs.Numbers.{most, decimal}
 use Rattle.recorded.proofs.Digits.{digit-small, number-end, number_stop, number-next, number-over}
 use Rattle.recorded.proofs.numbers.decimal.Goals as goal
 

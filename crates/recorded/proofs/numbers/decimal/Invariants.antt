@@ -1,9 +1,7 @@
 use Prim.Native.Nat.{◌-◌, ◌≤◌}
-use mathlib.Core.Path.{◌≡◌, refl}
-use native.Mathlib.Omega.{arith}
-use lib.ListN.{length, drop, get_or}
-use Rattle.recorded.specs.Numbers.{number_from, most, decimal}
-use Rattle.recorded.proofs.Digits.{digit-small, number-end, number_stop, number-next, number-over}
+use mathlib.Core.Path.{◌≡◌}
+use lib.ListN.{length, drop}
+use Rattle.recorded.specs.Numbers.{number_from, most}
 use Rattle.recorded.proofs.numbers.decimal.Given as goal
 
 abbrev pub invariant-loop-i : goal.invariant-loop-i

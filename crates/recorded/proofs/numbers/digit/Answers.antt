@@ -1,6 +1,5 @@
 use Rattle.recorded.specs.Numbers.{digit}
 use Rattle.reading.proofs.Picks.{picks}
-use borrow.Author.Rules.{rules}
 use Rattle.recorded.proofs.numbers.digit.Goals as goal
 
 pub returns-then-b-lt48 : goal.returns-then-b-lt48

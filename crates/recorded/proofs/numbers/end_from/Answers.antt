@@ -1,8 +1,5 @@
-use Prim.Native.Nat.{◌+◌, ◌-◌}
-use mathlib.Core.Path.{◌≡◌, refl}
+use mathlib.Core.Path.{refl}
 use native.Mathlib.Omega.{arith}
-use lib.ListN.{length, drop}
-use Rattle.recorded.specs.Fields.{ends, up_to}
 use Rattle.recorded.proofs.Places.{upto-end, upto_stop, upto-more}
 use Rattle.recorded.proofs.numbers.end_from.Goals as goal
 

@@ -1,9 +1,7 @@
 use Prim.Native.Nat.{◌+◌, ◌-◌}
-use mathlib.Core.Path.{◌≡◌, refl}
-use native.Mathlib.Omega.{arith}
+use mathlib.Core.Path.{◌≡◌}
 use lib.ListN.{length, drop}
-use Rattle.recorded.specs.Fields.{ends, up_to}
-use Rattle.recorded.proofs.Places.{upto-end, upto_stop, upto-more}
+use Rattle.recorded.specs.Fields.{up_to}
 use Rattle.recorded.proofs.numbers.end_from.Given as goal
 
 abbrev pub invariant-loop-i : goal.invariant-loop-i

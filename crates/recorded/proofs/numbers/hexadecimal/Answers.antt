@@ -1,8 +1,7 @@
-use Prim.Native.Nat.{◌-◌, ◌^◌, ◌≤◌}
-use mathlib.Core.Path.{◌≡◌, refl}
+use Prim.Native.Nat.{◌-◌, ◌^◌}
+use mathlib.Core.Path.{refl}
 use native.Mathlib.Omega.{arith}
-use lib.ListN.{length, drop}
-use Rattle.recorded.specs.Numbers.{number_from, hexadecimal}
+use Rattle.recorded.specs.Numbers.{hexadecimal}
 use Rattle.recorded.proofs.Digits.{number-end, number_stop, number-next, number-over}
 use Rattle.recorded.proofs.numbers.hexadecimal.Goals as goal
 

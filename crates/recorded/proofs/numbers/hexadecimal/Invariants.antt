@@ -1,9 +1,7 @@
 use Prim.Native.Nat.{◌-◌, ◌^◌, ◌≤◌}
-use mathlib.Core.Path.{◌≡◌, refl}
-use native.Mathlib.Omega.{arith}
+use mathlib.Core.Path.{◌≡◌}
 use lib.ListN.{length, drop}
-use Rattle.recorded.specs.Numbers.{number_from, hexadecimal}
-use Rattle.recorded.proofs.Digits.{number-end, number_stop, number-next, number-over}
+use Rattle.recorded.specs.Numbers.{number_from}
 use Rattle.recorded.proofs.numbers.hexadecimal.Given as goal
 
 abbrev pub invariant-loop-i : goal.invariant-loop-i

@@ -1,5 +1,4 @@
 use Rattle.recorded.proofs.Places.{next-inside, next-end}
-use borrow.Author.Rules.{rules}
 use Rattle.recorded.proofs.numbers.next_field.Goals as goal
 
 pub returns-then-end-lines : goal.returns-then-end-lines

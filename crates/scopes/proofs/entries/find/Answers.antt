@@ -1,6 +1,5 @@
-use Rattle.std.proofs.Common.{◌-◌, arith, rules}
-use Rattle.scopes.specs.Scopes.{OpenScopes}
-use Rattle.scopes.proofs.ScopeNames.{Search, search_start, search_end, search_pairs, search_hit, search_more, wraps}
+use Rattle.std.proofs.Common.{arith}
+use Rattle.scopes.proofs.ScopeNames.{search_start, search_end, search_pairs, search_hit, search_more, wraps}
 use Rattle.scopes.proofs.entries.find.Goals as goal
 
 pub loop-d-init : goal.loop-d-init

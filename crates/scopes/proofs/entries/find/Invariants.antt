@@ -1,6 +1,5 @@
-use Rattle.std.proofs.Common.{◌-◌, arith, rules}
 use Rattle.scopes.specs.Scopes.{OpenScopes}
-use Rattle.scopes.proofs.ScopeNames.{Search, search_start, search_end, search_pairs, search_hit, search_more, wraps}
+use Rattle.scopes.proofs.ScopeNames.{Search}
 use Rattle.scopes.proofs.entries.find.Given as goal
 
 abbrev pub invariant-loop-d : goal.invariant-loop-d

@@ -1,4 +1,4 @@
-use Rattle.std.proofs.Common.{◌+◌, ◌*◌, set, refl, arith, length-set, rules, eq-eqb, ne_eqb}
+use Rattle.std.proofs.Common.{◌+◌, ◌*◌, set, refl, arith, length-set, eq-eqb, ne_eqb}
 use Rattle.reading.specs.Pick.{pick}
 use Rattle.scopes.specs.Scopes.{pushed, deeper}
 use Rattle.scopes.proofs.entries.opened.Goals as goal

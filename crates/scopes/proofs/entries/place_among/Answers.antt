@@ -1,6 +1,5 @@
-use Rattle.scopes.proofs.ScopeNames.{Walk, walk_start, walk_end, walk_pair, walk-hit, walk_more}
-use Rattle.scopes.specs.Scopes.{Pairs}
-use Rattle.std.proofs.Common.{◌-◌, sym, refl, ◌∙◌, arith, rules}
+use Rattle.scopes.proofs.ScopeNames.{walk_start, walk_end, walk_pair, walk-hit, walk_more}
+use Rattle.std.proofs.Common.{sym, refl, ◌∙◌, arith}
 use Rattle.scopes.proofs.entries.place_among.Goals as goal
 
 pub loop-i-init : goal.loop-i-init

@@ -1,6 +1,6 @@
-use Rattle.scopes.proofs.ScopeNames.{Walk, walk_start, walk_end, walk_pair, walk-hit, walk_more}
+use Rattle.scopes.proofs.ScopeNames.{Walk}
 use Rattle.scopes.specs.Scopes.{Pairs}
-use Rattle.std.proofs.Common.{◌-◌, sym, refl, ◌∙◌, arith, rules}
+use Rattle.std.proofs.Common.{◌-◌}
 use Rattle.scopes.proofs.entries.place_among.Given as goal
 
 abbrev pub invariant-loop-i : goal.invariant-loop-i

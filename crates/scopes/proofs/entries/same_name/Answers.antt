@@ -1,4 +1,4 @@
-use Rattle.std.proofs.Common.{refl, ◌∙◌, rules}
+use Rattle.std.proofs.Common.{refl, ◌∙◌}
 use Rattle.grammar.specs.Scope.{same_name}
 use Rattle.scopes.proofs.entries.same_name.Goals as goal
 

@@ -1,6 +1,5 @@
-use Rattle.std.proofs.Common.{ℕ, ◌+◌, ◌-◌, refl, arith, rules}
-use Rattle.scopes.specs.Scopes.{Pairs}
-use Rattle.scopes.proofs.ScopeNames.{Left, left-start, left_end, left-pair, left-rest, left-hit, left-more}
+use Rattle.std.proofs.Common.{ℕ, ◌+◌, refl, arith}
+use Rattle.scopes.proofs.ScopeNames.{left-start, left_end, left-pair, left-rest, left-hit, left-more}
 use Rattle.scopes.proofs.entries.twice.Goals as goal
 
 pub loop-i-init : goal.loop-i-init

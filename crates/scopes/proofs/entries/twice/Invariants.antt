@@ -1,6 +1,6 @@
-use Rattle.std.proofs.Common.{ℕ, ◌+◌, ◌-◌, refl, arith, rules}
+use Rattle.std.proofs.Common.{◌-◌}
 use Rattle.scopes.specs.Scopes.{Pairs}
-use Rattle.scopes.proofs.ScopeNames.{Left, left-start, left_end, left-pair, left-rest, left-hit, left-more}
+use Rattle.scopes.proofs.ScopeNames.{Left}
 use Rattle.scopes.proofs.entries.twice.Given as goal
 
 abbrev pub invariant-loop-i : goal.invariant-loop-i

@@ -1,4 +1,4 @@
-use Rattle.std.proofs.Common.{arith, rules}
+use Rattle.std.proofs.Common.{arith}
 use Rattle.scopes.proofs.Variables.{variable-theory, variable-fresh, variable-named}
 use Rattle.scopes.proofs.variable.variable.Goals as goal
 

@@ -1,12 +1,6 @@
-use borrow.Author.Tests.{not-true, not-false}
-use Prim.Native.Nat.{◌-◌, ◌≤◌}
 use native.Mathlib.Omega.{arith}
-use mathlib.Core.Path.{◌≡◌, refl, sym, ◌∙◌}
-use lib.ListN.{length, drop}
-use Rattle.smt.specs.Writer.{all_writable}
+use mathlib.Core.Path.{refl, sym, ◌∙◌}
 use Rattle.smtnames.proofs.NamePieces.{writable-none, writable-one, writable-not}
-use mathlib.Core.Path.{ap}
-use mathlib.Core.Bool.{not}
 use Rattle.smtnames.proofs.names.all_writable.Goals as goal
 
 pub loop-i-init : goal.loop-i-init

@@ -1,10 +1,7 @@
-use borrow.Author.Tests.{not-true, not-false}
 use Prim.Native.Nat.{◌-◌, ◌≤◌}
-use native.Mathlib.Omega.{arith}
-use mathlib.Core.Path.{◌≡◌, refl, sym, ◌∙◌}
+use mathlib.Core.Path.{◌≡◌}
 use lib.ListN.{length, drop}
 use Rattle.smt.specs.Writer.{all_writable}
-use Rattle.smtnames.proofs.NamePieces.{writable-none, writable-one, writable-not}
 use Rattle.smtnames.proofs.names.all_writable.Given as goal
 
 abbrev pub invariant-loop-i : goal.invariant-loop-i

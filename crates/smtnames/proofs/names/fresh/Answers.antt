@@ -4,7 +4,6 @@ use Rattle.reading.specs.Bytes.{ascii}
 use Rattle.writing.specs.Digits.{decimal}
 use Rattle.writing.proofs.Wrote.{wrote_seq, wrote_as}
 use Rattle.smtnames.proofs.NamePieces.{fresh-text}
-use borrow.Author.Rules.{rules}
 use Rattle.smtnames.proofs.names.fresh.Goals as goal
 
 pub returns : goal.returns

@@ -1,6 +1,5 @@
 use Rattle.smtnames.proofs.Tells.{put, put_as, gone_as, put-told, gone-told, put_seq, gone-first, gone-behind, piece_put, piece_gone}
 use Rattle.smtnames.proofs.NamePieces.{name-text}
-use borrow.Author.Rules.{rules}
 use Rattle.smtnames.proofs.names.name.Goals as goal
 
 pub returns-in-To : goal.returns-in-To

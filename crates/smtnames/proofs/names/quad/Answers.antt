@@ -1,5 +1,4 @@
 use Rattle.smtnames.proofs.NamePieces.{quad_value}
-use borrow.Author.Rules.{rules}
 use Rattle.smtnames.proofs.names.quad.Goals as goal
 
 pub returns : goal.returns

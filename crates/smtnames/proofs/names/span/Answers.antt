@@ -1,7 +1,6 @@
 use mathlib.Core.Path.{refl, sym, ◌∙◌}
 use Rattle.smtnames.proofs.Tells.{put, gone, put_as, gone_as, put-told, gone-told}
 use Rattle.smtnames.proofs.NamePieces.{part-is, bytes_good, bytes-bad}
-use borrow.Author.Rules.{rules}
 use Rattle.smtnames.proofs.names.span.Goals as goal
 
 pub returns-then-all_writable : goal.returns-then-all_writable

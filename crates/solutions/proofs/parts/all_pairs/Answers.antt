@@ -1,11 +1,6 @@
-use Prim.Native.Nat.{◌-◌}
 use native.Mathlib.Omega.{arith}
-use borrow.Author.Tests.{not-true, not-false}
-use Rattle.plans.specs.BinderWords.{BinderRow}
 use Rattle.places.proofs.Spots.{spot-within}
-use Rattle.solutions.proofs.ParamNames.{Pairing, pairing_start, pairing_end, pairing_bad, pairing_more, pair-spot}
-use mathlib.Core.Path.{ap}
-use mathlib.Core.Bool.{not}
+use Rattle.solutions.proofs.ParamNames.{pairing_start, pairing_end, pairing_bad, pairing_more, pair-spot}
 use Rattle.solutions.proofs.parts.all_pairs.Goals as goal
 
 pub loop-i-init : goal.loop-i-init

@@ -1,9 +1,6 @@
 use Prim.Native.Nat.{◌-◌}
-use native.Mathlib.Omega.{arith}
-use borrow.Author.Tests.{not-true, not-false}
 use Rattle.plans.specs.BinderWords.{BinderRow}
-use Rattle.places.proofs.Spots.{spot-within}
-use Rattle.solutions.proofs.ParamNames.{Pairing, pairing_start, pairing_end, pairing_bad, pairing_more, pair-spot}
+use Rattle.solutions.proofs.ParamNames.{Pairing}
 use Rattle.solutions.proofs.parts.all_pairs.Given as goal
 
 abbrev pub invariant-loop-i : goal.invariant-loop-i

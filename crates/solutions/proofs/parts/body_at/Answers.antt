@@ -1,6 +1,5 @@
 use native.Mathlib.Omega.{arith}
 use Rattle.solutions.proofs.SolutionBody.{body-here, body_refused_lem, body_twice, body-wrote}
-use borrow.Author.Rules.{rules}
 use Rattle.solutions.proofs.parts.body_at.Goals as goal
 
 pub expr-requires : goal.expr-requires

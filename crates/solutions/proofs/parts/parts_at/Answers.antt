@@ -1,13 +1,9 @@
 use Prim.Native.Nat.{◌+◌}
 use native.Mathlib.Omega.{arith}
-use borrow.Author.Tests.{not-true, not-false}
 use Rattle.places.proofs.SortPlace.{got-at, bad-at}
 use Rattle.places.proofs.Spots.{spot-within}
 use Rattle.places.proofs.Inside.{node-list, node-other}
 use Rattle.solutions.proofs.SolutionParts.{root, whole-other, whole-count, head-spot, params-spot, params-other, pairs-row, pairs-bad, sorts-bad, parts-body, parts-done}
-use borrow.Author.Rules.{rules}
-use mathlib.Core.Path.{ap}
-use mathlib.Core.Bool.{not}
 use Rattle.solutions.proofs.parts.parts_at.Goals as goal
 
 pub node_at-requires : goal.node_at-requires

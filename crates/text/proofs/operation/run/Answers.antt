@@ -1,5 +1,4 @@
 use Rattle.text.proofs.Looping.Final.{done, cleared}
-use borrow.Author.Rules.{rules}
 use Rattle.text.proofs.operation.run.Goals as goal
 
 pub returns-in-Accepted : goal.returns-in-Accepted

@@ -1,13 +1,6 @@
-use Prim.Native.Nat.{◌-◌}
-use mathlib.Core.Bool.{true}
 use mathlib.Core.Path.{refl, sym, ◌∙◌}
 use native.Mathlib.Omega.{arith}
-use borrow.Author.Rules.{rules}
-use borrow.Author.Tests.{not-true, not-false}
-use lib.ListN.{length}
-use Rattle.text.proofs.Looping.Turn.{Stands, start, kept, blanked, broken, opened, too_deep_lem, unopened, at-tree, at_close, closed, at_leaf, worded, goes_on, one-read, ended-inside, ended-all, ended-none}
-use mathlib.Core.Path.{ap}
-use mathlib.Core.Bool.{not}
+use Rattle.text.proofs.Looping.Turn.{start, kept, blanked, broken, opened, too_deep_lem, unopened, at-tree, at_close, closed, at_leaf, worded, goes_on, one-read, ended-inside, ended-all, ended-none}
 use Rattle.text.proofs.scan.scan.Goals as goal
 
 pub loop-at-init : goal.loop-at-init

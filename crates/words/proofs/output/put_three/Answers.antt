@@ -1,7 +1,6 @@
 use native.Mathlib.Omega.{arith}
 use native.Mathlib.Numerals.{add-one, add-two}
 use lib.ListN.{length-set}
-use borrow.Author.Rules.{rules}
 use Rattle.words.proofs.output.put_three.Goals as goal
 
 pub bounds-out-at-then-at-out : goal.bounds-out-at-then-at-out

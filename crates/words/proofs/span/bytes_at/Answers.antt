@@ -1,6 +1,5 @@
 use Rattle.reading.specs.Bytes.{bytes_at}
 use Rattle.words.proofs.Clip.{clipped}
-use borrow.Author.Rules.{rules}
 use Rattle.words.proofs.span.bytes_at.Goals as goal
 
 pub word_to_length-s-requires : goal.word_to_length-s-requires

@@ -1,6 +1,5 @@
 use native.Mathlib.Omega.{arith}
 use Rattle.reading.proofs.TreeHead.{head-two, size-list, size-integer, size-boolean, size-other}
-use borrow.Author.Rules.{rules}
 use Rattle.words.proofs.tree.node_words.Goals as goal
 
 pub bounds-items-0 : goal.bounds-items-0
