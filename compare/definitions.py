@@ -4,14 +4,16 @@
 ANSWERS is crates/replay/stdin and TERMS compare/smtlib.txt and compare/smtlib-let.txt unless other files are named. With `short`, as the gate runs it, texts of more than 1,000 bytes are left out
 unless they are too long to be read at all, and words and terms of more than 1,000: each takes the prover some seconds. The prover evaluates `final`, of which `outcome` is made
 (crates/session/specs/Session.antt), `flatten_final` (crates/flattening/specs/Operations.antt) and `smtlib_final` (crates/smt/specs/Operation.antt) on each case, and
-has to find the recorded refusal or numbers, the count and the words or bytes; no code of the library runs. The cases go into crates of their own, beside links to the
-crates here, in target/definitions.
+has to find the recorded refusal or numbers, the count and the words or bytes; no code of the library runs. The cases go into crates of their own, beside copies of the
+crates that they stand on, in a folder outside the checkout: rt ci refuses a file of definitions that lies elsewhere than in a listed crate. What they stand
+on is proved in the checkout first, so that it is proved once.
 """
 
-import os
 import re
+import shutil
 import subprocess
 import sys
+import tempfile
 from pathlib import Path
 
 TOP = Path(__file__).resolve().parent.parent
@@ -25,16 +27,15 @@ WIDEST = 100000
 # Bytes and words of the cases that are one claim, and claims of one module.
 CLAIM = 1500
 CLAIMS = 16
+# The crates that the cases make, each with the libraries that it names.
+OVER = {"computed": ["session", "vectors", "flattening", "reading"], "termed": ["smt", "judging", "grammar", "writing", "reading"]}
 
 HEAD = """-- Recorded answers, computed.
-use Prim.Native.Nat.{ℕ}
-use mathlib.Core.Path.{_≡_, refl}
-use mathlib.Core.List.{List, [], _∷_, _++_}
-use lib.ListN.{replicate}
-use Rattle·reading.specs.Answer.{accepted, refused}
-use Rattle·session.specs.Session.{read_one, read_all, sort, expression, bind, solution}
-use Rattle·vectors.specs.Shown.{lending, refusal, words}
-use Rattle·computed·specs.specs.Case.{Case, case, Flat, flat, Words, plain, times, spread, answers, recorded, flattens, flattened}
+use Rattle.std.specs.Prelude.{ℕ, ◌≡◌, refl, List, [], ◌∷◌}
+use Rattle.reading.specs.Answer.{accepted, refused}
+use Rattle.session.specs.Session.{read_one, read_all, sort, expression, bind, solution}
+use Rattle.vectors.specs.Shown.{lending, refusal, words}
+use Rattle.computed.specs.Case.{Case, case, Flat, flat, Words, plain, times, spread, answers, recorded, flattens, flattened}
 """
 
 SPREAD = """
@@ -56,14 +57,12 @@ spread (times n l ∷ ws) = again n l ++ spread ws
 """
 
 CASE = """-- A call on a reader at a count, and what was recorded of it.
-use Prim.Native.Nat.{ℕ}
-use mathlib.Core.List.{List, [], _∷_, _++_, map}
-use lib.ListN.{replicate}
-use Rattle·reading.specs.Answer.{Final, accepts, refuses, Said, said_of, count_of}
-use Rattle·session.specs.Session.{Call, Term, term_words, report, final}
-use Rattle·vectors.specs.Shown.{Shown, shown}
-use Rattle·session.specs.Compute.{reader_computes}
-use Rattle·flattening.specs.Operations.{expr_words, flatten_final}
+use Rattle.std.specs.Prelude.{ℕ, List, [], ◌∷◌, ◌++◌, map, replicate}
+use Rattle.reading.specs.Answer.{Final, accepts, refuses, Said, said_of, count_of}
+use Rattle.session.specs.Session.{Call, Term, term_words, report, final}
+use Rattle.vectors.specs.Shown.{Shown, shown}
+use Rattle.session.specs.Compute.{reader_computes}
+use Rattle.flattening.specs.Operations.{expr_words, flatten_final}
 SPREAD
 pub record Case : Type 0 where
   pub call : Call
@@ -84,18 +83,18 @@ pub record Answer : Type 0 where
 abbrev by : ℕ → Final Term → Answer
 by c f = record { said = said_of report f; count = count_of c f; answer = shown (term_words c) f }
 
-unfoldable pub answerBy : ℕ → Final Term → Answer
+unfoldable pub answer_by : ℕ → Final Term → Answer
 unfolding reader_computes
-answerBy c (accepts m n) = by c (accepts m n)
-answerBy c (refuses r) = by c (refuses r)
+answer_by c (accepts m n) = by c (accepts m n)
+answer_by c (refuses r) = by c (refuses r)
 
 unfoldable pub answers : List Case → List Answer
-unfolding reader_computes spread answerBy
-answers cases = map (λ c. answerBy (c .start) (final (c .call) (c .start))) cases
+unfolding reader_computes spread answer_by
+answers cases = map (λ c. answer_by c.start (final c.call c.start)) cases
 
 unfoldable pub recorded : List Case → List Answer
 unfolding spread
-recorded cases = map (λ c. record { said = c .said; count = c .count; answer = c .answer }) cases
+recorded cases = map (λ c. record { said = c.said; count = c.count; answer = c.answer }) cases
 
 pub record Flat : Type 0 where
   pub input : List ℕ
@@ -107,27 +106,23 @@ flat input out answer = record { input = input; out = out; answer = answer }
 
 unfoldable pub flattens : List Flat → List Shown
 unfolding reader_computes spread
-flattens cases = map (λ c. shown expr_words (flatten_final (c .input) (replicate (c .out) 0))) cases
+flattens cases = map (λ c. shown expr_words (flatten_final c.input (replicate c.out 0))) cases
 
 unfoldable pub flattened : List Flat → List Shown
 unfolding spread
-flattened cases = map (λ c. c .answer) cases
+flattened cases = map (λ c. c.answer) cases
 """
 
 TERMS_HEAD = """-- Recorded terms, computed.
-use Prim.Native.Nat.{ℕ}
-use mathlib.Core.Path.{_≡_, refl}
-use mathlib.Core.List.{List, [], _∷_, _++_}
-use Rattle·termed·specs.specs.Case.{Case, case, Shown, refusal, words, Words, plain, times, spread, writes, recorded}
+use Rattle.std.specs.Prelude.{ℕ, ◌≡◌, refl, List, [], ◌∷◌}
+use Rattle.termed.specs.Case.{Case, case, Shown, refusal, words, Words, plain, times, spread, writes, recorded}
 """
 
 TERMS_CASE = """-- Words, the text that is lent with them, the length of the output, and what was recorded of it.
-use Prim.Native.Nat.{ℕ}
-use mathlib.Core.List.{List, [], _∷_, _++_, map}
-use lib.ListN.{replicate}
-use Rattle·reading.specs.Answer.{Final, accepts, refuses}
-use Rattle·smt.specs.Operation.{smtlib_final}
-use Rattle·smt.specs.Compute.{smt_computes}
+use Rattle.std.specs.Prelude.{ℕ, List, [], ◌∷◌, ◌++◌, map, replicate}
+use Rattle.reading.specs.Answer.{Final, accepts, refuses}
+use Rattle.smt.specs.Operation.{smtlib_final}
+use Rattle.smt.specs.Compute.{smt_computes}
 
 -- A refusal's number, or the bytes written.
 pub data Shown : Type 0 where
@@ -149,11 +144,11 @@ case input text out answer = record { input = input; text = text; out = out; ans
 
 unfoldable pub writes : List Case → List Shown
 unfolding smt_computes spread
-writes cases = map (λ c. shown (smtlib_final (c .input) (c .text) (replicate (c .out) 0))) cases
+writes cases = map (λ c. shown (smtlib_final c.input c.text (replicate c.out 0))) cases
 
 unfoldable pub recorded : List Case → List Shown
 unfolding spread
-recorded cases = map (λ c. c .answer) cases
+recorded cases = map (λ c. c.answer) cases
 """
 
 
@@ -268,16 +263,48 @@ def modules(kind, head, rows):
         yield f"{kind}{at // CLAIMS}", head + "".join(claim(kind, n, group) for n, group in enumerate(groups[at:at + CLAIMS]))
 
 
+def crates():
+    """The crates of the checkout, each with the libraries that it names in crates.txt."""
+    rows = [line.partition("#")[0].partition(":") for line in (TOP / "crates.txt").read_text().splitlines()]
+    return {name.split()[0]: over.split() for name, _, over in rows if name.strip()}
+
+
+def below(names):
+    """The crates of the checkout among these libraries and those that they stand on."""
+    of, found, waiting = crates(), set(), list(names)
+    while waiting:
+        name = waiting.pop()
+        if name in of and name not in found:
+            found.add(name)
+            waiting += of[name]
+    return {name: of[name] for name in sorted(found)}
+
+
+def copy(folder, name):
+    """What the prover reads of a crate."""
+    for part in ("src", "specs", "proofs"):
+        if (TOP / "crates" / name / part).is_dir():
+            shutil.copytree(TOP / "crates" / name / part, folder / "crates" / name / part)
+
+
 def crate(folder, name, case, made):
     """A crate of definitions only."""
     specs = folder / "crates" / name / "specs"
     specs.mkdir(parents=True)
     (specs.parent / "src").mkdir()
-    (specs.parent / "src/lib.rt").write_text("// Recorded answers, computed: definitions only.\n")
+    (specs.parent / "src/lib.rt").write_text("// Recorded answers, computed: definitions only.\n#![tactic(auto)]\n")
     files = {"Case": case.replace("SPREAD\n", SPREAD), **dict(made)}
     for module, text in files.items():
         (specs / f"{module}.antt").write_text(text)
     (specs / "Lib.antt").write_text("".join(f"pub mod {module}\n" for module in files))
+
+
+def prove(words, folder, wrong):
+    """Runs rt, and ends with what it said and what that means if it fails."""
+    done = subprocess.run(["rt", *words], cwd=folder, capture_output=True, text=True)
+    if done.returncode != 0:
+        print(done.stdout[-8000:] + done.stderr[-2000:], flush=True)
+        sys.exit(f"definitions: {wrong}")
 
 
 def main():
@@ -286,24 +313,22 @@ def main():
     named = [Path(name) for name in (arguments[1:] if short else arguments)]
     answers = named[0] if named else TOP / "crates/replay/stdin"
     terms = named[1:] or [TOP / "compare/smtlib.txt", TOP / "compare/smtlib-let.txt"]
-    folder = TOP / "target/definitions"
-    subprocess.run(["rm", "-rf", str(folder)], check=True)
-    (folder / "crates").mkdir(parents=True)
-    for of in (TOP / "crates").iterdir():
-        os.symlink(of, folder / "crates" / of.name)
-    os.symlink(TOP / "target", folder / "target")
-    (folder / "crates.txt").write_text((TOP / "crates.txt").read_text() + "computed: session vectors flattening reading\ntermed: smt judging grammar writing reading\n")
     lines = answers.read_text().splitlines()
     rows = [made for made in (row(line, short) for line in lines) if made]
     made = [module for kind in "TF" for module in modules(kind, HEAD, [(size, text) for of, size, text in rows if of == kind])]
-    crate(folder, "computed", CASE, made)
     term_lines = [line for file in terms for line in file.read_text().splitlines() if line and not line.startswith("#")]
     term_rows = [made for made in (term_row(line, short) for line in term_lines) if made]
-    crate(folder, "termed", TERMS_CASE, modules("W", TERMS_HEAD, term_rows))
-    done = subprocess.run(["rt", "check", "computed", "termed"], cwd=folder, capture_output=True, text=True)
-    if done.returncode != 0:
-        sys.stdout.write(done.stdout[-8000:] + done.stderr[-2000:])
-        sys.exit("definitions: not every recorded answer is what the definitions compute")
+    for name in sorted({name for names in OVER.values() for name in names}):
+        prove(["lib"], TOP / "crates" / name, f"crates/{name} is not proved")
+    with tempfile.TemporaryDirectory(prefix="definitions-") as temporary:
+        folder = Path(temporary)
+        over = {**below(name for names in OVER.values() for name in names), **OVER}
+        for name in over.keys() - OVER.keys():
+            copy(folder, name)
+        (folder / "crates.txt").write_text("".join(f"{name}: {' '.join(names)}\n" for name, names in over.items()))
+        crate(folder, "computed", CASE, made)
+        crate(folder, "termed", TERMS_CASE, modules("W", TERMS_HEAD, term_rows))
+        prove(["all", "check"], folder, "not every recorded answer is what the definitions compute")
     left = len(lines) - len(rows) + len(term_lines) - len(term_rows)
     print(f"definitions: {len(rows)} recorded answers and {len(term_rows)} recorded terms computed, all as recorded; {left} left out that are too long, or too wide")
 

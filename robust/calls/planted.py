@@ -111,40 +111,68 @@ OBJECTS = [
     ),
 ]
 
-# Source trees: a name, folders of proofs beside +sort in `sorts`, rows of the note beside that of `sorts`, a function that calls itself in the
-# machine code, or "", and the complaint.
+
+
+def cycle(name, *functions):
+    """Functions under the mark of one cycle, as a source file has them."""
+    return "\n".join(f"#[cycle({name})]\npub fn {function}(n: u32) {{\n    {other}(n)\n}}\n" for function, other in zip(functions, functions[1:] + functions[:1]))
+
+
+# Source trees: a name, files beside those of `sorts`, rows of the note beside that of `sorts`, a function that calls itself in the machine code, or
+# "", and the complaint.
 SOURCES = [
     (
         "cycles as they are listed",
-        ["exprs/proofs/expr/+expr+operands"],
-        ["`exprs` | `operands`, `expr`"],
+        {"exprs/src/expr.rt": cycle("expr_operands", "expr", "operands"), "exprs/proofs/expr/+expr_operands/Answers.antt": "", "heads/proofs/head/+head/Answers.antt": ""},
+        ["`exprs` | `operands`, `expr`", "`heads` | `head`"],
         "exprs::expr::expr",
         "",
     ),
     (
-        "a cycle in the text reader",
-        ["lexing/proofs/number/+digits"],
+        "calls that end",
+        {"lexing/src/number.rt": "fn digits(n: u32) {\n    // digits(n) is no call here\n    self::long::digits(n);\n    n.digits();\n    short_digits(n)\n}\n"},
+        [],
+        "",
+        "",
+    ),
+    (
+        "a cycle in the text reader, by its mark",
+        {"lexing/src/number.rt": cycle("digits_figures", "digits", "figures")},
+        ["`lexing` | `digits`, `figures`"],
+        "",
+        "a cycle of calls in a crate of the text reader: lexing::number::digits lexing::number::figures",
+    ),
+    (
+        "a cycle in the text reader, by its proof",
+        {"lexing/proofs/number/+digits/Invariants.antt": ""},
         ["`lexing` | `digits`"],
         "",
         "a cycle of calls in a crate of the text reader: lexing::number::digits",
     ),
     (
+        "a cycle in the text reader, by its text",
+        {"text/src/lib.rt": "pub fn scan(n: u32) -> u32 {\n    scan(n - 1)\n}\n\nfn run(n: u32) -> u32 {\n    scan(n)\n}\n"},
+        ["`text` | `scan`"],
+        "",
+        "a cycle of calls in a crate of the text reader: text::scan",
+    ),
+    (
         "a cycle that is not listed",
-        ["judge/proofs/+judge"],
+        {"judge/proofs/+judge/Answers.antt": ""},
         [],
         "",
         "docs/ARCHITECTURE.md, Functions that call themselves, lists other cycles than the sources have",
     ),
     (
         "a cycle that is listed, and is none",
-        [],
+        {},
         ["`judge` | `judge`"],
         "",
         "docs/ARCHITECTURE.md, Functions that call themselves, lists other cycles than the sources have",
     ),
     (
         "a cycle of the compiler's",
-        [],
+        {},
         [],
         "sorts::names",
         "sorts::names calls itself in the machine code, and is in no cycle of the sources",
@@ -160,13 +188,14 @@ def make_object(path, assembly):
     subprocess.run(["as", "-o", path, "-"], input=assembly, text=True, check=True)
 
 
-def make_sources(top, folders, rows):
-    table = [f"| {row} | lists |" for row in ["`sorts` | `sort`", *rows]]
+def make_sources(top, files, rows):
+    table = [f"| {row} | lists |" for row in ["`sorts` | `sort`, `list_sort`", *rows]]
     (top / "docs").mkdir(parents=True)
     (top / "docs/ARCHITECTURE.md").write_text("\n".join(["## Functions that call themselves", *table, "", "## More", "| `text` | `run` | |"]))
     (top / "crates.txt").write_text("lexing:\ntext: lexing\nsorts: lexing\n")
-    for folder in ["sorts/proofs/+sort", *folders]:
-        (top / "crates" / folder).mkdir(parents=True)
+    for file, text in {"sorts/src/lib.rt": cycle("list_sort_sort", "list_sort", "sort"), **files}.items():
+        (top / "crates" / file).parent.mkdir(parents=True, exist_ok=True)
+        (top / "crates" / file).write_text(text)
 
 
 def answers(archive, of_archive, of_sources):
@@ -176,8 +205,8 @@ def answers(archive, of_archive, of_sources):
         for name, assembly, said in OBJECTS:
             make_object(folder / "made.o", assembly)
             yield name, list(of_archive(folder / "made.o")), [said] if said else []
-        for name, folders, rows, again, said in SOURCES:
-            make_sources(folder / name, folders, rows)
+        for name, files, rows, again, said in SOURCES:
+            make_sources(folder / name, files, rows)
             yield name, list(of_sources(folder / name, {again: {again}} if again else {})), [said] if said else []
         make_object(folder / "made.o", CLEARS)
         shutil.copy(archive, folder / "both.a")
