@@ -40,9 +40,9 @@ fn limits() {
     let header = file("include/pinhkray.h");
     let limits = file("crates/reading/specs/Limits.antt");
     for (name, definition, constant) in [
-        ("BYTES", "maxBytes", MAX_BYTES),
-        ("LISTS", "maxLists", MAX_LISTS),
-        ("EXPRESSIONS", "maxNodes", MAX_EXPRESSIONS),
+        ("BYTES", "max_bytes", MAX_BYTES),
+        ("LISTS", "max_lists", MAX_LISTS),
+        ("EXPRESSIONS", "max_nodes", MAX_EXPRESSIONS),
     ] {
         assert_eq!(
             number(&limits, &format!("{definition} = ")),
@@ -68,14 +68,14 @@ fn words_for_each_byte() {
 
     let refusals = file("crates/refusals/specs/Refusals.antt");
     for (operation, tree, draft, out) in [
-        ("readOne", 0, 0, TREE_WORDS),
-        ("readAll", 0, 0, TREE_WORDS),
+        ("read_one", 0, 0, TREE_WORDS),
+        ("read_all", 0, 0, TREE_WORDS),
         ("sort", TREE_WORDS, 0, ANSWER_WORDS),
         ("expression", TREE_WORDS, 0, ANSWER_WORDS),
         ("bind", TREE_WORDS, 0, ANSWER_WORDS),
         ("solution", TREE_WORDS, ANSWER_WORDS, ANSWER_WORDS),
     ] {
-        let defined = behind(&refusals, &format!("perByte {operation} = "));
+        let defined = behind(&refusals, &format!("per_byte {operation} = "));
         assert_eq!(
             defined,
             format!("record {{ tree = {tree}; draft = {draft}; out = {out} }}"),
@@ -85,7 +85,7 @@ fn words_for_each_byte() {
     assert_eq!(
         refusals
             .lines()
-            .filter(|line| line.starts_with("perByte "))
+            .filter(|line| line.starts_with("per_byte "))
             .count(),
         6
     );
@@ -96,8 +96,8 @@ fn refusals() {
     let answers = file("crates/reading/specs/Answer.antt");
     let names = answers.lines().filter(|line| {
         line.starts_with("number ")
-            || line.starts_with("numbersSpent = ")
-            || line.starts_with("notWords = ")
+            || line.starts_with("numbers_spent = ")
+            || line.starts_with("not_words = ")
     });
     let defined: BTreeSet<usize> = names.flat_map(numbers).collect();
     let here: BTreeSet<usize> = Refusal::ALL
@@ -107,7 +107,7 @@ fn refusals() {
     assert_eq!(defined, here);
 
     let lists = file("crates/refusals/specs/Refusals.antt");
-    for list in ["ofReading", "ofSort", "ofExpr", "ofFlatten"] {
+    for list in ["of_reading", "of_sort", "of_expr", "of_flatten"] {
         let listed = numbers(behind(&lists, &format!("{list} = ")));
         assert!(listed.iter().all(|number| here.contains(number)), "{list}");
     }
