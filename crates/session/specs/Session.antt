@@ -1,7 +1,7 @@
 -- Calls on a reader, and what each answers and leaves.
 use Rattle.std.specs.Prelude.{ℕ, Bool, true, false, List, [], length}
 use Rattle.reading.specs.Pick.{pick}
-use Rattle.reading.specs.Answer.{Res, M, ◌>>=◌, chain, done, lifted, Final, accepts, refuses, finish, fits_in, Said, accepted, zeros, output_of, said_of, count_of}
+use Rattle.reading.specs.Answer.{Res, M, ◌>>=◌, done, lifted, Final, accepts, refuses, finish, fits_in, Said, accepted, zeros, output_of, said_of, count_of}
 use Rattle.reading.specs.Reading.{Read, read_text, read_words, read_report}
 use Rattle.grammar.specs.Sort.{Sort, sort_words}
 use Rattle.grammar.specs.Item.{Item, plains, raise, words_of, bound}

@@ -2,23 +2,20 @@
 use Prim.Native.Nat.{ℕ, ◌+◌, ◌-◌, ◌*◌, ◌≤◌}
 use mathlib.Core.Bool.{Bool, true, false, false≢true}
 use mathlib.Core.Path.{◌≡◌, refl, sym, ap, ◌∙◌}
-use mathlib.Core.List.{List, [], ◌∷◌}
+use mathlib.Core.List.{List}
 use native.Mathlib.Omega.{arith}
-use lib.Dec.{eqb, leb}
+use lib.Dec.{leb}
 use lib.ListN.{length, get_or}
-use borrow.Author.Tests.{eqb-true, leb-true, eq-eqb, ne_eqb}
+use borrow.Author.Tests.{leb-true}
 use Rattle.reading.specs.Limits.{max_nodes}
-use Rattle.reading.specs.Pick.{pick}
 use Rattle.reading.specs.Bytes.{just}
-use Rattle.reading.specs.Answer.{not_words}
 use Rattle.grammar.specs.Item.{words_of}
-use Rattle.grammar.specs.Expr.{Binder, Expr, Solution, binder_items}
+use Rattle.grammar.specs.Expr.{Solution, binder_items}
 use Rattle.grammar.proofs.Lengths.{size-solution}
-use Rattle.judging.specs.Judge.{Judged, reads, fails, FromWords, ◌>>=◌, binders_at, expr_deep, expr_at, at_end, judge_solution}
+use Rattle.judging.specs.Judge.{Judged, reads, fails, binders_at, judge_solution}
 use Rattle.judging.specs.Spelled.{Spelled}
 use Rattle.judging.specs.Ends.{end_of}
 use Rattle.judging.specs.declared.End.TheVariants as end
-use Rattle.judging.proofs.ReadFields.{word_in, word_out}
 use Rattle.judge.proofs.ReadExpr.{ends_at, ends-no}
 use Rattle.judging.proofs.Spell.{Low, post_reads, spelled_none}
 use Rattle.judging.proofs.SpellSort.{binders-behind}

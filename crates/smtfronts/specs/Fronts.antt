@@ -1,7 +1,7 @@
 -- What stands in front of the operands of an expression, between them and behind them.
 use Rattle.std.specs.Prelude.{ℕ, zero, suc, ◌<◌, Bool, true, false, List, [], ◌∷◌, ◌++◌, leb}
 use Rattle.reading.specs.Pick.{pick}
-use Rattle.reading.specs.Bytes.{ascii, Named}
+use Rattle.reading.specs.Bytes.{ascii}
 use Rattle.reading.specs.Number.{Wide, value_of}
 use Rattle.reading.specs.Answer.{Ans, got, bad, and_then, unwritable}
 use Rattle.grammar.specs.Expr.{Binder, Kind}

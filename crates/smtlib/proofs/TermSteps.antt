@@ -1,14 +1,14 @@
 -- Steps of the proof that the terms of judged words are written.
-use Prim.Native.Nat.{ℕ, zero, suc, ◌+◌, ◌-◌, ◌≤◌, ◌<◌}
+use Prim.Native.Nat.{ℕ, zero, suc, ◌-◌, ◌≤◌, ◌<◌}
 use mathlib.Core.Bool.{Bool, true, false}
 use mathlib.Core.Path.{◌≡◌, refl, sym, ap, ◌∙◌}
 use mathlib.Core.List.{List, [], ◌∷◌, ◌++◌}
 use native.Mathlib.Omega.{arith}
 use lib.Dec.{eqb}
-use lib.ListN.{length, get_or}
+use lib.ListN.{length}
 use borrow.Author.Tests.{eq-eqb, ne_eqb}
 use Rattle.reading.specs.Bytes.{Maybe}
-use Rattle.reading.specs.Answer.{Refusal, number, unwritable, Ans, got, bad, and_then}
+use Rattle.reading.specs.Answer.{Refusal, number, Ans, got, bad, and_then}
 use Rattle.reading.proofs.Placed.{at-word}
 use Rattle.grammar.specs.Sort.{Sort}
 use Rattle.grammar.specs.Expr.{Kind, Expr, Exprs, node, app, enil, econs, exprs}
@@ -21,27 +21,27 @@ use Rattle.judging.specs.declared.End.{End}
 use Rattle.heads.specs.declared.Header.TheVariants as head
 use Rattle.nodes.specs.declared.kind.Node.{Node}
 use Rattle.nodes.specs.declared.kind.Node.TheVariants as told
-use Rattle.judge.proofs.ReadExpr.{siblings, head-operands as kind-of, head-arguments, head-no}
+use Rattle.judge.proofs.ReadExpr.{head-operands as kind-of, head-arguments, head-no}
 use Rattle.nodes.proofs.NodeAt.{node-told, told_at}
 use Rattle.judging.proofs.Spell.{Low, post_reads}
 use Rattle.judging.proofs.SpellKind.{arguments-spelled}
 use Rattle.judging.proofs.SpellExpr.{several-count}
-use Rattle.judging.proofs.Taken.{never-reads, read-no-room, read-no-header, read-operands, read-arguments, read_none, read_more}
+use Rattle.judging.proofs.Taken.{read-no-room, read-no-header, read-operands, read-arguments, read_none, read_more}
 use Rattle.writing.specs.Wrote.{WroteBytes}
 use Rattle.writing.proofs.Wrote.{wrote_none, wrote_then}
-use Rattle.smt.specs.Writer.{Form, fields_of, head_kind, head_of, term_of}
-use Rattle.smt.proofs.Judged.{Formed, Fits, FormedAt, header-fits, expr-formed}
+use Rattle.smt.specs.Writer.{Form, fields_of, head_of}
+use Rattle.smt.proofs.Judged.{Fits, header-fits}
 use Rattle.smtnames.specs.Pieces.{joined, ident_text}
 use Rattle.smtlib.specs.Terms.{term_text, seamed}
 use Rattle.smtseams.specs.Seams.{seam_of, gap_of, close_text, node_lets, node_closes}
 use Rattle.smtfronts.specs.Fronts.{front_of, front_text, form_lets, form_closes, callee_text}
-use Rattle.smtnames.specs.Written.{Tells, tells, keeps, TellsPiece, TellsPart}
+use Rattle.smtnames.specs.Written.{tells, keeps, TellsPiece, TellsPart}
 use Rattle.smtnames.specs.declared.answers.Written.{Written}
 use Rattle.smtnames.specs.declared.answers.Written.TheVariants as written
 use Rattle.smtnames.specs.declared.answers.Walked.{Walked}
 use Rattle.smtnames.specs.declared.answers.Walked.TheVariants as walked
-use Rattle.smtnames.proofs.Joined.{joined_assoc, joined-none, joined_end, joined-got}
-use Rattle.smtnames.proofs.Tells.{Put, put, Gone, gone, put-none, put_seq, gone-behind, gone-first, put_as, gone_as, put-told, gone-told, piece_put, piece_gone, part-put, part_end, part-gone}
+use Rattle.smtnames.proofs.Joined.{joined-none, joined_end, joined-got}
+use Rattle.smtnames.proofs.Tells.{Put, put, Gone, gone, piece_put, piece_gone, part-put, part_end, part-gone}
 use Rattle.smtfronts.proofs.FrontsSeams.{node-lets, node-closes, node-callee}
 use Rattle.smtlib.proofs.TermTexts.{node-bad, node_operand, node-got, app-none, app_argument, app-head, app-got, head-kind}
 

@@ -1,11 +1,11 @@
 -- The bytes of a term, by its front, its operands and what stands behind them.
-use Prim.Native.Nat.{ℕ, zero, suc}
+use Prim.Native.Nat.{ℕ, suc}
 use mathlib.Core.Bool.{false}
 use mathlib.Core.Path.{◌≡◌, refl, sym, ap, ◌∙◌}
 use mathlib.Core.List.{List, [], ◌∷◌, ◌++◌}
 use native.Mathlib.Omega.{arith}
 use Rattle.reading.specs.Bytes.{Maybe}
-use Rattle.reading.specs.Answer.{Refusal, unwritable, Ans, got, bad, and_then}
+use Rattle.reading.specs.Answer.{Refusal, Ans, got, bad, and_then}
 use Rattle.grammar.specs.Sort.{Sort}
 use Rattle.grammar.specs.Expr.{Kind, k_num, k_bool, k_str, k_bit_vec, k_fresh, k_named, k_neg, k_bin, k_if, k_and, k_or, k_not, k_imp, k_iff, k_atom, k_let, k_theory, k_is_ctor, k_exists, k_let_fresh, Expr, Exprs, node, app, enil, econs, exprs}
 use Rattle.grammar.specs.Shape.{HasOperands}

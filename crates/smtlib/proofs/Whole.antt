@@ -1,22 +1,20 @@
 -- The whole operation: the list of variables, a space, the term; and what is answered then.
-use Prim.Native.Nat.{ℕ, ◌+◌, ◌≤◌, ◌<◌}
-use mathlib.Core.Bool.{Bool, true, false}
-use mathlib.Core.Path.{◌≡◌, refl, sym, ap, ◌∙◌}
-use mathlib.Core.List.{List, [], ◌∷◌, ◌++◌}
+use Prim.Native.Nat.{ℕ, ◌≤◌, ◌<◌}
+use mathlib.Core.Path.{◌≡◌, refl, ap, ◌∙◌}
+use mathlib.Core.List.{List, [], ◌∷◌}
 use native.Mathlib.Omega.{arith}
 use lib.ListN.{length, get_or, replicate}
 use borrow.Author.Tests.{le-leb, lt-leb}
 use Rattle.reading.specs.Pick.{pick}
 use Rattle.reading.specs.Limits.{max_nodes}
-use Rattle.reading.specs.Answer.{Refusal, number, no_room, Ans, got, bad, and_then, Final, accepts, refuses, fits_in, zeros, over, output_of}
+use Rattle.reading.specs.Answer.{Ans, got, bad, and_then, Final, accepts, refuses, zeros, over, output_of}
 use Rattle.grammar.specs.Expr.{Binder, Expr, Solution}
-use Rattle.judging.specs.Judge.{Judged, reads, fails, binders_at, expr_deep, judge_solution}
+use Rattle.judging.specs.Judge.{reads, fails, binders_at, expr_deep, judge_solution}
 use Rattle.judging.specs.Ends.{end_of}
 use Rattle.judging.specs.declared.End.TheVariants as end
 use Rattle.judge.proofs.ReadExpr.{ends_at, ends-no}
 use Rattle.judging.proofs.SolutionParts.{Parts, parts_of}
-use Rattle.writing.specs.Laid.{laid}
-use Rattle.writing.specs.Wrote.{Wrote, WroteBytes}
+use Rattle.writing.specs.Wrote.{WroteBytes}
 use Rattle.writing.proofs.Laid.{over-start}
 use Rattle.writing.proofs.Wrote.{either}
 use Rattle.smt.specs.Sexp.{print, list}
@@ -27,7 +25,6 @@ use Rattle.smtnames.specs.Pieces.{joined, vars_text}
 use Rattle.smtlib.specs.Terms.{term_text}
 use Rattle.smtnames.specs.Written.{TellsPart}
 use Rattle.smtlib.specs.Answers.{answer_of, Outcome, wrote, left, Attempted}
-use Rattle.smtlib.specs.declared.Answer.{Answer}
 use Rattle.smtlib.specs.declared.Answer.TheVariants as said
 use Rattle.smtnames.specs.declared.answers.Walked.{Walked}
 use Rattle.smtnames.specs.declared.answers.Walked.TheVariants as walked

@@ -1,5 +1,5 @@
 -- The same for sorts, expressions, binds, solutions and flattening.
-use Rattle.std.specs.Prelude.{ℕ, ◌-◌, ◌≡◌, refl, List, [], ◌∷◌, ◌++◌, replicate}
+use Rattle.std.specs.Prelude.{ℕ, ◌≡◌, refl, List, [], ◌∷◌, ◌++◌, replicate}
 use Prim.Native.String.{String}
 use Rattle.reading.specs.Bytes.{ascii}
 use Rattle.session.specs.Session.{sort, expression, bind, solution}

@@ -1,6 +1,5 @@
 use mathlib.Core.Path.{refl}
 use Rattle.reading.proofs.Picks.{pick_lt, pick_ge}
-use borrow.Author.Rules.{rules}
 use Rattle.compared.proofs.expected.Goals as goal
 
 pub returns-then-i-words : goal.returns-then-i-words

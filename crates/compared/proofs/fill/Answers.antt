@@ -1,8 +1,4 @@
-use Prim.Native.Nat.{◌-◌}
-use native.Mathlib.Omega.{arith}
-use borrow.Author.Rules.{rules}
-use lib.ListN.{length}
-use Rattle.compared.proofs.Comparing.{Filling, filling_all, filling_more, filling_none}
+use Rattle.compared.proofs.Comparing.{filling_all, filling_more, filling_none}
 use Rattle.compared.proofs.fill.Goals as goal
 
 pub loop-i-init : goal.loop-i-init

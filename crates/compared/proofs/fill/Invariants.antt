@@ -1,8 +1,6 @@
 use Prim.Native.Nat.{◌-◌}
-use native.Mathlib.Omega.{arith}
-use borrow.Author.Rules.{rules}
 use lib.ListN.{length}
-use Rattle.compared.proofs.Comparing.{Filling, filling_all, filling_more, filling_none}
+use Rattle.compared.proofs.Comparing.{Filling}
 use Rattle.compared.proofs.fill.Given as goal
 
 abbrev pub invariant-loop-i : goal.invariant-loop-i

@@ -1,10 +1,4 @@
-use Prim.Native.Nat.{◌-◌, ◌≤◌}
-use native.Mathlib.Omega.{arith}
-use borrow.Author.Rules.{rules}
-use lib.ListN.{length}
-use Rattle.reading.specs.Answer.{over}
-use Rattle.compared.specs.Recorded.{filled}
-use Rattle.compared.proofs.Comparing.{Comparing, comparing_all, comparing_differ, comparing_more, comparing_none, answer-length, answer_at, answer-fits, answer-long}
+use Rattle.compared.proofs.Comparing.{comparing_all, comparing_differ, comparing_more, comparing_none, answer-length, answer_at, answer-fits, answer-long}
 use Rattle.compared.proofs.is_answer.Goals as goal
 
 pub returns-then-out-words : goal.returns-then-out-words

@@ -1,10 +1,8 @@
 use Prim.Native.Nat.{◌-◌, ◌≤◌}
-use native.Mathlib.Omega.{arith}
-use borrow.Author.Rules.{rules}
 use lib.ListN.{length}
 use Rattle.reading.specs.Answer.{over}
 use Rattle.compared.specs.Recorded.{filled}
-use Rattle.compared.proofs.Comparing.{Comparing, comparing_all, comparing_differ, comparing_more, comparing_none, answer-length, answer_at, answer-fits, answer-long}
+use Rattle.compared.proofs.Comparing.{Comparing}
 use Rattle.compared.proofs.is_answer.Given as goal
 
 abbrev pub invariant-loop-i : goal.invariant-loop-i

@@ -1,10 +1,5 @@
-use Prim.Native.Nat.{◌-◌}
-use native.Mathlib.Omega.{arith}
-use borrow.Author.Rules.{rules}
-use lib.ListN.{length}
-use Rattle.reading.specs.Answer.{zeros}
 use Rattle.compared.specs.Recorded.{is_zero}
-use Rattle.compared.proofs.Comparing.{Comparing, comparing_all, comparing_differ, comparing_more, comparing_none, zeros-length, zeros-at}
+use Rattle.compared.proofs.Comparing.{comparing_all, comparing_differ, comparing_more, comparing_none, zeros-length, zeros-at}
 use Rattle.compared.proofs.is_zero.Goals as goal
 
 pub loop-i-init : goal.loop-i-init

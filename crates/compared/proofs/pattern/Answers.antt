@@ -1,6 +1,5 @@
 use mathlib.Core.Path.{refl}
 use Rattle.compared.specs.Recorded.{pattern}
-use borrow.Author.Rules.{rules}
 use Rattle.compared.proofs.pattern.Goals as goal
 
 pub returns : goal.returns

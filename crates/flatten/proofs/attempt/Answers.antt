@@ -1,6 +1,5 @@
 use mathlib.Core.Path.{refl, sym, ◌∙◌}
 use Rattle.flatten.proofs.Decided.{flatten_no, flatten_done, flatten_full}
-use borrow.Author.Rules.{rules}
 use Rattle.flatten.proofs.attempt.Goals as goal
 
 pub returns-then-out-p : goal.returns-then-out-p

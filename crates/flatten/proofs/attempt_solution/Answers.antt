@@ -3,7 +3,6 @@ use mathlib.Core.Path.{refl, sym, ap, ◌∙◌}
 use native.Mathlib.Omega.{arith}
 use lib.ListN.{length-take, replicate}
 use Rattle.flatten.proofs.Decided.{made, body-within, solution-refused, solution-done, solution-full}
-use borrow.Author.Rules.{rules}
 use Rattle.flatten.proofs.attempt_solution.Goals as goal
 
 pub slice_bounds-flat-end : goal.slice_bounds-flat-end

@@ -1,6 +1,5 @@
 use Rattle.parse.proofs.Answered.{kept, cleared}
 use Rattle.flattening.specs.Operations.{flatten_out}
-use borrow.Author.Rules.{rules}
 use Rattle.flatten.proofs.flatten.Goals as goal
 
 pub returns-in-Done : goal.returns-in-Done

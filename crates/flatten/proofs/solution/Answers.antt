@@ -1,6 +1,5 @@
 use mathlib.Core.Path.{◌∙◌}
 use Rattle.parse.proofs.Ended.{closed}
-use borrow.Author.Rules.{rules}
 use Rattle.flatten.proofs.solution.Goals as goal
 
 pub returns : goal.returns

@@ -1,11 +1,7 @@
-use borrow.Author.Rules.{rules}
-use Prim.Native.Nat.{◌-◌, ℕ}
-use mathlib.Core.Path.{◌≡◌, refl, ◌∙◌}
-use mathlib.Core.List.{List}
+use mathlib.Core.Path.{refl, ◌∙◌}
 use native.Mathlib.Omega.{arith}
-use lib.ListN.{length, length-set}
-use Rattle.judging.specs.Spelled.{Spelled}
-use Rattle.flatwriter.proofs.WriteSteps.{Left, left-all, left-next, left-none, left-full, left-past}
+use lib.ListN.{length-set}
+use Rattle.flatwriter.proofs.WriteSteps.{left-all, left-next, left-none, left-full, left-past}
 use Rattle.flatwriter.proofs.copy.Goals as goal
 
 pub loop-i-init : goal.loop-i-init

@@ -1,11 +1,9 @@
-use borrow.Author.Rules.{rules}
 use Prim.Native.Nat.{◌-◌, ℕ}
-use mathlib.Core.Path.{◌≡◌, refl, ◌∙◌}
+use mathlib.Core.Path.{◌≡◌}
 use mathlib.Core.List.{List}
-use native.Mathlib.Omega.{arith}
-use lib.ListN.{length, length-set}
+use lib.ListN.{length}
 use Rattle.judging.specs.Spelled.{Spelled}
-use Rattle.flatwriter.proofs.WriteSteps.{Left, left-all, left-next, left-none, left-full, left-past}
+use Rattle.flatwriter.proofs.WriteSteps.{Left}
 use Rattle.flatwriter.proofs.copy.Given as goal
 
 abbrev pub invariant-loop-i : goal.invariant-loop-i

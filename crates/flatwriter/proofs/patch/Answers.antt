@@ -1,6 +1,5 @@
 use native.Mathlib.Omega.{arith}
 use mathlib.Core.Path.{refl}
-use borrow.Author.Rules.{rules}
 use Rattle.flatwriter.proofs.patch.Goals as goal
 
 pub returns-then-count-ge-TOO_MANY : goal.returns-then-count-ge-TOO_MANY

@@ -1,6 +1,5 @@
 use mathlib.Core.Path.{sym, ap}
 use Rattle.replies.specs.Heard.{counted_said}
-use borrow.Author.Rules.{rules}
 use Rattle.replies.proofs.counted.Goals as goal
 
 pub returns-in-Done : goal.returns-in-Done

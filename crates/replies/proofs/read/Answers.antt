@@ -1,6 +1,5 @@
 use mathlib.Core.Path.{sym, ap}
 use Rattle.replies.specs.Heard.{read_said}
-use borrow.Author.Rules.{rules}
 use Rattle.replies.proofs.read.Goals as goal
 
 pub returns-in-Accepted : goal.returns-in-Accepted

@@ -1,6 +1,5 @@
 use mathlib.Core.Path.{sym, ap}
 use Rattle.replies.specs.Heard.{size_said}
-use borrow.Author.Rules.{rules}
 use Rattle.replies.proofs.sized.Goals as goal
 
 pub returns-in-Done : goal.returns-in-Done

@@ -1,6 +1,5 @@
 use mathlib.Core.Path.{sym, ◌∙◌}
 use Rattle.show.proofs.Judged.{fits-no, fits-some, fits_all}
-use borrow.Author.Rules.{rules}
 use Rattle.show.proofs.fits.Goals as goal
 
 -- src/lib.rt:96:23

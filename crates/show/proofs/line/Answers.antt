@@ -1,7 +1,4 @@
-use borrow.Author.Rules.{rules}
-use Prim.Native.Nat.{◌-◌}
-use native.Mathlib.Omega.{arith}
-use Rattle.show.proofs.Printing.{Lining, lining_starts, lining_more, lining_ends}
+use Rattle.show.proofs.Printing.{lining_starts, lining_more, lining_ends}
 use Rattle.show.proofs.line.Goals as goal
 
 pub loop-i-init : goal.loop-i-init

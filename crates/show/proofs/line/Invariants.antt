@@ -1,7 +1,5 @@
-use borrow.Author.Rules.{rules}
 use Prim.Native.Nat.{◌-◌}
-use native.Mathlib.Omega.{arith}
-use Rattle.show.proofs.Printing.{Lining, lining_starts, lining_more, lining_ends}
+use Rattle.show.proofs.Printing.{Lining}
 use Rattle.show.proofs.line.Given as goal
 
 abbrev pub invariant-loop-i : goal.invariant-loop-i

@@ -1,6 +1,5 @@
 use mathlib.Core.Path.{sym, ◌∙◌}
-use borrow.Author.Rules.{rules}
-use Rattle.show.proofs.Going.{Going, first_word, going_starts, going_more, going_ends, not-refused, line-room, last-room}
+use Rattle.show.proofs.Going.{first_word, going_starts, going_more, going_ends, not-refused, line-room, last-room}
 use Rattle.show.proofs.lines.Goals as goal
 
 pub bounds-words-0 : goal.bounds-words-0

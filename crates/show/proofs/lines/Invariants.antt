@@ -1,6 +1,4 @@
-use mathlib.Core.Path.{sym, ◌∙◌}
-use borrow.Author.Rules.{rules}
-use Rattle.show.proofs.Going.{Going, first_word, going_starts, going_more, going_ends, not-refused, line-room, last-room}
+use Rattle.show.proofs.Going.{Going}
 use Rattle.show.proofs.lines.Given as goal
 
 abbrev pub invariant-loop-left : goal.invariant-loop-left

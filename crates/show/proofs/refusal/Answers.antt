@@ -4,7 +4,6 @@ use lib.ListN.{length-set}
 use Rattle.show.specs.Lines.{refusal_text}
 use Rattle.show.proofs.Stores.{sets_over}
 use Rattle.show.proofs.Showing.{shows, refusal-hides}
-use borrow.Author.Rules.{rules}
 use Rattle.show.proofs.refusal.Goals as goal
 
 pub returns-then-out-lt3 : goal.returns-then-out-lt3

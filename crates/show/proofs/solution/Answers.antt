@@ -1,6 +1,5 @@
 use mathlib.Core.Path.{sym, ◌∙◌}
 use Rattle.show.proofs.Showing.{hides}
-use borrow.Author.Rules.{rules}
 use Rattle.show.proofs.solution.Goals as goal
 
 pub lines-requires : goal.lines-requires

@@ -2,7 +2,6 @@ use mathlib.Core.Path.{◌∙◌, refl}
 use Rattle.show.proofs.Stores.{sets-nine}
 use native.Mathlib.Omega.{arith}
 use lib.ListN.{length-set}
-use borrow.Author.Rules.{rules}
 use Rattle.show.proofs.word.Goals as goal
 
 pub bounds-out-at-2 : goal.bounds-out-at-2

@@ -3,7 +3,6 @@ use Rattle.grammar.specs.Names.{theory}
 use Rattle.heads.proofs.ReadHead.{next}
 use Rattle.smt.specs.Vocabulary.{bit_vectors}
 use Rattle.smtfunctions.proofs.Numbered.{function-told, function-none}
-use borrow.Author.Rules.{rules}
 use Rattle.smtfunctions.proofs.comparison.Goals as goal
 
 -- src/callee.rt:30:1

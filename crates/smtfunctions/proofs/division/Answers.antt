@@ -4,7 +4,6 @@ use Rattle.grammar.specs.Names.{theory}
 use Rattle.heads.proofs.ReadHead.{next}
 use Rattle.smt.specs.Vocabulary.{bit_vectors}
 use Rattle.smtfunctions.proofs.Numbered.{function-told}
-use borrow.Author.Rules.{rules}
 use Rattle.smtfunctions.proofs.division.Goals as goal
 
 -- src/callee.rt:48:1

@@ -1,4 +1,3 @@
-use borrow.Author.Rules.{rules}
 use Rattle.smtlevels.proofs.Levels.{inner-into, outer_into}
 use Rattle.smtlevels.proofs.entered_below.Goals as goal
 

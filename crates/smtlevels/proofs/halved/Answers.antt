@@ -1,8 +1,8 @@
-use Prim.Native.Nat.{◌+◌, ◌-◌, ◌≤◌}
+use Prim.Native.Nat.{◌+◌}
 use mathlib.Core.Path.{◌≡◌, ◌∙◌}
 use native.Mathlib.Omega.{arith}
 use Rattle.smtlevels.specs.Levels.{half}
-use Rattle.smtlevels.proofs.Levels.{Moved, moved_none, moved-one, moved-known}
+use Rattle.smtlevels.proofs.Levels.{moved_none, moved-one, moved-known}
 use Rattle.smtlevels.proofs.halved.Goals as goal
 
 pub returns-then-known-lt-MAX_LISTS : goal.returns-then-known-lt-MAX_LISTS

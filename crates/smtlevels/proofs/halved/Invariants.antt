@@ -1,8 +1,6 @@
-use Prim.Native.Nat.{◌+◌, ◌-◌, ◌≤◌}
-use mathlib.Core.Path.{◌≡◌, ◌∙◌}
-use native.Mathlib.Omega.{arith}
+use Prim.Native.Nat.{◌-◌, ◌≤◌}
 use Rattle.smtlevels.specs.Levels.{half}
-use Rattle.smtlevels.proofs.Levels.{Moved, moved_none, moved-one, moved-known}
+use Rattle.smtlevels.proofs.Levels.{Moved}
 use Rattle.smtlevels.proofs.halved.Given as goal
 
 abbrev pub invariant-loop-i : goal.invariant-loop-i

@@ -1,7 +1,5 @@
-use Prim.Native.Nat.{◌≤◌}
-use mathlib.Core.Path.{◌≡◌, refl, ◌∙◌}
+use mathlib.Core.Path.{refl, ◌∙◌}
 use native.Mathlib.Omega.{arith}
-use Rattle.smtlevels.specs.Levels.{standing}
 use Rattle.smtlevels.proofs.Levels.{standing_on, standing_here, standing-none}
 use Rattle.smtlevels.proofs.standing.Goals as goal
 

@@ -1,8 +1,6 @@
 use Prim.Native.Nat.{◌≤◌}
-use mathlib.Core.Path.{◌≡◌, refl, ◌∙◌}
-use native.Mathlib.Omega.{arith}
+use mathlib.Core.Path.{◌≡◌}
 use Rattle.smtlevels.specs.Levels.{standing}
-use Rattle.smtlevels.proofs.Levels.{standing_on, standing_here, standing-none}
 use Rattle.smtlevels.proofs.standing.Given as goal
 
 abbrev pub invariant-loop-k : goal.invariant-loop-k

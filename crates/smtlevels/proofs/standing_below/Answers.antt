@@ -1,5 +1,4 @@
 use native.Mathlib.Omega.{arith}
-use borrow.Author.Rules.{rules}
 use Rattle.smtlevels.proofs.Levels.{inner-past, outer_past}
 use Rattle.smtlevels.proofs.standing_below.Goals as goal
 

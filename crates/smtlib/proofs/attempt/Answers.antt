@@ -1,6 +1,5 @@
-use mathlib.Core.Path.{sym, ap, ◌∙◌}
+use mathlib.Core.Path.{sym, ◌∙◌}
 use Rattle.smtlib.proofs.Whole.{not-judged, vars-gone, term-gone, term-over, term-done}
-use borrow.Author.Rules.{rules}
 use Rattle.smtlib.proofs.attempt.Goals as goal
 
 -- src/lib.rt:46:29

@@ -1,6 +1,5 @@
 use mathlib.Core.Path.{sym, ◌∙◌}
 use Rattle.smtlib.proofs.Whole.{done-out, refused-out}
-use borrow.Author.Rules.{rules}
 use Rattle.smtlib.proofs.smtlib.Goals as goal
 
 -- src/lib.rt:60:1

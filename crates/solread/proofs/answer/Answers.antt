@@ -3,7 +3,6 @@ use lib.Seq.{length-take-le}
 use Rattle.solread.specs.Printed.{slice}
 use Rattle.replies.proofs.Solved.{ToldSolution}
 use Rattle.solread.proofs.Shown.{shown-long, shown-refused, shown-accepted, words_inside}
-use borrow.Author.Rules.{rules}
 use Rattle.solread.proofs.answer.Goals as goal
 
 pub returns-then-text-gt8192 : goal.returns-then-text-gt8192

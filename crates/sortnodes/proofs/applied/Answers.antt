@@ -1,5 +1,4 @@
 use Rattle.sortnodes.proofs.ByWords.{applied_array, applied_data, applied-other}
-use borrow.Author.Rules.{rules}
 use Rattle.sortnodes.proofs.applied.Goals as goal
 
 pub returns-then-c-eq-MAP : goal.returns-then-c-eq-MAP

@@ -1,7 +1,6 @@
 use Rattle.reading.proofs.Picks.{picks}
 use Rattle.sortnodes.specs.Told.{sort_node_at}
 use Rattle.sortnodes.proofs.ByWords.{sort-out, sort-width, sort_bits, sort-applied}
-use borrow.Author.Rules.{rules}
 use Rattle.sortnodes.proofs.sort_at.Goals as goal
 
 pub returns-then-words-at : goal.returns-then-words-at

@@ -1,9 +1,6 @@
-use Prim.Native.Nat.{ℕ, ◌+◌, ◌-◌, ◌≤◌}
-use mathlib.Core.Path.{◌≡◌, refl, ap, ◌∙◌}
-use native.Mathlib.Omega.{arith}
-use lib.ListN.{replicate, replicate-append-replicate}
+use Prim.Native.Nat.{◌-◌, ◌≤◌}
+use lib.ListN.{replicate}
 use Rattle.writing.specs.Wrote.{WroteBytes}
-use Rattle.writing.proofs.Wrote.{wrote_none, wrote_seq, wrote_as}
 use Rattle.sorttext.proofs.closed.Given as goal
 
 abbrev pub invariant-loop-i : goal.invariant-loop-i

@@ -1,7 +1,6 @@
 use mathlib.Core.Path.{refl}
 use Rattle.writing.proofs.Wrote.{wrote_seq, wrote_as}
 use Rattle.sorttext.proofs.EndTexts.{end-last, end_more}
-use borrow.Author.Rules.{rules}
 use Rattle.sorttext.proofs.ended.Goals as goal
 
 pub returns-then-left-eq0 : goal.returns-then-left-eq0

@@ -1,8 +1,6 @@
-use borrow.Author.Rules.{rules}
 use Rattle.reading.proofs.Picks.{pick_eq, pick_ne}
-use Prim.Native.Nat.{ℕ, ◌-◌, ◌≤◌, ◌<◌}
+use Prim.Native.Nat.{ℕ, ◌<◌}
 use mathlib.Core.Path.{◌≡◌, ◌∙◌}
-use mathlib.Core.Logic.{⊎_elim}
 use mathlib.Core.List.{List, []}
 use native.Mathlib.Omega.{arith}
 use lib.ListN.{length}
@@ -11,7 +9,7 @@ use Rattle.smtlevels.specs.Open.{total, ending, settled}
 use Rattle.sorttext.specs.SortWalk.{Walk}
 use Rattle.smtlevels.specs.Levels.{Within, Known}
 use Rattle.smtlevels.proofs.Levels.{within_as, below-settled}
-use Rattle.sorttext.proofs.EndTexts.{size-some, size_few, Toward, toward_start, toward_end, toward_held, toward_inside, toward_into, toward_past, toward_some, toward_as}
+use Rattle.sorttext.proofs.EndTexts.{size-some, size_few, toward_start, toward_end, toward_held, toward_inside, toward_into, toward_past, toward_some, toward_as}
 use Rattle.sorttext.proofs.endings.Goals as goal
 use Rattle.sorttext.proofs.endings.Goals.{then-n-eq0+else-pending-eq0, then-pending-left, else-pending-left, else-n-eq0, then-pending-left-2, else-pending-left-2}
 

@@ -1,5 +1,4 @@
 use native.Mathlib.Omega.{arith}
-use borrow.Author.Rules.{rules}
 use Rattle.smtlevels.proofs.Levels.{standing-count, standing-known}
 use Rattle.sorttext.proofs.endings_known.Goals as goal
 

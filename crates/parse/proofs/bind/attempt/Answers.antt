@@ -2,7 +2,6 @@ use native.Mathlib.Omega.{arith}
 use lib.ListN.{length-take}
 use Rattle.parse.proofs.ReadTree.{there-is, there-none}
 use Rattle.parse.proofs.Ended.{ended, whole_in, bind-final, bind-none}
-use borrow.Author.Rules.{rules}
 use Rattle.parse.proofs.bind.attempt.Goals as goal
 
 pub slice_bounds-bind_at-end : goal.slice_bounds-bind_at-end

@@ -1,5 +1,4 @@
 use mathlib.Core.Path.{refl, sym}
-use borrow.Author.Rules.{rules}
 use Rattle.parse.proofs.ending.close.Goals as goal
 
 pub returns-in-Done : goal.returns-in-Done

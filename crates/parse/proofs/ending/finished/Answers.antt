@@ -1,7 +1,6 @@
 use mathlib.Core.Path.{refl}
 use Rattle.reading.specs.Pick.{pick}
 use borrow.Author.Tests.{lt-ltb, le-ltb}
-use borrow.Author.Rules.{rules}
 use Rattle.parse.proofs.ending.finished.Goals as goal
 
 pub returns-then-count-n : goal.returns-then-count-n

@@ -2,7 +2,6 @@ use native.Mathlib.Omega.{arith}
 use lib.ListN.{length-take}
 use Rattle.parse.proofs.ReadTree.{there-is, there-none}
 use Rattle.parse.proofs.Ended.{ended, here_in, expr-final, expr-none}
-use borrow.Author.Rules.{rules}
 use Rattle.parse.proofs.expression.attempt.Goals as goal
 
 pub slice_bounds-expr-end : goal.slice_bounds-expr-end

@@ -2,7 +2,6 @@ use Prim.Native.Nat.{ℕ}
 use mathlib.Core.Path.{ap, ◌∙◌}
 use lib.ListN.{replicate}
 use Rattle.parse.proofs.Ended.{closed}
-use borrow.Author.Rules.{rules}
 use Rattle.parse.proofs.expression.expression.Goals as goal
 
 pub returns : goal.returns

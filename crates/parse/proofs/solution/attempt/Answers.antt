@@ -3,7 +3,6 @@ use lib.ListN.{length-take}
 use Rattle.parse.proofs.ReadTree.{there-is, there-none}
 use Rattle.parse.proofs.Ended.{whole_in}
 use Rattle.parse.proofs.Drafts.{draft-ended, draft-final, draft-none}
-use borrow.Author.Rules.{rules}
 use Rattle.parse.proofs.solution.attempt.Goals as goal
 
 pub slice_bounds-parts_at-end : goal.slice_bounds-parts_at-end

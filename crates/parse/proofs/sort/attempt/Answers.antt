@@ -2,7 +2,6 @@ use native.Mathlib.Omega.{arith}
 use lib.ListN.{length-take}
 use Rattle.parse.proofs.ReadTree.{there-is, there-none}
 use Rattle.parse.proofs.Answered.{is-tree, without-tree, sort-refused, sort-short, sort-long}
-use borrow.Author.Rules.{rules}
 use Rattle.parse.proofs.sort.attempt.Goals as goal
 
 pub slice_bounds-sort-end : goal.slice_bounds-sort-end

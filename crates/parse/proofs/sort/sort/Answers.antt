@@ -2,7 +2,6 @@ use Prim.Native.Nat.{ℕ}
 use mathlib.Core.Path.{ap, ◌∙◌}
 use lib.ListN.{replicate}
 use Rattle.parse.proofs.Answered.{kept, cleared}
-use borrow.Author.Rules.{rules}
 use Rattle.parse.proofs.sort.sort.Goals as goal
 
 pub returns-in-Done : goal.returns-in-Done

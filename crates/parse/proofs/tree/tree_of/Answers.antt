@@ -1,5 +1,4 @@
 use Rattle.parse.proofs.ReadTree.{tree_in, no-tree}
-use borrow.Author.Rules.{rules}
 use Rattle.parse.proofs.tree.tree_of.Goals as goal
 
 pub returns-in-Refused : goal.returns-in-Refused

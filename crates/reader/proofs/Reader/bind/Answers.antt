@@ -2,7 +2,6 @@ use mathlib.Core.Path.{refl, ◌∙◌}
 use Rattle.grammar.specs.Expr.{bind_items}
 use Rattle.replies.proofs.Outcomes.{bind-known}
 use Rattle.replies.proofs.Told.{counted-told, reply}
-use borrow.Author.Rules.{rules}
 use Rattle.reader.proofs.Reader.bind.Goals as goal
 
 pub returns : goal.returns

@@ -2,7 +2,6 @@ use mathlib.Core.Path.{refl, ◌∙◌}
 use Rattle.grammar.specs.Expr.{expr_items}
 use Rattle.replies.proofs.Outcomes.{expr-known}
 use Rattle.replies.proofs.Told.{counted-told, reply}
-use borrow.Author.Rules.{rules}
 use Rattle.reader.proofs.Reader.expression.Goals as goal
 
 pub returns : goal.returns

@@ -6,7 +6,6 @@ use Rattle.reading.specs.Limits.{max_number}
 use Rattle.reading.specs.Reading.{read_out}
 use Rattle.replies.proofs.Outcomes.{one_known}
 use Rattle.replies.proofs.Told.{read_told, reply}
-use borrow.Author.Rules.{rules}
 use Rattle.reader.proofs.Reader.read_one.Goals as goal
 
 pub returns : goal.returns

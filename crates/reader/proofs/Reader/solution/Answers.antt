@@ -2,7 +2,6 @@ use mathlib.Core.Path.{◌∙◌}
 use Rattle.flattening.specs.Operations.{flat_items}
 use Rattle.replies.proofs.Outcomes.{solution-known}
 use Rattle.replies.proofs.Told.{counted-told, reply}
-use borrow.Author.Rules.{rules}
 use Rattle.reader.proofs.Reader.solution.Goals as goal
 
 pub returns : goal.returns

@@ -4,7 +4,6 @@ use native.Mathlib.Omega.{arith}
 use Rattle.reading.specs.Limits.{max_number}
 use Rattle.replies.proofs.Outcomes.{sort-known}
 use Rattle.replies.proofs.Told.{sort-told, reply}
-use borrow.Author.Rules.{rules}
 use Rattle.reader.proofs.Reader.sort.Goals as goal
 
 pub returns : goal.returns

@@ -1,7 +1,6 @@
-use mathlib.Core.Path.{refl, sym}
+use mathlib.Core.Path.{refl}
 use Rattle.smtnames.specs.Written.{tells, keeps}
 use Rattle.smtfronts.proofs.FrontsRest.{rest-callee}
-use borrow.Author.Rules.{rules}
 use borrow.Enum.Refused.{opened}
 use Rattle.smtfronts.proofs.callee.named.Goals as goal
 

@@ -3,7 +3,6 @@ use Rattle.reading.specs.Answer.{unwritable}
 use Rattle.writing.proofs.Wrote.{wrote_seq}
 use Rattle.smtnames.proofs.Tells.{tells-to, tells-no, tells_as}
 use Rattle.smtfronts.proofs.FrontsSteps.{bits_refused, bits_taken}
-use borrow.Author.Rules.{rules}
 use mathlib.Core.Path.{ap}
 use mathlib.Core.Bool.{not}
 use Rattle.smtfronts.proofs.fronts.bits.Goals as goal

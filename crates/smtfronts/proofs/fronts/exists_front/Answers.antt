@@ -2,7 +2,6 @@ use mathlib.Core.Path.{sym}
 use Rattle.writing.proofs.Wrote.{wrote_none}
 use Rattle.smtnames.proofs.Tells.{part-put, part-gone, tells-to, tells_as, tells_seq, tells-end, tells_stop}
 use Rattle.smtfronts.proofs.FrontsSteps.{exists-none, exists-some}
-use borrow.Author.Rules.{rules}
 use Rattle.smtfronts.proofs.fronts.exists_front.Goals as goal
 
 -- src/fronts.rt:210:9

@@ -1,6 +1,5 @@
 use Rattle.smtfronts.specs.Fronts.{let_fresh_text}
 use Rattle.writing.proofs.Wrote.{wrote_seq}
-use borrow.Author.Rules.{rules}
 use Rattle.smtfronts.proofs.fronts.fresh_let_front.Goals as goal
 
 pub returns : goal.returns

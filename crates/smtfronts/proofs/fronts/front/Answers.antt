@@ -1,6 +1,5 @@
 use Rattle.smtfronts.proofs.FrontsRest.{rest-front}
 use Rattle.smtfronts.proofs.FrontsSteps.{front-never, front-exists, front-plain}
-use borrow.Author.Rules.{rules}
 use borrow.Enum.Refused.{opened}
 use Rattle.smtfronts.proofs.fronts.front.Goals as goal
 

@@ -1,5 +1,4 @@
 use Rattle.smtnames.proofs.Tells.{piece_put, piece_gone, tells_seq, tells-end, tells_stop}
-use borrow.Author.Rules.{rules}
 use Rattle.smtfronts.proofs.fronts.let_front.Goals as goal
 
 -- src/fronts.rt:71:1

@@ -2,7 +2,6 @@ use mathlib.Core.Path.{refl}
 use Rattle.reading.specs.Answer.{unwritable}
 use Rattle.smtnames.proofs.Tells.{tells-to, tells-no}
 use Rattle.smtfronts.proofs.FrontsSteps.{node_as, numbered_as}
-use borrow.Author.Rules.{rules}
 use Rattle.smtfronts.proofs.fronts.plain_front.Goals as goal
 
 pub returns-in-Num : goal.returns-in-Num

@@ -1,5 +1,4 @@
 use native.Mathlib.Omega.{arith}
-use borrow.Author.Rules.{rules}
 use mathlib.Core.Path.{refl, sym, ◌∙◌}
 use Rattle.smtlib.proofs.TermSteps.{terms-all, terms-done, terms-gone, terms-next, term-no-room, term-no-header, front-gone, operands-gone, operands-done, applied-none, arguments-gone, callee-gone, applied-done}
 use Rattle.smtlib.proofs.terms.+term_terms.Goals as goal

@@ -1,5 +1,4 @@
 use Rattle.writing.proofs.Wrote.{wrote_none}
-use borrow.Author.Rules.{rules}
 use Rattle.smtlib.proofs.terms.gap.Goals as goal
 
 -- src/terms.rt:76:9

@@ -1,7 +1,6 @@
 use mathlib.Core.Path.{refl}
 use Rattle.smtnames.proofs.Tells.{put, gone, put_as, gone_as, put-told, gone-told}
 use Rattle.smtsorts.proofs.SortNodes.{array_two, array_other}
-use borrow.Author.Rules.{rules}
 use Rattle.smtsorts.proofs.sort_node.array.Goals as goal
 
 pub returns-then-n-eq2 : goal.returns-then-n-eq2

@@ -2,7 +2,6 @@ use mathlib.Core.Path.{refl}
 use Rattle.writing.proofs.Wrote.{wrote_seq}
 use Rattle.smtnames.proofs.Tells.{put, gone, put_as, gone_as, put-told, gone-told}
 use Rattle.smtsorts.proofs.SortNodes.{width-none, width_some}
-use borrow.Author.Rules.{rules}
 use Rattle.smtsorts.proofs.sort_node.bit_vec.Goals as goal
 
 pub returns-then-width-eq0 : goal.returns-then-width-eq0

@@ -1,6 +1,5 @@
 use Rattle.smtnames.proofs.Tells.{put, put_as, gone_as, tells_as, put-told, gone-told, put_seq, gone-first, gone-behind, piece_put, piece_gone}
 use Rattle.smtsorts.proofs.SortNodes.{data_none, data_some}
-use borrow.Author.Rules.{rules}
 use Rattle.smtsorts.proofs.sort_node.data.Goals as goal
 
 pub returns-then-n-eq0 : goal.returns-then-n-eq0

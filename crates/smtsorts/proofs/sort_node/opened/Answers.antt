@@ -1,7 +1,6 @@
 use mathlib.Core.Path.{refl, ap}
 use Rattle.smtsorts.specs.SortNode.{open_text}
 use Rattle.smtnames.proofs.Tells.{gone, gone-told, tells_as, tells-to}
-use borrow.Author.Rules.{rules}
 use Rattle.smtsorts.proofs.sort_node.opened.Goals as goal
 
 pub returns-in-Int : goal.returns-in-Int

@@ -5,7 +5,6 @@ use lib.ListN.{get_or}
 use Rattle.smtnames.proofs.Tells.{put, put_as, gone_as, gone-told, put_seq, gone-first, gone-behind, part-put, part_end, part-gone, part-told}
 use Rattle.smtvars.proofs.VarTexts.{var_pieces}
 use Rattle.sorttext.proofs.WordsRead.{binder-read}
-use borrow.Author.Rules.{rules}
 use Rattle.smtvars.proofs.vars.var.Goals as goal
 
 pub returns-then-words-at : goal.returns-then-words-at

@@ -1,15 +1,9 @@
 use Rattle.smtvars.proofs.VarTexts.{vars-text}
-use borrow.Author.Rules.{rules}
-use Prim.Native.Nat.{ℕ, ◌≤◌}
-use mathlib.Core.Path.{◌≡◌, refl, ap, ◌∙◌}
-use mathlib.Core.Logic.{⊎_elim}
-use mathlib.Core.List.{List}
+use mathlib.Core.Path.{refl, ap, ◌∙◌}
 use native.Mathlib.Omega.{arith}
 use lib.ListN.{length}
-use Rattle.grammar.specs.Expr.{Binder}
-use Rattle.judging.specs.Judge.{reads, binders_at}
 use Rattle.smtnames.proofs.Tells.{gone-told, part-told, put, put_as, gone_as, put_seq, gone-behind}
-use Rattle.smtvars.proofs.VarLoop.{Coming, coming_start, coming_end, coming_put, coming_next, next-spaced, next-first, next-gone, next_as}
+use Rattle.smtvars.proofs.VarLoop.{coming_start, coming_end, coming_put, coming_next, next-spaced, next-first, next-gone, next_as}
 use Rattle.smtvars.proofs.vars.vars.Goals as goal
 use Rattle.smtvars.proofs.vars.vars.Goals.{then-i-n, else-i-n}
 
