@@ -8,7 +8,7 @@ use lib.ListN.{length, get_or, drop, length-append}
 use Rattle.reading.specs.Limits.{max_lists}
 use Rattle.reading.specs.Bytes.{Span}
 use Rattle.reading.specs.Tree.{symbol, quoted, integer, decimal, boolean, Tree, Trees, atom, list, tnil, tcons, trees, atom_words, tree_words, trees_words, nesting, nestings}
-use Rattle.reading.specs.Answer.{Refusal, malformed, number, got, bad, Res, ok, no, chain}
+use Rattle.reading.specs.Answer.{Refusal as Met, malformed, got, bad, Res, ok, no, chain}
 use Rattle.grammar.specs.Sort.{Sort, sort_words}
 use Rattle.grammar.specs.ParseSort.{in_list, in_atom, in_symbol, symbol_in, tree_at, parse_sort}
 use Rattle.grammar.specs.Item.{raise, words_of}
@@ -23,7 +23,10 @@ use Rattle.plans.specs.Plans.{Parsed, refused}
 use Rattle.plans.specs.Whole.{Whole}
 use Rattle.binds.specs.PredWords.{PredHere, counted_preds}
 use Rattle.plans.specs.declared.progress.Progress.{Progress}
-use Rattle.plans.specs.declared.progress.Progress.TheVariants.{Refused}
+use Rattle.std.specs.Prelude.{Result, Err}
+use Rattle.words.specs.declared.refusal.Refusal.{Refusal}
+use Rattle.words.specs.declared.refusal.Refusal.TheVariants.{Malformed}
+use Rattle.words.specs.Refusals.{refusal_of}
 use Rattle.grammar.proofs.Items.{words-front}
 use Rattle.grammar.proofs.Raise.{raise-front}
 use Rattle.places.proofs.Puts.{put_append}
@@ -75,7 +78,7 @@ module _ (text : List ℕ) (n : ℕ) where
     abbrev named : Tree
     named = list (tcons (list (tcons (atom (symbol s)) (tcons v vs))) us)
 
-    parse_no_sort : {e : Refusal} → parse_sort text v ≡ bad e → parse_bind text named n ≡ no e
+    parse_no_sort : {e : Met} → parse_sort text v ≡ bad e → parse_bind text named n ≡ no e
     unfolding parse_bind in_list tree_at in_symbol in_atom symbol_in
     parse_no_sort e = rw e refl
 
@@ -109,23 +112,23 @@ module _ {text ws : List ℕ} (h : Whole text ws) where
   whole-spot = record { tree = h.tree; rest = []; words = whole_words }
 
   -- What is said of the call.
-  abbrev Said : ℕ → List ℕ → List ℕ → Progress → Type 0
+  abbrev Said : ℕ → List ℕ → List ℕ → Result Progress Refusal → Type 0
   Said count o o' r = Parsed (told_of bind_items count (parse_bind text h.tree 0)) 0 o o' bound r
 
-  said-no : (count : ℕ) {o o' : List ℕ} (e : Refusal) → parse_bind text h.tree 0 ≡ no e → (k : ℕ) → k ≡ number e → Said count o o' (Refused k)
-  said-no count e x k d = rw x (refused (ap Refused d))
+  said-no : (count : ℕ) {o o' : List ℕ} (e : Met) → parse_bind text h.tree 0 ≡ no e → (k : Refusal) → k ≡ refusal_of e → Said count o o' (Err k)
+  said-no count e x k d = rw x (refused (ap Err d))
 
   -- No list.
-  pub bind-atom : (count : ℕ) {o o' : List ℕ} → (get_or ws 0 0 ≡ 21 → ⊥) → Said count o o' (Refused 8)
-  bind-atom count k = said-no count malformed (parse_atom text 0 h.tree (no-list [] h.tree whole_words k)) 8 refl
+  pub bind-atom : (count : ℕ) {o o' : List ℕ} → (get_or ws 0 0 ≡ 21 → ⊥) → Said count o o' (Err Malformed)
+  bind-atom count k = said-no count malformed (parse_atom text 0 h.tree (no-list [] h.tree whole_words k)) Malformed refl
 
   module _ {k f : ℕ} (n : ListNode ws 0 k f) where
     -- No items.
-    pub bind-none : (count : ℕ) {o o' : List ℕ} → k ≡ 0 → Said count o o' (Refused 8)
+    pub bind-none : (count : ℕ) {o o' : List ℕ} → k ≡ 0 → Said count o o' (Err Malformed)
     bind-none count z =
         said-no count malformed
         (ap (λ (t : Tree). parse_bind text t 0) ((the_list whole-spot n).is ∙ ap list (none_left (the_list whole-spot n).items (sym (list-trees whole-spot n) ∙ z))) ∙ parse_none text 0)
-        8
+        Malformed
         refl
 
     module _ (z : k ≡ 0 → ⊥) where
@@ -138,21 +141,21 @@ module _ {text ws : List ℕ} (h : Whole text ws) where
       abbrev pub pair-spot : Spot ws f
       pair-spot = head-spot whole-spot n z
 
-      pub bind-no-pair : (count : ℕ) {o o' : List ℕ} → (get_or ws f 0 ≡ 21 → ⊥) → Said count o o' (Refused 8)
+      pub bind-no-pair : (count : ℕ) {o o' : List ℕ} → (get_or ws f 0 ≡ 21 → ⊥) → Said count o o' (Err Malformed)
       bind-no-pair count m =
           said-no count malformed
           (ap (λ (t : Tree). parse_bind text t 0) (whole_is whole-spot n z)
           ∙ parse_no_pair text 0 first others (no-list (trees_words others ++ []) first refl (λ e. m (word0 pair-spot ∙ e))))
-          8
+          Malformed
           refl
 
       module _ {m g : ℕ} (n' : ListNode ws f m g) where
-        pub bind-short : (count : ℕ) {o o' : List ℕ} → m < 2 → Said count o o' (Refused 8)
+        pub bind-short : (count : ℕ) {o o' : List ℕ} → m < 2 → Said count o o' (Err Malformed)
         bind-short count l =
             said-no count malformed
             (ap (λ (t : Tree). parse_bind text t 0) (whole_is whole-spot n z ∙ ap (λ (t : Tree). list (tcons t others)) (the_list pair-spot n').is)
             ∙ parse_short text 0 (the_list pair-spot n').items others (omega (arith, list-trees pair-spot n')))
-            8
+            Malformed
             refl
 
         module _ (two : 2 ≤ m) where
@@ -168,11 +171,11 @@ module _ {text ws : List ℕ} (h : Whole text ws) where
           pair_is : h.tree ≡ list (tcons (list (tcons name-spot.tree behind)) others)
           pair_is = whole_is whole-spot n z ∙ ap (λ (t : Tree). list (tcons t others)) (whole_is pair-spot n' some-name)
 
-          pub bind-no-name : (count : ℕ) {o o' : List ℕ} → (get_or ws g 0 ≡ 16 → ⊥) → Said count o o' (Refused 8)
+          pub bind-no-name : (count : ℕ) {o o' : List ℕ} → (get_or ws g 0 ≡ 16 → ⊥) → Said count o o' (Err Malformed)
           bind-no-name count y =
               said-no count malformed
               (ap (λ (t : Tree). parse_bind text t 0) pair_is ∙ parse_no_name text 0 name-spot.tree behind others (no_symbol name-spot.rest name-spot.tree refl (λ e. y (word0 name-spot ∙ e))))
-              8
+              Malformed
               refl
 
           module _ (y : get_or ws g 0 ≡ 16) where
@@ -209,7 +212,7 @@ module _ {text ws : List ℕ} (h : Whole text ws) where
             sort-small = record { spot = record { tree = the_sort.first; rest = trees_words the_sort.others ++ (trees_words others ++ []); words = sort-words }; small = sort-few }
 
             -- No sort.
-            pub bind-no-sort : (count : ℕ) {o o' : List ℕ} {e : ℕ} → BadAt (parse_sort text the_sort.first) e → Said count o o' (Refused e)
+            pub bind-no-sort : (count : ℕ) {o o' : List ℕ} {e : Refusal} → BadAt (parse_sort text the_sort.first) e → Said count o o' (Err e)
             bind-no-sort count {e = e} b =
                 said-no count b.why (ap (λ (t : Tree). parse_bind text t 0) named-is ∙ parse_no_sort text 0 name the_sort.first the_sort.others others b.is) e b.same
 
@@ -219,11 +222,11 @@ module _ {text ws : List ℕ} (h : Whole text ws) where
               others-many = ap trees (the_items whole-spot n z).is
 
               -- No predicate.
-              pub bind-one : (count : ℕ) {o o' : List ℕ} → k < 2 → Said count o o' (Refused 8)
+              pub bind-one : (count : ℕ) {o o' : List ℕ} → k < 2 → Said count o o' (Err Malformed)
               bind-one count l =
                   said-no count malformed
                   (ap (λ (t : Tree). parse_bind text t 0) named-is ∙ parse_one text 0 name the_sort.first the_sort.others others q.is (none_left others (omega (arith, list-trees whole-spot n, others-many))))
-                  8
+                  Malformed
                   refl
 
               module _ (l : 2 ≤ k) where
@@ -259,7 +262,7 @@ module _ {text ws : List ℕ} (h : Whole text ws) where
                 }
 
                 -- The predicates decide.
-                pub bind-preds : (count : ℕ) {o o₃ : List ℕ} {r : Progress} → Put o 0 (get_or ws (g + 1) 0 ∷ get_or ws (g + 2) 0 ∷ []) o₁ v
+                pub bind-preds : (count : ℕ) {o o₃ : List ℕ} {r : Result Progress Refusal} → Put o 0 (get_or ws (g + 1) 0 ∷ get_or ws (g + 2) 0 ∷ []) o₁ v
                     → Parsed (told_of counted_preds count ((child text the_pred.first).preds 0)) u o₂ o₃ bound r → Said count o o₃ r
                 bind-preds count {o} p x =
                     let hd = (get_or ws (g + 1) 0 ∷ get_or ws (g + 2) 0 ∷ []) ++ sort_words q.value in

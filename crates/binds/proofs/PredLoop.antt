@@ -1,6 +1,6 @@
 -- Predicates one after the other, as facts on lists. What `and` holds takes its place.
 use Prim.Native.Nat.{ℕ, suc, ◌+◌, ◌*◌, ◌-◌, ◌^◌, ◌≤◌, ◌<◌, max}
-use mathlib.Core.Path.{◌≡◌, refl, sym, ap, subst, ◌∙◌}
+use mathlib.Core.Path.{◌≡◌, refl, sym, ap, ◌∙◌}
 use mathlib.Core.List.{List, [], ◌∷◌, ◌++◌, append_assoc, append-nil}
 use native.Mathlib.Omega.{arith}
 use native.Mathlib.Nat.{le-max_left, le-max_right}
@@ -8,7 +8,7 @@ use lib.ListN.{length, set, drop, length-append}
 use lib.Seq.{set_comm}
 use Rattle.reading.specs.Limits.{max_lists}
 use Rattle.reading.specs.Tree.{symbol, Tree, Trees, atom, tnil, tcons, atom_words, tree_words, trees_words, nesting, nestings}
-use Rattle.reading.specs.Answer.{Refusal, number, Res, ok, no, chain, M}
+use Rattle.reading.specs.Answer.{Res, ok, no, chain, M}
 use Rattle.grammar.specs.Item.{raise, words_of}
 use Rattle.grammar.specs.Expr.{Pred, pred_items, preds_items}
 use Rattle.grammar.specs.ParseExpr.{child, children, each_pred}
@@ -16,11 +16,11 @@ use Rattle.grammar.specs.Written.{told_of}
 use Rattle.places.specs.Spot.{Spot}
 use Rattle.writing.specs.Laid.{laid}
 use Rattle.places.specs.Outcome.{bound}
-use Rattle.plans.specs.Plans.{Wrote, Parsed, wrote, refused}
-use Rattle.binds.specs.PredWords.{PredHere, ReadPred, IsAnd, Stepped, step_read, step_into, step_refused, counted_preds}
-use Rattle.plans.specs.declared.progress.Progress.TheVariants.{Done, Refused}
+use Rattle.plans.specs.Plans.{reached, Wrote, Parsed, wrote, refused}
+use Rattle.binds.specs.PredWords.{PredHere, IsAnd, Went, step_read, step_into, Stopped, counted_preds}
+use Rattle.std.specs.Prelude.{Err}
+use Rattle.words.specs.declared.refusal.Refusal.{Refusal}
 use Rattle.binds.specs.declared.preds.Step.{Step}
-use Rattle.binds.specs.declared.preds.Step.TheVariants as step
 use Rattle.places.proofs.FirstTree.{More}
 use Rattle.grammar.proofs.FormsWritten.{raised_append}
 use Rattle.writing.proofs.Laid.{laid_append}
@@ -118,33 +118,6 @@ unfolding laid
 laid-set [] o w k x h = refl
 laid-set (y ∷ ws) o w k x h = laid-set ws (set o k y) w (k + 1) x (omega arith) ∙ ap (λ (l : List ℕ). laid l (k + 1) ws) (set_comm o k w y x (λ e. omega arith))
 
--- ---- what a step says
-
--- A step that was not refused: behind a predicate, or into `and`.
-pub data Went (text : List ℕ) (count : ℕ) (t : Tree) (at w next : ℕ) (o o' : List ℕ) (q u m k : ℕ) : Type 0 where
-  went_on : ReadPred text count t w next o o' u m → q ≡ at + length (tree_words t) → k ≡ 1 → Went text count t at w next o o' q u m k
-  went_into : IsAnd text t → o' ≡ o → q ≡ at + 6 → u ≡ w → m ≡ next → k ≡ 0 → Went text count t at w next o o' q u m k
-
--- A step that was refused.
-pub record Stopped (text : List ℕ) (t : Tree) (next e : ℕ) : Type 0 where
-  pub why : Refusal
-  pub is : (child text t).preds next ≡ no why
-  pub same : e ≡ number why
-
-module _ {text : List ℕ} {count : ℕ} {t : Tree} {at w next : ℕ} {o o' : List ℕ} where
-  pub went : {r : Step} {q u m k : ℕ} → Stepped text count t at w next o o' r → r ≡ step.On q u m k → Went text count t at w next o o' q u m k
-  went {q = q} {u = u} {m = m} {k = k} x e = go (subst (λ (r : Step). Stepped text count t at w next o o' r) e x)
-    where
-      go : Stepped text count t at w next o o' (step.On q u m k) → Went text count t at w next o o' q u m k
-      go (step_read a b c) = went_on a b c
-      go (step_into a b c d f g) = went_into a b c d f g
-
-  pub stopped : {r : Step} {e : ℕ} → Stepped text count t at w next o o' r → r ≡ step.Refused e → Stopped text t next e
-  stopped {e = e} x d = go (subst (λ (r : Step). Stepped text count t at w next o o' r) d x)
-    where
-      go : Stepped text count t at w next o o' (step.Refused e) → Stopped text t next e
-      go (step_refused {e = c} a b) = record { why = c; is = a; same = b }
-
 -- ---- the items of `and`
 
 module _ {text : List ℕ} {t : Tree} (a : IsAnd text t) where
@@ -213,14 +186,14 @@ module _ {text : List ℕ} {count : ℕ} {ws : List ℕ} {at w end : ℕ} {h : P
 
   module _ {m : List ℕ} {p v next n : ℕ} (g : Reading text count ws at w end h o m p v next n) where
     -- All are read: their number goes before them.
-    pub reading-end : end ≤ p → {o' : List ℕ} → o' ≡ set m w n → Parsed (told_of counted_preds count ((child text h.spot.tree).preds 0)) w o o' bound (Done v next)
+    pub reading-end : end ≤ p → {o' : List ℕ} → o' ≡ set m w n → Parsed (told_of counted_preds count ((child text h.spot.tree).preds 0)) w o o' bound (reached v next)
     unfolding each_pred child raise words_of laid
     reading-end e {o'} d =
         let z : g.items ≡ tnil = no-trees g.items refl (omega (arith, g.ends)) in
         let a : (child text h.spot.tree).preds 0 ≡ ok g.sofar next
         = g.whole ∙ ap (λ (ts : Trees). chain (each_pred (children text ts) next) (λ qs k. ok (g.sofar ++ qs) k)) z ∙ ap (λ (l : List Pred). ok l next) (append-nil g.sofar) in
-        let y : Wrote (length g.sofar ∷ preds_words count g.sofar) next w o o' bound (Done v next) = record {
-          is = ap (λ (k : ℕ). Done k next) (omega (arith, g.place));
+        let y : Wrote (length g.sofar ∷ preds_words count g.sofar) next w o o' bound (reached v next) = record {
+          is = ap (λ (k : ℕ). reached k next) (omega (arith, g.place));
           words = d ∙ rw (g.laid_there, g.many) (laid-set (preds_words count g.sofar) o w (w + 1) (length g.sofar) (omega arith));
           room = omega (arith, g.place, g.room, h.room);
         } in
@@ -262,34 +235,31 @@ module _ {text : List ℕ} {count : ℕ} {ws : List ℕ} {at w end : ℕ} {h : P
       pred-here = record { spot = pred-spot; nests = pred-nests; small = pred-small; room = pred-room; bytes = h.bytes }
 
       -- The first refusal counts.
-      pub reading-refused : {m' o' : List ℕ} {r : Step} {e : ℕ} → Stepped text count next-pred.first p v next m m' r → r ≡ step.Refused e
-          → Parsed (told_of counted_preds count ((child text h.spot.tree).preds 0)) w o o' bound (Refused e)
-      reading-refused x d =
-          let s = stopped x d in
-          rw (next-whole, s.is) (refused (ap Refused s.same))
+      pub reading-refused : {o' : List ℕ} {e : Refusal} → Stopped text next-pred.first next e → Parsed (told_of counted_preds count ((child text h.spot.tree).preds 0)) w o o' bound (Err e)
+      reading-refused s = rw (next-whole, s.is) (refused (ap Err s.same))
 
-      module _ {m' : List ℕ} {r : Step} {q u f k : ℕ} (x : Stepped text count next-pred.first p v next m m' r) (e : r ≡ step.On q u f k) where
+      module _ {m' : List ℕ} {s : Step} (x : Went text count next-pred.first p v next m m' s) where
         -- Their number fits a word.
-        pub many-fits : n + k < 2 ^ 32
-        many-fits = go (went x e)
+        pub many-fits : n + s.preds < 2 ^ 32
+        many-fits = go x
           where
-            go : Went text count next-pred.first p v next m m' q u f k → n + k < 2 ^ 32
-            go (went_on a b c) = omega (arith, h.small, g.fewer, next-size, tree-two next-pred.first)
-            go (went_into a b c d i j) = omega (arith, h.small, g.fewer, next-size, tree-two next-pred.first)
+            go : Went text count next-pred.first p v next m m' s → n + s.preds < 2 ^ 32
+            go (step_read a b c) = omega (arith, h.small, g.fewer, next-size, tree-two next-pred.first)
+            go (step_into a b c d i j) = omega (arith, h.small, g.fewer, next-size, tree-two next-pred.first)
 
         -- The place moves on.
-        pub reading-less : end - q < end - p
-        reading-less = go (went x e)
+        pub reading-less : end - s.next < end - p
+        reading-less = go x
           where
-            go : Went text count next-pred.first p v next m m' q u f k → end - q < end - p
-            go (went_on a b c) = omega (arith, tree-two next-pred.first)
-            go (went_into a b c d i j) = omega arith
+            go : Went text count next-pred.first p v next m m' s → end - s.next < end - p
+            go (step_read a b c) = omega (arith, tree-two next-pred.first)
+            go (step_into a b c d i j) = omega arith
 
-        pub reading-more : Reading text count ws at w end h o m' q u f (n + k)
-        reading-more = go (went x e)
+        pub reading-more : Reading text count ws at w end h o m' s.next s.words s.fresh (n + s.preds)
+        reading-more = go x
           where
-            go : Went text count next-pred.first p v next m m' q u f k → Reading text count ws at w end h o m' q u f (n + k)
-            go (went_on a b c) =
+            go : Went text count next-pred.first p v next m m' s → Reading text count ws at w end h o m' s.next s.words s.fresh (n + s.preds)
+            go (step_read a b c) =
                 let ps = more-words count g.sofar a.pred in
                 record {
                   items = next-pred.others;
@@ -304,9 +274,9 @@ module _ {text : List ℕ} {count : ℕ} {ws : List ℕ} {at w end : ℕ} {h : P
                       a.words ∙ rw (g.laid_there, g.place) (sym (laid_append (preds_words count g.sofar) (pred_words count a.pred) o (w + 1))) ∙ ap (laid o (w + 1)) (sym ps);
                   fewer = omega (arith, g.fewer, next-size, tree-two next-pred.first);
                   room = omega (arith, g.room, next-size, a.room);
-                  whole = next-whole ∙ rw a.is (behind-behind g.sofar (a.pred ∷ []) (each_pred (children text next-pred.others) f));
+                  whole = next-whole ∙ rw a.is (behind-behind g.sofar (a.pred ∷ []) (each_pred (children text next-pred.others) s.fresh));
                 }
-            go (went_into a b c d i j) =
+            go (step_into a b c d i j) =
                 let size = and-size a in
                 let len : length (trees_words (joined a.items next-pred.others)) ≡ length (trees_words a.items) + length (trees_words next-pred.others)
                 = ap length (joined_words a.items next-pred.others) ∙ length-append (trees_words a.items) (trees_words next-pred.others) in

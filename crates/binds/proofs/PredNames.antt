@@ -19,10 +19,10 @@ use Rattle.grammar.specs.ParseExpr.{child, children, symbols, kvar_form, atom_ch
 use Rattle.places.specs.Spot.{Spot}
 use Rattle.writing.specs.Laid.{laid}
 use Rattle.places.specs.Outcome.{bound, Put, OutcomeAt, wrote_at, refused_at}
-use Rattle.binds.specs.PredWords.{KvarHere, ReadPred, Stepped, step_read, step_refused, NameRow, names_words}
-use Rattle.words.specs.declared.Answer.{Answer}
-use Rattle.words.specs.declared.Answer.TheVariants.{Done, Refused}
-use Rattle.binds.specs.declared.preds.Step.TheVariants as step
+use Rattle.binds.specs.PredWords.{KvarHere, ReadPred, Stepped, Stopped, step_read, NameRow, names_words}
+use Rattle.words.specs.declared.refusal.Refusal.{Refusal}
+use Rattle.words.specs.declared.refusal.Refusal.TheVariants.{Malformed}
+use Rattle.std.specs.Prelude.{Result, Ok, Err}
 use Rattle.grammar.proofs.AnswerHolds.{Every, any-every, then-every}
 use Rattle.grammar.proofs.FormsWritten.{children-count}
 use Rattle.places.proofs.FirstTree.{More, some, none_left}
@@ -87,12 +87,12 @@ trees-few tnil = omega arith
 trees-few (tcons t ts) = omega (arith, trees-few ts, trees-size t ts, tree-two t)
 
 -- A name's words, and then the others'.
-out_name : (s : Span) {a : Ans (List VarName)} {m m₁ o'' : List ℕ} {v u : ℕ} {q : Answer} → Put m v (37 ∷ s.start ∷ s.len ∷ []) m₁ u → OutcomeAt names_words a u m₁ o'' q
+out_name : (s : Span) {a : Ans (List VarName)} {m m₁ o'' : List ℕ} {v u : ℕ} {q : Result ℕ Refusal} → Put m v (37 ∷ s.start ∷ s.len ∷ []) m₁ u → OutcomeAt names_words a u m₁ o'' q
     → OutcomeAt names_words (and_then a (λ xs. got (var_of s ∷ xs))) v m o'' q
 unfolding name_items words_of
 out_name s {m = m} {o'' = o''} {v = v} {u = u} p (wrote_at {a = xs} d l) =
     let put : Put m v ((37 ∷ s.start ∷ s.len ∷ []) ++ names_words xs) o'' (u + length (names_words xs)) = put_append (37 ∷ s.start ∷ s.len ∷ []) (names_words xs) p (record { is = refl; words = l }) in
-    wrote_at (d ∙ ap Done put.is) put.words
+    wrote_at (d ∙ ap Ok put.is) put.words
 out_name s p (refused_at d) = refused_at d
 
 -- The words of a kvar.
@@ -107,7 +107,7 @@ pub record Naming (text ws : List ℕ) (at n w : ℕ) (h : NameRow ws at n w) (o
   pub words : drop p ws ≡ trees_words items ++ h.rest
   pub many : n ≡ i + trees items
   pub place : v ≡ w + 3 * i
-  pub goes : (o'' : List ℕ) (q : Answer) → OutcomeAt names_words (symbols (children text items)) v m o'' q → OutcomeAt names_words (symbols (children text h.items)) w o o'' q
+  pub goes : (o'' : List ℕ) (q : Result ℕ Refusal) → OutcomeAt names_words (symbols (children text items)) v m o'' q → OutcomeAt names_words (symbols (children text h.items)) w o o'' q
 
 module _ {text ws : List ℕ} {at n w : ℕ} {h : NameRow ws at n w} {o : List ℕ} where
   pub naming_start : Naming text ws at n w h o o 0 at w
@@ -115,12 +115,12 @@ module _ {text ws : List ℕ} {at n w : ℕ} {h : NameRow ws at n w} {o : List �
 
   module _ {m : List ℕ} {i p v : ℕ} (g : Naming text ws at n w h o m i p v) where
     -- All are read.
-    pub naming_end : n ≤ i → OutcomeAt names_words (symbols (children text h.items)) w o m (Done v)
+    pub naming_end : n ≤ i → OutcomeAt names_words (symbols (children text h.items)) w o m (Ok v)
     unfolding symbols child name_items words_of laid
     naming_end e =
         let z : g.items ≡ tnil = none_left g.items (omega (arith, g.many)) in
-        let y : OutcomeAt names_words (symbols (children text tnil)) v m m (Done v) = wrote_at (ap Done (sym (add-zero v))) refl in
-        g.goes m (Done v) (rw z y)
+        let y : OutcomeAt names_words (symbols (children text tnil)) v m m (Ok v) = wrote_at (ap Ok (sym (add-zero v))) refl in
+        g.goes m (Ok v) (rw z y)
 
     module _ (l : i < n) where
       next-name : More g.items
@@ -140,10 +140,10 @@ module _ {text ws : List ℕ} {at n w : ℕ} {h : NameRow ws at n w} {o : List �
       name-room = omega (arith, g.place, h.room)
 
       -- No symbol.
-      pub naming_bad : (get_or ws p 0 ≡ 16 → ⊥) → OutcomeAt names_words (symbols (children text h.items)) w o m (Refused 8)
+      pub naming_bad : (get_or ws p 0 ≡ 16 → ⊥) → OutcomeAt names_words (symbols (children text h.items)) w o m (Err Malformed)
       unfolding name-spot
       naming_bad k =
-          g.goes m (Refused 8)
+          g.goes m (Err Malformed)
           (rw (ap (λ (t : Trees). symbols (children text t)) next-name.is ∙ symbols-bad text next-name.first next-name.others (no_symbol name-spot.rest next-name.first refl (λ e. k (word0 name-spot ∙ e)))) (refused_at refl))
 
       pub naming_more : get_or ws p 0 ≡ 16 → {m₁ : List ℕ} {u : ℕ} → Put m v (37 ∷ get_or ws (p + 1) 0 ∷ get_or ws (p + 2) 0 ∷ []) m₁ u → Naming text ws at n w h o m₁ (i + 1) (p + 3) u
@@ -208,23 +208,23 @@ module _ {text ws : List ℕ} {at w next : ℕ} (h : KvarHere text ws at w next)
       let c : ltb 1 (length (children text items)) ≡ true = lt-ltb 1 (length (children text items)) (omega (arith, kvar-many, children-count text items, many-items)) in
       ap (λ (f : M (List Pred)). f next) h.kvar ∙ rw c refl
 
-  module _ (count : ℕ) {o o₂ : List ℕ} where
-    -- Fewer than two items.
-    pub kvar-few : get_or ws (at + 1) 0 < 2 → Stepped text count (list (tcons (atom (symbol h.name)) h.others)) at w next o o₂ (step.Refused 8)
-    unfolding kvar_form
-    kvar-few l =
-        let c : ltb 1 (length (children text items)) ≡ false = le-ltb 1 (length (children text items)) (omega (arith, kvar-many, children-count text items, many-items)) in
-        step_refused {e = malformed} (ap (λ (f : M (List Pred)). f next) h.kvar ∙ rw c refl) refl
+  -- Fewer than two items.
+  pub kvar-few : get_or ws (at + 1) 0 < 2 → Stopped text (list (tcons (atom (symbol h.name)) h.others)) next Malformed
+  unfolding kvar_form
+  kvar-few l =
+      let c : ltb 1 (length (children text items)) ≡ false = le-ltb 1 (length (children text items)) (omega (arith, kvar-many, children-count text items, many-items)) in
+      record { why = malformed; is = ap (λ (f : M (List Pred)). f next) h.kvar ∙ rw c refl; same = refl }
 
-    module _ (l : 2 ≤ get_or ws (at + 1) 0) where
-      -- Some item is no symbol.
-      pub kvar-bad : {e : ℕ} → BadAt (symbols (children text h.others)) e → Stepped text count (list (tcons (atom (symbol h.name)) h.others)) at w next o o₂ (step.Refused e)
-      kvar-bad b = step_refused {e = b.why} (kvar-form l ∙ rw b.is refl) b.same
+  module _ (l : 2 ≤ get_or ws (at + 1) 0) where
+    -- Some item is no symbol.
+    pub kvar-bad : {e : Refusal} → BadAt (symbols (children text h.others)) e → Stopped text (list (tcons (atom (symbol h.name)) h.others)) next e
+    kvar-bad b = record { why = b.why; is = kvar-form l ∙ rw b.is refl; same = b.same }
 
+    module _ (count : ℕ) {o o₂ : List ℕ} where
       -- All are.
       pub kvar-read : {o₁ : List ℕ} {v u k j : ℕ} → Put o w (64 ∷ get_or ws (at + 4) 0 ∷ get_or ws (at + 5) 0 ∷ k ∷ []) o₁ v → k ≡ get_or ws (at + 1) 0 - 1
           → GotAt names_words (symbols (children text h.others)) v o₁ o₂ u → j ≡ length (tree_words (list (tcons (atom (symbol h.name)) h.others)))
-          → Stepped text count (list (tcons (atom (symbol h.name)) h.others)) at w next o o₂ (step.On (at + j) u next 1)
+          → Stepped text count (list (tcons (atom (symbol h.name)) h.others)) at w next o o₂ (Ok (record { next = (at + j); words = u; fresh = next; preds = 1 }))
       kvar-read {o₁} {v} {u} {k} {j} p f g e =
           let xs = g.value in
           let n : length xs ≡ trees h.others = every_got (λ ys. length ys ≡ trees h.others) (symbols-count text h.others) g.is in

@@ -20,11 +20,13 @@ use Rattle.scopes.specs.Scopes.{slots}
 use Rattle.writing.specs.Laid.{laid}
 use Rattle.places.specs.Outcome.{bound, Put}
 use Rattle.plans.specs.Plans.{Parsed, wrote, refused, Here, most}
-use Rattle.binds.specs.PredWords.{PredHere, KvarHere, ReadPred, Stepped, step_read, step_into, step_refused}
+use Rattle.binds.specs.PredWords.{PredHere, KvarHere, ReadPred, Stepped, Stopped, step_read, step_into}
 use Rattle.plans.specs.declared.progress.Progress.{Progress}
-use Rattle.plans.specs.declared.progress.Progress.TheVariants.{Done, Refused}
+use Rattle.std.specs.Prelude.{Result, Ok, Err}
+use Rattle.words.specs.declared.refusal.Refusal.{Refusal}
+use Rattle.words.specs.declared.refusal.Refusal.TheVariants.{Malformed}
+use Rattle.plans.specs.Plans.{reached}
 use Rattle.binds.specs.declared.preds.Step.{Step}
-use Rattle.binds.specs.declared.preds.Step.TheVariants as step
 use Rattle.places.proofs.FirstTree.{none_left}
 use Rattle.places.proofs.Puts.{put_append}
 use Rattle.plans.proofs.Laid.{never, same-words, same_next}
@@ -70,23 +72,25 @@ expr-words : (c : ℕ) (e : Expr) → words_of (raise c (pred_items (expr e))) �
 unfolding pred_items raise words_of
 expr-words c e = refl
 
-same-refused : {r : Progress} {e f : ℕ} → r ≡ Refused e → r ≡ Refused f → e ≡ f
+same-refused : {r : Result Progress Refusal} {e f : Refusal} → r ≡ Err e → r ≡ Err f → e ≡ f
 same-refused p q = cc
 
 -- ---- one predicate
 
 module _ {text ws : List ℕ} {at w next : ℕ} (h : PredHere text ws at w next) where
   -- No list.
-  pub pred-atom : (count : ℕ) {o o' : List ℕ} → (get_or ws at 0 ≡ 21 → ⊥) → Stepped text count h.spot.tree at w next o o' (step.Refused 8)
-  pred-atom count k = step_refused {e = malformed} (atom-pred text h.spot.tree h.spot.rest next (λ e. k (word0 h.spot ∙ e))) refl
+  pub pred-atom : (get_or ws at 0 ≡ 21 → ⊥) → Stopped text h.spot.tree next Malformed
+  pred-atom k = record { why = malformed; is = atom-pred text h.spot.tree h.spot.rest next (λ e. k (word0 h.spot ∙ e)); same = refl }
 
   module _ {k f : ℕ} (n : ListNode ws at k f) where
     -- No items.
-    pub pred-none : (count : ℕ) {o o' : List ℕ} → k ≡ 0 → Stepped text count h.spot.tree at w next o o' (step.Refused 8)
-    pred-none count z =
-        step_refused {e = malformed}
-        (ap (λ (t : Tree). (child text t).preds next) ((the_list h.spot n).is ∙ ap list (none_left (the_list h.spot n).items (sym (list-trees h.spot n) ∙ z))) ∙ none-pred text next)
-        refl
+    pub pred-none : k ≡ 0 → Stopped text h.spot.tree next Malformed
+    pred-none z =
+        record {
+          why = malformed;
+          is = ap (λ (t : Tree). (child text t).preds next) ((the_list h.spot n).is ∙ ap list (none_left (the_list h.spot n).items (sym (list-trees h.spot n) ∙ z))) ∙ none-pred text next;
+          same = refl;
+        }
 
     module _ (z : k ≡ 0 → ⊥) where
       abbrev first : Tree
@@ -116,7 +120,7 @@ module _ {text ws : List ℕ} {at w next : ℕ} (h : PredHere text ws at w next)
             omega (arith, spot-within h.spot)
 
         -- `and`: its items are stepped into.
-        pub pred-and : (count : ℕ) {o : List ℕ} {b : Bool} {bytes : List ℕ} → bytes ≡ bytes_at text name → b ≡ same_bytes bytes (ascii "and") → b ≡ true → Stepped text count h.spot.tree at w next o o (step.On (at + 6) w next 0)
+        pub pred-and : (count : ℕ) {o : List ℕ} {b : Bool} {bytes : List ℕ} → bytes ≡ bytes_at text name → b ≡ same_bytes bytes (ascii "and") → b ≡ true → Stepped text count h.spot.tree at w next o o (Ok (record { next = (at + 6); words = w; fresh = next; preds = 0 }))
         unfolding pick
         pred-and count e d t =
             let a : same_bytes (bytes_at text name) (ascii "and") ≡ true = rw (sym e) (sym d ∙ t) in
@@ -149,8 +153,8 @@ module _ {text ws : List ℕ} {at w next : ℕ} (h : PredHere text ws at w next)
             room = rw (sym named-is) h.room;
           }
 
-          pub pred-kvar : (count : ℕ) {o o' : List ℕ} {r : Step} → Stepped text count (list (tcons (atom (symbol name)) others)) at w next o o' r → Stepped text count h.spot.tree at w next o o' r
-          pred-kvar count x = rw named-is x
+          pub pred-kvar : (count : ℕ) (o o' : List ℕ) (r : Result Step Refusal) → Stepped text count (list (tcons (atom (symbol name)) others)) at w next o o' r → Stepped text count h.spot.tree at w next o o' r
+          pred-kvar count o o' r x = rw named-is x
 
   -- ---- an expression
 
@@ -171,21 +175,21 @@ module _ {text ws : List ℕ} {at w next : ℕ} (h : PredHere text ws at w next)
       unfolding expr_pred pick
       expr-is = ap (λ (f : M (List Pred)). f next) is ∙ ap (λ (p : ParseExpr.P). chain (p [] next) (λ e m. ok (expr e ∷ []) m)) k.same
 
-      module _ (count : ℕ) {o o₁ o₂ : List ℕ} {v : ℕ} {r : Progress} where
-        -- It is refused.
-        pub expr-bad : {e : ℕ} → Parsed (told count ((child text k.spot.tree).plainly [] next)) v o₁ o₂ (most v next k.spot.tree) r → r ≡ Refused e → Stepped text count h.spot.tree at w next o o₂ (step.Refused e)
-        expr-bad {e} x g = go ((child text k.spot.tree).plainly [] next) refl x
-          where
-            go : (a : Res Expr) → (child text k.spot.tree).plainly [] next ≡ a → Parsed (told count a) v o₁ o₂ (most v next k.spot.tree) r → Stepped text count h.spot.tree at w next o o₂ (step.Refused e)
-            go (ok a m) p (wrote y) = never y.is g
-            go (no c) p (refused y) = step_refused {e = c} (expr-is ∙ rw p refl) (same-refused g y)
+      -- It is refused.
+      pub expr-bad : (count : ℕ) {o₁ o₂ : List ℕ} {v : ℕ} {r : Result Progress Refusal} {e : Refusal} → Parsed (told count ((child text k.spot.tree).plainly [] next)) v o₁ o₂ (most v next k.spot.tree) r → r ≡ Err e → Stopped text h.spot.tree next e
+      expr-bad count {o₁} {o₂} {v} {r} {e} x g = go ((child text k.spot.tree).plainly [] next) refl x
+        where
+          go : (a : Res Expr) → (child text k.spot.tree).plainly [] next ≡ a → Parsed (told count a) v o₁ o₂ (most v next k.spot.tree) r → Stopped text h.spot.tree next e
+          go (ok a m) p (wrote y) = never y.is g
+          go (no c) p (refused y) = record { why = c; is = expr-is ∙ rw p refl; same = same-refused g y }
 
+      module _ (count : ℕ) {o o₁ o₂ : List ℕ} {v : ℕ} {r : Result Progress Refusal} where
         -- It is written.
-        pub expr-read : {u m j : ℕ} → Put o w (65 ∷ []) o₁ v → Parsed (told count ((child text k.spot.tree).plainly [] next)) v o₁ o₂ (most v next k.spot.tree) r → r ≡ Done u m
-            → j ≡ length (tree_words h.spot.tree) → Stepped text count h.spot.tree at w next o o₂ (step.On (at + j) u m 1)
+        pub expr-read : {u m j : ℕ} → Put o w (65 ∷ []) o₁ v → Parsed (told count ((child text k.spot.tree).plainly [] next)) v o₁ o₂ (most v next k.spot.tree) r → r ≡ reached u m
+            → j ≡ length (tree_words h.spot.tree) → Stepped text count h.spot.tree at w next o o₂ (Ok (record { next = (at + j); words = u; fresh = m; preds = 1 }))
         expr-read {u} {m} {j} p x g js = go ((child text k.spot.tree).plainly [] next) refl x
           where
-            go : (a : Res Expr) → (child text k.spot.tree).plainly [] next ≡ a → Parsed (told count a) v o₁ o₂ (most v next k.spot.tree) r → Stepped text count h.spot.tree at w next o o₂ (step.On (at + j) u m 1)
+            go : (a : Res Expr) → (child text k.spot.tree).plainly [] next ≡ a → Parsed (told count a) v o₁ o₂ (most v next k.spot.tree) r → Stepped text count h.spot.tree at w next o o₂ (Ok (record { next = (at + j); words = u; fresh = m; preds = 1 }))
             go (ok a m') i (wrote y) =
                 let uu = same-words g y.is in
                 let mm = same_next g y.is in

@@ -1,9 +1,9 @@
 -- Predicates as the code reads them: `and` is stepped into, so that they stand one after the other.
-use Rattle.std.specs.Prelude.{ℕ, ◌+◌, ◌*◌, ◌^◌, ◌≤◌, ◌<◌, ◌≡◌, List, [], ◌∷◌, ◌++◌, length, drop}
+use Rattle.std.specs.Prelude.{ℕ, ◌+◌, ◌*◌, ◌^◌, ◌≤◌, ◌<◌, ◌≡◌, List, [], ◌∷◌, ◌++◌, length, drop, Result, Ok, Err}
 use Rattle.reading.specs.Limits.{max_bytes, max_lists}
 use Rattle.reading.specs.Bytes.{Span}
 use Rattle.reading.specs.Tree.{symbol, Tree, Trees, atom, list, tcons, trees, tree_words, trees_words, nesting}
-use Rattle.reading.specs.Answer.{Refusal, number, ok, no}
+use Rattle.reading.specs.Answer.{Refusal as Met, ok, no}
 use Rattle.grammar.specs.Item.{Item, plain, raise, words_of}
 use Rattle.grammar.specs.Expr.{VarName, Pred, pred_items, preds_items, name_items}
 use Rattle.grammar.specs.ParseExpr.{child, children, each_pred, kvar_form}
@@ -11,7 +11,8 @@ use Rattle.places.specs.Spot.{Spot}
 use Rattle.writing.specs.Laid.{laid}
 use Rattle.places.specs.Outcome.{bound}
 use Rattle.binds.specs.declared.preds.Step.{Step}
-use Rattle.binds.specs.declared.preds.Step.TheVariants.{On, Refused}
+use Rattle.words.specs.declared.refusal.Refusal.{Refusal}
+use Rattle.words.specs.Refusals.{refusal_of}
 
 -- Where a predicate stands, and room for its words and numbers.
 pub record PredHere (text ws : List ℕ) (at w next : ℕ) : Type 0 where
@@ -49,11 +50,21 @@ pub record IsAnd (text : List ℕ) (t : Tree) : Type 0 where
   pub is : t ≡ list (tcons (atom (symbol name)) items)
   pub preds : (child text t).preds ≡ each_pred (children text items)
 
--- What a step says: a predicate was read, `and` is stepped into, or a refusal.
-pub data Stepped (text : List ℕ) (count : ℕ) (t : Tree) (at w next : ℕ) (o o' : List ℕ) : Step → Type 0 where
-  step_read : {q u m k : ℕ} → ReadPred text count t w next o o' u m → q ≡ at + length (tree_words t) → k ≡ 1 → Stepped text count t at w next o o' (On q u m k)
-  step_into : {q u m k : ℕ} → IsAnd text t → o' ≡ o → q ≡ at + 6 → u ≡ w → m ≡ next → k ≡ 0 → Stepped text count t at w next o o' (On q u m k)
-  step_refused : {e : Refusal} {n : ℕ} → (child text t).preds next ≡ no e → n ≡ number e → Stepped text count t at w next o o' (Refused n)
+-- A step that was not refused: a predicate was read, or `and` is stepped into.
+pub data Went (text : List ℕ) (count : ℕ) (t : Tree) (at w next : ℕ) (o o' : List ℕ) (s : Step) : Type 0 where
+  step_read : ReadPred text count t w next o o' s.words s.fresh → s.next ≡ at + length (tree_words t) → s.preds ≡ 1 → Went text count t at w next o o' s
+  step_into : IsAnd text t → o' ≡ o → s.next ≡ at + 6 → s.words ≡ w → s.fresh ≡ next → s.preds ≡ 0 → Went text count t at w next o o' s
+
+-- A step that was refused.
+pub record Stopped (text : List ℕ) (t : Tree) (next : ℕ) (r : Refusal) : Type 0 where
+  pub why : Met
+  pub is : (child text t).preds next ≡ no why
+  pub same : r ≡ refusal_of why
+
+-- What a step says.
+abbrev pub Stepped : (text : List ℕ) (count : ℕ) (t : Tree) (at w next : ℕ) (o o' : List ℕ) → Result Step Refusal → Type 0
+Stepped text count t at w next o o' (Ok s) = Went text count t at w next o o' s
+Stepped text count t at w next o o' (Err r) = Stopped text t next r
 
 -- So many symbols, one after the other, and room for their words.
 pub record NameRow (ws : List ℕ) (at n w : ℕ) : Type 0 where

@@ -8,40 +8,40 @@ ghost use Rattle.plans.specs.Whole.{Whole};
 
 use crate::preds::preds;
 use places::expr_words::put2;
-use places::place::{Node, node_at, words_at};
+use places::place::{list_at, words_at};
 use places::sort_at::sort_at;
 use plans::progress::Progress;
-use words::Answer;
+use words::refusal::Refusal;
 use words::tree_kinds::SYMBOL;
 
 // The bind that a tree is: `((name sort) predicate ..)`; the name opens no scope.
-pub fn bind_at(text: &[u8], tree: &[u32], count: u64, out: &mut [u32]) -> Progress
+pub fn bind_at(text: &[u8], tree: &[u32], count: u64, out: &mut [u32]) -> Result<Progress, Refusal>
     requires { Whole text.now tree.now }
     ensures { (h : Whole text.now tree.now) → Parsed (told_of bind_items count (parse_bind text.now h.tree 0)) 0 out.old out.new bound result }
 {
-    let Node::List(n, first) = node_at(tree, 0) else {
-        return Progress::Refused(8);
+    let Some(bind) = list_at(tree, 0) else {
+        return Err(Refusal::Malformed);
     };
-    if n == 0 {
-        return Progress::Refused(8);
+    if bind.items == 0 {
+        return Err(Refusal::Malformed);
     }
-    let Node::List(m, name) = node_at(tree, first) else {
-        return Progress::Refused(8);
+    let Some(head) = list_at(tree, bind.first) else {
+        return Err(Refusal::Malformed);
     };
-    if m < 2 {
-        return Progress::Refused(8);
+    if head.items < 2 || tree[head.first] != SYMBOL {
+        return Err(Refusal::Malformed);
     }
-    if tree[name] != SYMBOL {
-        return Progress::Refused(8);
+    let v = put2(out, 0, tree[head.first + 1], tree[head.first + 2]);
+    let u = sort_at(text, tree, head.first + 3, out, v)?;
+    if bind.items < 2 {
+        return Err(Refusal::Malformed);
     }
-    let v = put2(out, 0, tree[name + 1], tree[name + 2]);
-    match sort_at(text, tree, name + 3, out, v) {
-        Answer::Refused(e) => Progress::Refused(e),
-        Answer::Done(u) => {
-            if n < 2 {
-                return Progress::Refused(8);
-            }
-            preds(text, tree, first + words_at(tree, first), count, out, u)
-        }
-    }
+    preds(
+        text,
+        tree,
+        bind.first + words_at(tree, bind.first),
+        count,
+        out,
+        u,
+    )
 }

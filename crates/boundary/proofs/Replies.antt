@@ -4,27 +4,27 @@ use mathlib.Core.Path.{◌≡◌, refl, sym, ap, ◌∙◌}
 use mathlib.Core.Bool.{true, false}
 use mathlib.Core.List.{List}
 use lib.ListN.{length}
-use Rattle.reading.specs.Answer as answer
-use Rattle.reading.specs.Answer.{Final, accepts, refuses, said_of}
-use Rattle.grammar.specs.Expr.{Expr}
+use Rattle.std.specs.Prelude.{Result}
+use Rattle.reading.specs.Answer.{Said, accepted, refused, said_of}
 use Rattle.flattening.specs.Operations.{expr_words, flatten_final, flatten_said, flatten_out}
 use Rattle.flatten.specs.Answers.{flatten_answer}
-use Rattle.words.specs.declared.Answer.{Answer}
+use Rattle.words.specs.declared.refusal.Refusal.{Refusal}
+use Rattle.words.specs.declared.report.Report.{Report}
+use Rattle.words.specs.Answered.{answered, heard}
 use Rattle.session.specs.Session.{Call, Outcome, outcome}
 use Rattle.session.specs.Compared.{reads_or_sorts}
 use Rattle.session.proofs.Unreported.{count_kept, reports_two, NoSecond, second_none}
-use Rattle.replies.specs.Calls.{as_said}
 use Rattle.replies.specs.Sessions as reader
-use Rattle.replies.specs.declared.Said.{Said}
+use Rattle.replies.proofs.Told.{size-told}
 use Rattle.replies.specs.Heard.{size_said}
 use Rattle.boundary.specs.Heard.{numbers_of}
 use Rattle.boundary.specs.declared.Reported.{Reported}
 use Rattle.boundary.specs.Reply.{refusal_of, first_of, second_of, counted, Promised, flat, Flattened}
 
 -- The numbers of what is said.
-by_said : (s : answer.Said) → ((numbers_of (as_said s)).refusal ≡ refusal_of s) × ((numbers_of (as_said s)).first ≡ first_of s) × ((numbers_of (as_said s)).second ≡ second_of s)
-by_said (answer.accepted a b) = (refl, refl, refl)
-by_said (answer.refused r) = (refl, refl, refl)
+pub by_said : (s : Said) → ((numbers_of s).refusal ≡ refusal_of s) × ((numbers_of s).first ≡ first_of s) × ((numbers_of s).second ≡ second_of s)
+by_said (accepted a b) = (refl, refl, refl)
+by_said (refused r) = (refl, refl, refl)
 
 -- A promised reply of the reader, whose count n is the count c that it was opened at, as a C function's.
 module _ {call : Call} {n c : ℕ} {r : reader.Reply} (opened : n ≡ c) (p : reader.Promised call n r) where
@@ -59,9 +59,9 @@ module _ {call : Call} {n c : ℕ} {r : reader.Reply} (opened : n ≡ c) (p : re
   one : (m : Reported) → m ≡ numbers_of r.said → reports_two call.op ≡ false → (m.refusal ≡ refusal_of (outcome call n).said) × (m.first ≡ first_of (outcome call n).said) × (0 ≡ second_of (outcome call n).said)
   one m e h = let w = told m e in (w.0, w.1, go (outcome call n).said (second_none call n h))
     where
-      go : (s : answer.Said) → NoSecond s → 0 ≡ second_of s
-      go (answer.accepted x y) z = sym z
-      go (answer.refused q) z = refl
+      go : (s : Said) → NoSecond s → 0 ≡ second_of s
+      go (accepted x y) z = sym z
+      go (refused q) z = refl
 
   -- A sort, of a reader that was opened at 0.
   pub sort-reply : (m : Reported) → m ≡ numbers_of r.said → c ≡ 0 → reads_or_sorts call.op ≡ true → reports_two call.op ≡ false
@@ -74,12 +74,10 @@ module _ {call : Call} {n c : ℕ} {r : reader.Reply} (opened : n ≡ c) (p : re
 
 -- Flattening takes no reader.
 module _ (words out : List ℕ) where
-  flat-said : (f : Final Expr) → ((numbers_of (size_said (flatten_answer f))).refusal ≡ refusal_of (said_of (λ x. answer.accepted (length (expr_words x)) 0) f)) × ((numbers_of (size_said (flatten_answer f))).first ≡ first_of (said_of (λ x. answer.accepted (length (expr_words x)) 0) f))
-  unfolding said_of
-  flat-said (accepts x n) = (refl, refl)
-  flat-said (refuses r) = (refl, refl)
-
-  pub flat-reply : (m : Reported) (s : Said) (d : Answer) (left : List ℕ) → m ≡ numbers_of s → s ≡ size_said d → d ≡ flatten_answer (flatten_final words out) → left ≡ flatten_out words out
+  pub flat-reply : (m : Reported) (s : Result Report Refusal) (d : Result ℕ Refusal) (left : List ℕ) → m ≡ numbers_of (heard s) → heard s ≡ size_said d → answered d ≡ flatten_answer (flatten_final words out) → left ≡ flatten_out words out
       → Flattened words out (flat m.refusal m.first left)
   unfolding flatten_said
-  flat-reply m s d left e f g o = let q = flat-said (flatten_final words out) in record { refusal = rw (e, f, g) q.0; count = rw (e, f, g) q.1; output = o }
+  flat-reply m s d left e f g o =
+      let z : heard s ≡ said_of (λ x. accepted (length (expr_words x)) 0) (flatten_final words out) = f ∙ size-told expr_words d (flatten_final words out) g in
+      let q = by_said (said_of (λ x. accepted (length (expr_words x)) 0) (flatten_final words out)) in
+      record { refusal = rw (e, z) q.0; count = rw (e, z) q.1; output = o }

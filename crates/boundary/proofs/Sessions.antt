@@ -8,26 +8,23 @@ use lib.Dec.{eqb}
 use borrow.Author.Tests.{ne_eqb}
 use Rattle.reading.specs.Limits.{max_number}
 use Rattle.reading.specs.Pick.{pick}
-use Rattle.reading.specs.Answer as answer
 use Rattle.session.specs.Session.{Call, outcome}
 use Rattle.session.specs.Compared.{reads_or_sorts}
 use Rattle.session.proofs.Unreported.{Positive, positive, count_kept, read-anywhere}
-use Rattle.replies.specs.Calls.{as_said}
 use Rattle.replies.specs.Sessions as reader
 use Rattle.replies.specs.Demand3.{Demand3}
-use Rattle.replies.specs.declared.Said.{Said}
-use Rattle.replies.specs.declared.Said.TheVariants.{Accepted, Refused}
+use Rattle.reading.specs.Answer.{Said, accepted, refused}
 use Rattle.replies.proofs.Whole.{demand3, next_fits}
 use Rattle.boundary.specs.Reply.{Reply, Promised, refusal_of, first_of, second_of}
 use Rattle.boundary.specs.Sessions.{Turn, opens_at, leaves, Session, said_by, on_reader, all_on_reader}
 
 -- What is said is told by the three numbers.
-said-by : (s : answer.Said) → Positive s → pick (eqb (refusal_of s) 0) (Accepted (first_of s) (second_of s)) (Refused (refusal_of s)) ≡ as_said s
+said-by : (s : Said) → Positive s → pick (eqb (refusal_of s) 0) (accepted (first_of s) (second_of s)) (refused (refusal_of s)) ≡ s
 unfolding pick
-said-by (answer.accepted a b) p = refl
-said-by (answer.refused r) p = rw (ne_eqb r 0 (λ e. omega (arith, p))) refl
+said-by (accepted a b) p = refl
+said-by (refused r) p = rw (ne_eqb r 0 (λ e. omega (arith, p))) refl
 
-said_same : (call : Call) (c : ℕ) (r : Reply) → Promised call c r → said_by r ≡ as_said (outcome call c).said
+said_same : (call : Call) (c : ℕ) (r : Reply) → Promised call c r → said_by r ≡ (outcome call c).said
 said_same call c r p = rw (p.refusal, p.first, p.second) (said-by (outcome call c).said (positive call c))
 
 -- A promised reply of a C function, as one of the reader.
@@ -39,7 +36,7 @@ module _ (c : ℕ) (small : c ≤ max_number) (t : Turn) where
   on-reader true e p =
       let o = read-anywhere t.call c small e in
       record {
-        said = said_same t.call 0 t.reply p ∙ ap as_said o.said;
+        said = said_same t.call 0 t.reply p ∙ o.said;
         count = sym (count_kept t.call c e);
         working = p.working ∙ o.tree;
         body = p.body ∙ o.draft;

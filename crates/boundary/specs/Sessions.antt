@@ -5,8 +5,8 @@ use Rattle.reading.specs.Pick.{pick}
 use Rattle.session.specs.Session.{Call}
 use Rattle.session.specs.Compared.{reads_or_sorts}
 use Rattle.replies.specs.Sessions as reader
-use Rattle.replies.specs.declared.Said.{Said}
-use Rattle.replies.specs.declared.Said.TheVariants.{Accepted, Refused}
+use Rattle.reading.specs.Answer.{Said}
+use Rattle.reading.specs.Answer.{accepted, refused}
 use Rattle.boundary.specs.Reply.{Reply, Promised}
 
 -- A call and what the C function returned and left.
@@ -28,7 +28,7 @@ Session c (t ∷ ts) = Promised t.call (opens_at c t) t.reply × Session (leaves
 
 -- What is said, by the number returned and the two that are reported.
 abbrev pub said_by : Reply → Said
-said_by r = pick (eqb r.refusal 0) (Accepted r.first r.second) (Refused r.refusal)
+said_by r = pick (eqb r.refusal 0) (accepted r.first r.second) (refused r.refusal)
 
 -- The same turns on one reader.
 abbrev pub on_reader : ℕ → Turn → reader.Turn

@@ -4,10 +4,11 @@
 #![tactic(auto)]
 
 ghost use Rattle.std.specs.Prelude.{◌≡◌};
-ghost use Rattle.boundary.specs.Heard.{numbers_of, written_said};
+ghost use Rattle.boundary.specs.Heard.{Tells};
 ghost use Rattle.boundary.specs.Version.{version as versionOf};
 
-use replies::Said;
+use words::refusal::Refusal;
+use words::report::Report;
 
 // The refusal's number, 0 if accepted, and the two numbers that are reported, 0 after a refusal.
 #[derive(Clone, Copy)]
@@ -18,30 +19,22 @@ pub struct Reported {
 }
 
 // What is said, as numbers.
-pub fn numbers(said: Said) -> Reported
-    ensures { result ≡ numbers_of said }
-{
-    match said {
-        Said::Accepted(a, b) => Reported {
-            refusal: 0,
-            first: a as u64,
-            second: b as u64,
-        },
-        Said::Refused(r) => Reported {
-            refusal: r,
-            first: 0,
-            second: 0,
-        },
-    }
-}
+impl From<Result<Report, Refusal>> for Reported {
+    ghost from_gives = { Tells };
 
-// A solution that is written as SMT-LIB says how many bytes there are, and 0.
-pub fn written(answer: smtlib::Answer) -> Said
-    ensures { result ≡ written_said answer }
-{
-    match answer {
-        smtlib::Answer::Done(n) => Said::Accepted(n, 0),
-        smtlib::Answer::Refused(r) => Said::Refused(r),
+    fn from(said: Result<Report, Refusal>) -> Reported {
+        match said {
+            Ok(report) => Reported {
+                refusal: 0,
+                first: report.first as u64,
+                second: report.second as u64,
+            },
+            Err(refusal) => Reported {
+                refusal: u32::from(refusal),
+                first: 0,
+                second: 0,
+            },
+        }
     }
 }
 

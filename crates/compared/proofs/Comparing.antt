@@ -49,13 +49,13 @@ filling_all l =
     }
 
 module _ {l₀ l : List ℕ} {i : ℕ} (v : Filling l₀ l i) where
-  pub filling_more : i < length l → {w : ℕ} → w ≡ pattern i → Filling l₀ (set l i w) (i + 1)
+  pub filling_more : i < length l₀ → {w : ℕ} → w ≡ pattern i → Filling l₀ (set l i w) (i + 1)
   unfolding patterns
   filling_more h {w} e =
       let n : length l₀ - i ≡ suc (length l₀ - (i + 1)) = omega (arith, v.kept) in
       record { kept = length-set l i w ∙ v.kept; stores = rw (e, add-one) (rw (n, add-one) at v.stores) }
 
-  pub filling_none : length l ≤ i → l ≡ filled l₀
+  pub filling_none : length l₀ ≤ i → l ≡ filled l₀
   unfolding patterns
   filling_none h =
       let n : length l₀ - i ≡ 0 = omega (arith, v.kept) in

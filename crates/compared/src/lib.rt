@@ -8,7 +8,7 @@ ghost use Rattle.compared.specs.Recorded.{pattern as patternOf, filled, is_zero,
 use recorded::line::Line;
 
 // The refusal or 0, the two numbers reported, and the reader's count.
-#[derive(Clone, Copy)]
+#[derive(Clone, Copy, PartialEq, Eq)]
 pub struct Reply {
     pub refusal: u64,
     pub a: u64,
@@ -17,6 +17,7 @@ pub struct Reply {
 }
 
 // The word that stands at an index before a call.
+#[tactic(auto, unfolding(crate::specs::Recorded::pattern))]
 fn pattern(i: usize) -> u32
     ensures { result ≡ patternOf i }
 {
@@ -27,10 +28,8 @@ fn pattern(i: usize) -> u32
 pub fn fill(words: &mut [u32])
     ensures { words.new ≡ filled words.old }
 {
-    let mut i: usize = 0;
-    while i < words.len() {
-        words[i] = pattern(i);
-        i += 1;
+    for (i, word) in words.iter_mut().enumerate() {
+        *word = pattern(i);
     }
 }
 
@@ -38,24 +37,24 @@ pub fn fill(words: &mut [u32])
 pub fn is_zero(words: &[u32]) -> bool
     ensures { result ≡ is_zero words.now }
 {
-    let mut i: usize = 0;
-    while i < words.len() {
-        if words[i] != 0 {
+    for &w in words {
+        if w != 0 {
             return false;
         }
-        i += 1;
     }
     true
 }
 
 // The word at an index after words were laid over what stood there before the call.
+#[tactic(auto, unfolding(reading::specs::Pick::pick))]
 fn expected(words: &[u32], i: usize) -> u32
     ensures { result ≡ pick (ltb i (length words.now)) (get_or words.now i 0) (patternOf i) }
 {
     if i < words.len() {
-        return words[i];
+        words[i]
+    } else {
+        pattern(i)
     }
-    pattern(i)
 }
 
 // Whether the output is the words, and behind them what stood there before the call.
@@ -65,65 +64,52 @@ fn is_answer(words: &[u32], out: &[u32]) -> bool
     if out.len() < words.len() {
         return false;
     }
-    let mut i: usize = 0;
-    while i < out.len() {
-        if out[i] != expected(words, i) {
+    for (i, &w) in out.iter().enumerate() {
+        if w != expected(words, i) {
             return false;
         }
-        i += 1;
     }
     true
 }
 
 // How many words an accepted call reports.
+#[tactic(auto, unfolding(crate::specs::Recorded::reported, reading::specs::Pick::pick))]
 fn reported(line: Line) -> u64
     ensures { result ≡ reportedOf line }
 {
-    if line.op == b'A' {
-        return line.b;
-    }
-    line.a
+    if line.op == b'A' { line.b } else { line.a }
 }
 
 // Whether the numbers of the reply are the recorded ones.
+#[tactic(auto, unfolding(crate::specs::Recorded::is_reply))]
 fn is_reply(line: Line, reply: Reply) -> bool
     ensures { result ≡ is_reply line reply }
 {
-    if reply.refusal != line.refusal {
-        return false;
-    }
-    if reply.a != line.a {
-        return false;
-    }
-    if reply.b != line.b {
-        return false;
-    }
-    reply.count == line.count
+    reply
+        == Reply {
+            refusal: line.refusal,
+            a: line.a,
+            b: line.b,
+            count: line.count,
+        }
 }
 
 // Whether the output is the recorded one: zeros after a refusal, else the words that are recorded and behind them what was there.
+#[tactic(auto, unfolding(crate::specs::Recorded::is_output, reading::specs::Pick::pick))]
 fn is_output(line: Line, words: &[u32], out: &[u32]) -> bool
     ensures { result ≡ is_output line words.now out.now }
 {
-    if line.refusal != 0 {
-        if words.len() != 0 {
-            return false;
-        }
-        return is_zero(out);
+    if line.refusal == 0 {
+        words.len() as u64 == reported(line) && is_answer(words, out)
+    } else {
+        words.len() == 0 && is_zero(out)
     }
-    if words.len() as u64 != reported(line) {
-        return false;
-    }
-    is_answer(words, out)
 }
 
 // Whether the reply and the output are those of the line, which records these words.
+#[tactic(auto, unfolding(crate::specs::Recorded::is_recorded))]
 pub fn is_recorded(line: Line, words: &[u32], reply: Reply, out: &[u32]) -> bool
     ensures { result ≡ is_recorded line words.now reply out.now }
 {
-    let same = is_output(line, words, out);
-    if is_reply(line, reply) {
-        return same;
-    }
-    false
+    is_reply(line, reply) && is_output(line, words, out)
 }

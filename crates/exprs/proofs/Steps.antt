@@ -12,11 +12,13 @@ use Rattle.places.specs.Spot.{Spot, Seen}
 use Rattle.scopes.specs.Scopes.{Opened, Kept, pushed, deeper, inner}
 use Rattle.writing.specs.Laid.{laid}
 use Rattle.plans.specs.Late.{filled, taken, LateRoom}
-use Rattle.plans.specs.Plans.{Parsed, refused, Here, Row, Running, Planned, EndsAt, EndSpot, BoundPair, end_size, end_nesting, factor, most}
+use Rattle.plans.specs.Plans.{reached, Parsed, refused, Here, Row, Running, Planned, EndsAt, EndSpot, BoundPair, end_size, end_nesting, factor, most}
 use Rattle.plans.specs.declared.progress.Progress.{Progress}
-use Rattle.plans.specs.declared.progress.Progress.TheVariants.{Done, Refused}
+use Rattle.std.specs.Prelude.{Result, Ok, Err}
+use Rattle.words.specs.declared.refusal.Refusal.{Refusal}
+use Rattle.words.specs.declared.refusal.Refusal.TheVariants.{Malformed, RepeatedName}
 use Rattle.plans.specs.declared.plan.Plan.{Plan}
-use Rattle.plans.specs.declared.plan.Plan.TheVariants.{Stop, Leaf, Go}
+use Rattle.plans.specs.declared.plan.Plan.TheVariants.{Leaf, Go}
 use Rattle.plans.specs.declared.plan.Run.{Run}
 use Rattle.scopes.proofs.Frame.{kept_then, kept-fewer, opened-kept, pushed-kept, pushed-length, pushed-opened, deeper-least, deeper-most}
 use Rattle.places.proofs.FirstTree.{More, some, none_left}
@@ -101,17 +103,17 @@ module _ (text : List ℕ) (count : ℕ) (ws : List ℕ) (at : ℕ) (es : List �
   pub whole : W
   whole = told count ((child text h.spot.tree).plainly h.scopes next)
 
-  pub as_stop : {r : Plan} {e : ℕ} → r ≡ Stop e → Planned text count ws at es d w next h o o' r
-      → Parsed (told count ((child text h.spot.tree).plainly h.scopes next)) w o o' (most w next h.spot.tree) (Refused e)
-  as_stop p x = subst (λ (z : Plan). Planned text count ws at es d w next h o o' z) p x
+  pub as_stop : {r : Result Plan Refusal} {e : Refusal} → r ≡ Err e → Planned text count ws at es d w next h o o' r
+      → Parsed (told count ((child text h.spot.tree).plainly h.scopes next)) w o o' (most w next h.spot.tree) (Err e)
+  as_stop p x = subst (λ (z : Result Plan Refusal). Planned text count ws at es d w next h o o' z) p x
 
-  pub as_leaf : {r : Plan} {u : ℕ} → r ≡ Leaf u → Planned text count ws at es d w next h o o' r
-      → Parsed (told count ((child text h.spot.tree).plainly h.scopes next)) w o o' (most w next h.spot.tree) (Done u next)
-  as_leaf p x = subst (λ (z : Plan). Planned text count ws at es d w next h o o' z) p x
+  pub as_leaf : {r : Result Plan Refusal} {u : ℕ} → r ≡ Ok (Leaf u) → Planned text count ws at es d w next h o o' r
+      → Parsed (told count ((child text h.spot.tree).plainly h.scopes next)) w o o' (most w next h.spot.tree) (reached u next)
+  as_leaf p x = subst (λ (z : Result Plan Refusal). Planned text count ws at es d w next h o o' z) p x
 
-  pub as_run : {r : Plan} {g : Run} → r ≡ Go g → Planned text count ws at es d w next h o o' r
+  pub as_run : {r : Result Plan Refusal} {g : Run} → r ≡ Ok (Go g) → Planned text count ws at es d w next h o o' r
       → Running text count ws at d next h.scopes (told count ((child text h.spot.tree).plainly h.scopes next)) w o o' (most w next h.spot.tree) g
-  as_run p x = subst (λ (z : Plan). Planned text count ws at es d w next h o o' z) p x
+  as_run p x = subst (λ (z : Result Plan Refusal). Planned text count ws at es d w next h o o' z) p x
 
   module _ (g : Run) (x : Running text count ws at d next h.scopes (told count ((child text h.spot.tree).plainly h.scopes next)) w o o' (most w next h.spot.tree) g) (es₁ : List ℕ) (d₁ : ℕ) (is : es₁ ≡ pushed es d g.names g.fresh next) (deep : d₁ ≡ deeper d g.names) where
     -- the scopes inside
@@ -144,11 +146,11 @@ module _ (text : List ℕ) (count : ℕ) (ws : List ℕ) (at : ℕ) (es : List �
     abbrev scopes' : List Scope
     scopes' = inner g.names x.bind.names next h.scopes
 
-    module _ {o₁ : List ℕ} {b₁ : ℕ} {r : Progress} (y : Parsed (operands_w text count x.items g.want (inner g.names x.bind.names next h.scopes) (next + g.fresh)) g.words o' o₁ b₁ r) where
-      pub run-refused : {e : ℕ} (o₂ : List ℕ) → r ≡ Refused e → Parsed (told count ((child text h.spot.tree).plainly h.scopes next)) w o o₂ (most w next h.spot.tree) (Refused e)
-      run-refused {e} o₂ stop = x.goes o₂ (Refused e) 0 (counts-no 0 y stop) (out-no _ g.words (filled g.pair (w + 1) (count + 0) o') o₂ _ y stop)
+    module _ {o₁ : List ℕ} {b₁ : ℕ} {r : Result Progress Refusal} (y : Parsed (operands_w text count x.items g.want (inner g.names x.bind.names next h.scopes) (next + g.fresh)) g.words o' o₁ b₁ r) where
+      pub run-refused : {e : Refusal} (o₂ : List ℕ) → r ≡ Err e → Parsed (told count ((child text h.spot.tree).plainly h.scopes next)) w o o₂ (most w next h.spot.tree) (Err e)
+      run-refused {e} o₂ stop = x.goes o₂ (Err e) 0 (counts-no 0 y stop) (out-no _ g.words (filled g.pair (w + 1) (count + 0) o') o₂ _ y stop)
 
-      module _ {u m : ℕ} (done : r ≡ Done u m) (room : b₁ + factor * end_size x.final ≤ most w next h.spot.tree) where
+      module _ {u m : ℕ} (done : r ≡ reached u m) (room : b₁ + factor * end_size x.final ≤ most w next h.spot.tree) where
         pub last_end : (g.last ≡ 0 → ⊥) → End text ws at w g x.final
         last_end n = the_end text ws at w g x.final x.ends n
 
@@ -192,7 +194,7 @@ module _ (text : List ℕ) (count : ℕ) (ws : List ℕ) (at : ℕ) (es : List �
                 bytes = h.bytes;
               }
 
-          pub last_done : {q : ℕ} (k : Seen text g.plain ws g.last last-spot q) {o₂ o₃ : List ℕ} {n₃ : ℕ} {a : Progress} → o₂ ≡ filled g.pair (w + 1) (count + m) o₁ → n₃ ≡ m + taken g.pair
+          pub last_done : {q : ℕ} (k : Seen text g.plain ws g.last last-spot q) {o₂ o₃ : List ℕ} {n₃ : ℕ} {a : Result Progress Refusal} → o₂ ≡ filled g.pair (w + 1) (count + m) o₁ → n₃ ≡ m + taken g.pair
               → Parsed (told count ((child text k.spot.tree).plainly (inner g.pair e.names m (inner g.names x.bind.names next h.scopes)) n₃)) u o₂ o₃ (most u n₃ k.spot.tree) a
               → Parsed (told count ((child text h.spot.tree).plainly h.scopes next)) w o o₃ (most w next h.spot.tree) a
           last_done k {o₂} {o₃} {n₃} {a} is₂ next₃ z =
@@ -205,16 +207,16 @@ module _ (text : List ℕ) (count : ℕ) (ws : List ℕ) (at : ℕ) (es : List �
         none_last n = no_end text ws at w g x.final x.ends n
 
         pub run_twice : g.last ≡ 0 → repeated text x.bind.names ≡ true
-            → Parsed (told count ((child text h.spot.tree).plainly h.scopes next)) w o o₁ (most w next h.spot.tree) (Refused 10)
+            → Parsed (told count ((child text h.spot.tree).plainly h.scopes next)) w o o₁ (most w next h.spot.tree) (Err RepeatedName)
         unfolding end_w pick
         run_twice n t =
-            x.goes o₁ (Refused 10) m (counts-done y done) (rw (none_filled g.pair (w + 1) (count + m) o' (none_last n).1) (out-after _ y done (rw ((none_last n).0, t) (refused refl))))
+            x.goes o₁ (Err RepeatedName) m (counts-done y done) (rw (none_filled g.pair (w + 1) (count + m) o' (none_last n).1) (out-after _ y done (rw ((none_last n).0, t) (refused refl))))
 
         pub run-done : g.last ≡ 0 → repeated text x.bind.names ≡ false
-            → Parsed (told count ((child text h.spot.tree).plainly h.scopes next)) w o o₁ (most w next h.spot.tree) (Done u m)
+            → Parsed (told count ((child text h.spot.tree).plainly h.scopes next)) w o o₁ (most w next h.spot.tree) (reached u m)
         unfolding end_w laid pick
         run-done n t =
-            x.goes o₁ (Done u m) m (counts-done y done) (rw (none_filled g.pair (w + 1) (count + m) o' (none_last n).1) (out-after _ y done (rw ((none_last n).0, t) (out_empty u m o₁ _ (omega (arith, room, out-room y done))))))
+            x.goes o₁ (reached u m) m (counts-done y done) (rw (none_filled g.pair (w + 1) (count + m) o' (none_last n).1) (out-after _ y done (rw ((none_last n).0, t) (out_empty u m o₁ _ (omega (arith, room, out-room y done))))))
 
 -- ---- some operands
 
@@ -226,7 +228,7 @@ pub record Going (text : List ℕ) (count : ℕ) (ws : List ℕ) (at have want :
   pub forward : at ≤ p
   pub shallow : d + nestings items ≤ max_lists
   pub room : v + n + factor * length (trees_words items) ≤ w + next + factor * length (trees_words h.items)
-  pub goes : (o'' : List ℕ) (q : Progress)
+  pub goes : (o'' : List ℕ) (q : Result Progress Refusal)
       → Parsed (operands_w text count items (want - i) h.scopes n) v m o'' (w + next + factor * length (trees_words h.items)) q
       → Parsed (operands_w text count h.items want h.scopes next) w o o'' (w + next + factor * length (trees_words h.items)) q
 
@@ -248,18 +250,18 @@ module _ (text : List ℕ) (count : ℕ) (ws : List ℕ) (at have want : ℕ) (e
 
   module _ (m : List ℕ) (i p n v : ℕ) (g : Going text count ws at have want es d w next h o m i p n v) where
     -- all are read
-    pub progress_end : want ≤ i → Parsed (operands_w text count h.items want h.scopes next) w o m (w + next + factor * length (trees_words h.items)) (Done v n)
+    pub progress_end : want ≤ i → Parsed (operands_w text count h.items want h.scopes next) w o m (w + next + factor * length (trees_words h.items)) (reached v n)
     unfolding operands_w laid
     progress_end e =
         let z : want - i ≡ 0 = omega (arith, g.within) in
-        g.goes m (Done v n) (rw z (out_empty v n m _ (omega (arith, g.room))))
+        g.goes m (reached v n) (rw z (out_empty v n m _ (omega (arith, g.room))))
 
     -- one is missing
-    pub progress_short : i < want → have ≤ i → Parsed (operands_w text count h.items want h.scopes next) w o m (w + next + factor * length (trees_words h.items)) (Refused 8)
+    pub progress_short : i < want → have ≤ i → Parsed (operands_w text count h.items want h.scopes next) w o m (w + next + factor * length (trees_words h.items)) (Err Malformed)
     unfolding operands_w
     progress_short l e =
         let z : want - i ≡ suc (want - (i + 1)) = omega arith in
-        g.goes m (Refused 8) (rw (z, none_left g.items (omega (arith, g.many))) (refused refl))
+        g.goes m (Err Malformed) (rw (z, none_left g.items (omega (arith, g.many))) (refused refl))
 
     module _ (l : i < want) (e : i < have) where
       pub next-tree : More g.items
@@ -297,14 +299,14 @@ module _ (text : List ℕ) (count : ℕ) (ws : List ℕ) (at have want : ℕ) (e
         }
 
         -- the first refusal counts
-        pub progress_refused : {m' : List ℕ} {b₁ : ℕ} {r : Progress} {f : ℕ} (o'' : List ℕ) → Parsed (told count ((child text k.spot.tree).plainly h.scopes n)) v m m' b₁ r → r ≡ Refused f
-            → Parsed (operands_w text count h.items want h.scopes next) w o o'' (w + next + factor * length (trees_words h.items)) (Refused f)
+        pub progress_refused : {m' : List ℕ} {b₁ : ℕ} {r : Result Progress Refusal} {f : Refusal} (o'' : List ℕ) → Parsed (told count ((child text k.spot.tree).plainly h.scopes n)) v m m' b₁ r → r ≡ Err f
+            → Parsed (operands_w text count h.items want h.scopes next) w o o'' (w + next + factor * length (trees_words h.items)) (Err f)
         unfolding operands_w pick
         progress_refused {f = f} o'' x d =
             let z : want - i ≡ suc (want - (i + 1)) = omega arith in
-            g.goes o'' (Refused f) (rw (z, next-tree.is, k.same) (out-no _ v m o'' _ x d))
+            g.goes o'' (Err f) (rw (z, next-tree.is, k.same) (out-no _ v m o'' _ x d))
 
-        pub progress_more : {m' : List ℕ} {r : Progress} {u f : ℕ} → Parsed (told count ((child text k.spot.tree).plainly h.scopes n)) v m m' (most v n k.spot.tree) r → r ≡ Done u f
+        pub progress_more : {m' : List ℕ} {r : Result Progress Refusal} {u f : ℕ} → Parsed (told count ((child text k.spot.tree).plainly h.scopes n)) v m m' (most v n k.spot.tree) r → r ≡ reached u f
             → (j : ℕ) → j ≡ length (tree_words next-tree.first)
             → Going text count ws at have want es d w next h o m' (i + 1) (p + j) f u
         unfolding operands_w pick

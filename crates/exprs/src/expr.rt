@@ -8,10 +8,10 @@ ghost use Rattle.plans.specs.Plans.{Parsed, Here, Row, factor, most};
 
 use crate::late::late;
 use places::place::{reach, through, words_at};
-use plans::plan::{Plan, Run, planned};
+use plans::plan::{Plan, planned};
 use plans::progress::Progress;
 use scopes::entries::{opened, twice};
-use words::number::long_to_length;
+use words::refusal::Refusal;
 
 // The expression at a place of the tree, its words from w on. Fresh numbers are counted from the call's first one; the reader's count is
 // added where words are written.
@@ -26,43 +26,39 @@ pub fn expr(
     next: u64,
     out: &mut [u32],
     w: usize,
-) -> Progress
+) -> Result<Progress, Refusal>
     requires { Here text.now tree.now at scopes.old depth w next }
     ensures { (Kept scopes.old scopes.new depth) × ((h : Here text.now tree.now at scopes.old depth w next) → Parsed (told count ((child text.now h.spot.tree).plainly h.scopes next)) w out.old out.new (most w next h.spot.tree) result) }
 {
-    match planned(text, tree, at, scopes, depth, count, next, out, w) {
-        Plan::Stop(e) => Progress::Refused(e),
-        Plan::Leaf(u) => Progress::Done(u, next),
-        Plan::Go(run) => {
-            let inner = opened(scopes, depth, run.names, run.fresh, next);
-            match operands(
-                text,
-                tree,
-                run.first,
-                run.have,
-                run.want,
-                scopes,
-                inner,
-                count,
-                next + run.fresh,
-                out,
-                run.words,
-            ) {
-                Progress::Refused(e) => Progress::Refused(e),
-                Progress::Done(u, m) => {
-                    if run.last != 0 {
-                        let q = reach(text, tree, run.last, run.plain);
-                        let deep = late(scopes, inner, run.pair, count, m, out, w + 1);
-                        return expr(text, tree, q, scopes, deep.depth, count, deep.next, out, u);
-                    }
-                    if twice(text, tree, run.names, long_to_length(run.fresh)) {
-                        return Progress::Refused(10);
-                    }
-                    Progress::Done(u, m)
-                }
-            }
-        }
+    let run = match planned(text, tree, at, scopes, depth, count, next, out, w)? {
+        Plan::Leaf(u) => return Ok(Progress { words: u, next }),
+        Plan::Go(run) => run,
+    };
+    let inner = opened(scopes, depth, run.names, run.fresh, next);
+    let read = operands(
+        text,
+        tree,
+        run.first,
+        run.have,
+        run.want,
+        scopes,
+        inner,
+        count,
+        next + run.fresh,
+        out,
+        run.words,
+    )?;
+    if run.last != 0 {
+        let q = reach(text, tree, run.last, run.plain);
+        let deep = late(scopes, inner, run.pair, count, read.next, out, w + 1);
+        return expr(
+            text, tree, q, scopes, deep.depth, count, deep.next, out, read.words,
+        );
     }
+    if twice(text, tree, run.names, run.fresh as usize) {
+        return Err(Refusal::RepeatedName);
+    }
+    Ok(read)
 }
 
 // So many operands, one after the other; a missing one is refused when it is reached.
@@ -79,30 +75,21 @@ fn operands(
     next: u64,
     out: &mut [u32],
     w: usize,
-) -> Progress
+) -> Result<Progress, Refusal>
     requires { Row text.now tree.now at have scopes.old depth w next }
     ensures { (Kept scopes.old scopes.new depth) × ((h : Row text.now tree.now at have scopes.old depth w next) → Parsed (operands_w text.now count h.items want h.scopes next) w out.old out.new (w + next + factor * length (trees_words h.items)) result) }
 {
-    let mut i: usize = 0;
     let mut p = at;
-    let mut n = next;
-    let mut v = w;
-    while i < want {
+    let mut read = Progress { words: w, next };
+    for i in 0..want {
         if have <= i {
-            return Progress::Refused(8);
+            return Err(Refusal::Malformed);
         }
         let q = through(text, tree, p);
-        match expr(text, tree, q, scopes, depth, count, n, out, v) {
-            Progress::Refused(e) => {
-                return Progress::Refused(e);
-            }
-            Progress::Done(u, m) => {
-                p += words_at(tree, p);
-                n = m;
-                v = u;
-                i += 1;
-            }
-        }
+        read = expr(
+            text, tree, q, scopes, depth, count, read.next, out, read.words,
+        )?;
+        p += words_at(tree, p);
     }
-    Progress::Done(v, n)
+    Ok(read)
 }

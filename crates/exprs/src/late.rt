@@ -28,12 +28,9 @@ pub fn late(
     ensures { (scopes.new ≡ pushed scopes.old depth pair 1 next) × (out.new ≡ filled pair at (count + next) out.old) × (result.depth ≡ deeper depth pair) × (result.next ≡ next + taken pair) }
 {
     if pair == 0 {
-        return Deep {
-            depth: depth,
-            next: next,
-        };
+        return Deep { depth, next };
     }
-    let k = std::num::wrapping_add_u64(count, next);
+    let k = count.wrapping_add(next);
     put2(out, at, low(k), high(k));
     Deep {
         depth: opened(scopes, depth, pair, 1, next),

@@ -10,7 +10,7 @@ ghost use Rattle.boundary.specs.Reply.{uncounted, counted, Promised, flat, Flatt
 ghost use Rattle.boundary.specs.Smtlib.{spoken, Spoken};
 ghost use Rattle.boundary.specs.Version.{version as versionOf};
 
-use boundary::{numbers, version, written};
+use boundary::{Reported, version};
 use reader::Reader;
 use replies::sized;
 
@@ -25,8 +25,7 @@ pub extern "C" fn pinhkray_read_one(
     ensures { Promised (one_call text.now out.old) 0 (uncounted result words.new next.new [] out.new) }
 {
     let answer = Reader::open(0).read_one(text, out);
-    let said = answer.said;
-    let told = numbers(said);
+    let told = Reported::from(answer.said);
     *words = told.first;
     *next = told.second;
     told.refusal
@@ -43,8 +42,7 @@ pub extern "C" fn pinhkray_read_all(
     ensures { Promised (all_call text.now out.old) 0 (uncounted result expressions.new words.new [] out.new) }
 {
     let answer = Reader::open(0).read_all(text, out);
-    let said = answer.said;
-    let told = numbers(said);
+    let told = Reported::from(answer.said);
     *expressions = told.first;
     *words = told.second;
     told.refusal
@@ -61,8 +59,7 @@ pub extern "C" fn pinhkray_sort(
     ensures { Promised (sort_call text.now tree.old out.old) 0 (uncounted result words.new 0 tree.new out.new) }
 {
     let answer = Reader::open(0).sort(text, tree, out);
-    let said = answer.said;
-    let told = numbers(said);
+    let told = Reported::from(answer.said);
     *words = told.first;
     told.refusal
 }
@@ -81,8 +78,7 @@ pub extern "C" fn pinhkray_expression(
 {
     let answer = Reader::open(count).expression(text, tree, out);
     *count_after = answer.reader.next;
-    let said = answer.said;
-    let told = numbers(said);
+    let told = Reported::from(answer.said);
     *words = told.first;
     told.refusal
 }
@@ -101,8 +97,7 @@ pub extern "C" fn pinhkray_bind(
 {
     let reply = Reader::open(count).bind(text, tree, out);
     *count_after = reply.reader.next;
-    let said = reply.said;
-    let told = numbers(said);
+    let told = Reported::from(reply.said);
     *words = told.first;
     told.refusal
 }
@@ -123,8 +118,7 @@ pub extern "C" fn pinhkray_solution(
 {
     let solved = Reader::open(count).solution(text, tree, draft, out);
     *count_after = solved.reader.next;
-    let said = solved.said;
-    let told = numbers(said);
+    let told = Reported::from(solved.said);
     *words = told.first;
     told.refusal
 }
@@ -134,7 +128,7 @@ pub extern "C" fn pinhkray_solution(
 pub extern "C" fn pinhkray_flatten(words_in: &[u32], out: &mut [u32], words: &mut u64) -> u32
     ensures { Flattened words_in.now out.old (flat result words.new out.new) }
 {
-    let told = numbers(sized(flatten::flatten(words_in, out)));
+    let told = Reported::from(sized(flatten::flatten(words_in, out)));
     *words = told.first;
     told.refusal
 }
@@ -150,7 +144,7 @@ pub extern "C" fn pinhkray_smtlib(
 ) -> u32
     ensures { Spoken words.now text.now out.old (spoken result bytes.new out.new) }
 {
-    let told = numbers(written(smtlib::smtlib(words, text, out)));
+    let told = Reported::from(sized(smtlib::smtlib(words, text, out)));
     *bytes = told.first;
     told.refusal
 }

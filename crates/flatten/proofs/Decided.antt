@@ -26,17 +26,20 @@ use Rattle.grammar.specs.Item.{raised_words}
 use Rattle.grammar.specs.Expr.{param_items, body_items}
 use Rattle.parse.specs.Answers.{Laid, Attempted, AttemptedAt, draft_said}
 use Rattle.writing.proofs.Laid.{over-start}
-use Rattle.parse.specs.declared.Counted.TheVariants as counted
-use Rattle.parse.specs.declared.Drafted.TheVariants as drafted
-use Rattle.words.specs.declared.Answer.TheVariants as answer
+use Rattle.std.specs.Prelude.{Result, Ok, Err}
+use Rattle.words.specs.declared.refusal.Refusal.{Refusal}
+use Rattle.words.specs.declared.refusal.Refusal.TheVariants as refusal
+use Rattle.words.specs.declared.walked.Walked.{Walked}
+use Rattle.words.specs.Refusals.{number_of}
+use Rattle.words.specs.Answered.{Answered, told, refused}
+use Rattle.parse.specs.declared.Counted.{Counted}
+use Rattle.parse.specs.declared.Drafted.{Drafted}
 use Rattle.flattening.specs.Uncurry.{uncurry, most_operands}
 use Rattle.judging.specs.Judge.{reads, fails, expr_deep, expr_at, at_end, judge_expr}
 use Rattle.judging.specs.Ends.{end_of}
 use Rattle.flattening.specs.Operations.{expr_words, no_text, flat_fits, flatten_by, flatten_final, flat_items, solution_fits, solution_final}
 use Rattle.writing.specs.Wrote.{most_count, Wrote}
 use Rattle.flatwriter.specs.Writing.{WroteExpr}
-use Rattle.judging.specs.declared.End.TheVariants as end
-use Rattle.flatwriter.specs.declared.Places.{Places}
 use Rattle.judge.proofs.ReadExpr.{ends_at, ends-no}
 use Rattle.flattening.proofs.Raise.{uncurry-raise}
 use Rattle.flattening.proofs.Uncurry.{shorter}
@@ -59,11 +62,11 @@ judged-read limit ws {e} {n} q =
 
 module _ (ws l : List ℕ) where
   -- Words that are no expression.
-  pub flatten_no : {r : ℕ} {l' : List ℕ} → end.No r ≡ end_of (judge_expr no_text ws) → Attempted expr_words (flatten_final ws l) l l' (answer.Refused r)
+  pub flatten_no : {r : Refusal} {l' : List ℕ} → refused (number_of r) ≡ end_of (judge_expr no_text ws) → Attempted expr_words (flatten_final ws l) l l' (Err r)
   unfolding flatten_final flatten_by
-  flatten_no {r} e = let q : judge_expr no_text ws ≡ fails r = ends-no (judge_expr no_text ws) e in rw q (record { answer = refl; left = tt })
+  flatten_no {r} e = let q : judge_expr no_text ws ≡ fails (number_of r) = ends-no (judge_expr no_text ws) e in rw q (record { answer = refl; left = tt })
 
-  module _ {n : ℕ} {l' : List ℕ} {r : Places} (q : end.At n ≡ end_of (judge_expr no_text ws)) (wrote : (e : Expr) (m : ℕ) → expr_deep no_text max_nodes ws 0 ≡ reads e m → WroteExpr l 0 e m l' r) where
+  module _ {n : ℕ} {l' : List ℕ} {r : Walked} (q : told n ≡ end_of (judge_expr no_text ws)) (wrote : (e : Expr) (m : ℕ) → expr_deep no_text max_nodes ws 0 ≡ reads e m → WroteExpr l 0 e m l' r) where
     abbrev it : Expr
     it = (ends_at (judge_expr no_text ws) q).0
 
@@ -74,16 +77,16 @@ module _ (ws l : List ℕ) where
     words = (wrote it n (judged-read no_text ws is)).words
 
     -- The words are there.
-    pub flatten_done : {size : ℕ} → size ≡ length l' → r.place ≤ size → Attempted expr_words (flatten_final ws l) l l' (answer.Done r.place)
+    pub flatten_done : {size : ℕ} → size ≡ length l' → r.place ≤ size → Attempted expr_words (flatten_final ws l) l l' (Ok r.place)
     unfolding flatten_final flatten_by flat_fits pick
     flatten_done k h =
         let f : (r.place ≡ 0 + length (expr_words (uncurry it))) × (most_operands (uncurry it) < most_count) × (l' ≡ laid l 0 (expr_words (uncurry it))) = words.fits (omega (arith, k, h, words.kept)) in
         let room : leb (length (expr_words (uncurry it))) (length l) ≡ true = le-leb (length (expr_words (uncurry it))) (length l) (omega (arith, k, h, f.0, words.kept)) in
         let g : flatten_final ws l ≡ accepts (uncurry it) 0 = rw (is, lt-ltb (most_operands (uncurry it)) most_count f.1, room) refl in
-        record { answer = rw g (ap answer.Done (f.0 ∙ zero-add _)); left = rw g (f.2 ∙ over-start (expr_words (uncurry it)) l) }
+        record { answer = rw g (ap told (f.0 ∙ zero-add _)); left = rw g (f.2 ∙ over-start (expr_words (uncurry it)) l) }
 
     -- They do not fit, or a count does not.
-    pub flatten_full : {size : ℕ} → size ≡ length l' → size < r.place → Attempted expr_words (flatten_final ws l) l l' (answer.Refused 7)
+    pub flatten_full : {size : ℕ} → size ≡ length l' → size < r.place → Attempted expr_words (flatten_final ws l) l l' (Err refusal.NoRoom)
     unfolding flatten_final flatten_by flat_fits pick
     flatten_full k h = record { answer = rw final refl; left = rw final tt }
       where
@@ -114,65 +117,62 @@ pub record Made (text tree draft : List ℕ) (c p w k : ℕ) : Type 0 where
 
 module _ (text tree draft out : List ℕ) (c : ℕ) where
   -- A draft that is refused: so is the solution.
-  pub solution-refused : {r : ℕ} {out' : List ℕ} → drafted.Refused r ≡ draft_said c (draft_final text tree draft c) → AttemptedAt flat_items c (solution_final text tree draft out c) out out' (counted.Refused r)
+  pub solution-refused : {r : Refusal} {out' : List ℕ} → refused (number_of r) ≡ draft_said c (draft_final text tree draft c) → AttemptedAt flat_items c (solution_final text tree draft out c) out out' (Err r)
   unfolding draft_final solution_final solution_fits finish pick
   solution-refused {r} {out'} e = go (make_solution text tree 0) refl
     where
       Attempt : Type 0
-      Attempt = AttemptedAt flat_items c (solution_final text tree draft out c) out out' (counted.Refused r)
+      Attempt = AttemptedAt flat_items c (solution_final text tree draft out c) out out' (Err r)
 
       go : (x : Res Solution) → make_solution text tree 0 ≡ x → Attempt
       go (no z) q =
-          let f : r ≡ number z = let d : drafted.Refused r ≡ drafted.Refused (number z) = rw q at e in cc in
-          rw (q, f) (record { answer = refl; left = tt })
+          let f : number_of r ≡ number z = let d : ◌≡◌ {A = Answered Drafted} (refused (number_of r)) (refused (number z)) = rw q at e in cc in
+          rw q (record { answer = ap refused f; left = tt })
       go (ok s n) q = either max_number (c + n) spent λ enough.
           either (length draft) (length (expr_words s.body)) (short enough) (fits enough)
         where
           spent : max_number < c + n → Attempt
           spent h =
-              let f : r ≡ 13 = let d : drafted.Refused r ≡ drafted.Refused 13 = rw (q, lt-ltb max_number (c + n) h) at e in cc in
-              rw (q, lt-ltb max_number (c + n) h, f) (record { answer = refl; left = tt })
+              let f : number_of r ≡ 13 = let d : ◌≡◌ {A = Answered Drafted} (refused (number_of r)) (refused 13) = rw (q, lt-ltb max_number (c + n) h) at e in cc in
+              rw (q, lt-ltb max_number (c + n) h) (record { answer = ap refused f; left = tt })
 
           short : c + n ≤ max_number → length draft < length (expr_words s.body) → Attempt
           short h l =
-              let f : r ≡ 7 = let d : drafted.Refused r ≡ drafted.Refused 7 = rw (q, le-ltb max_number (c + n) h, lt-leb (length (expr_words s.body)) (length draft) l) at e in cc in
-              rw (q, le-ltb max_number (c + n) h, lt-leb (length (expr_words s.body)) (length draft) l, f) (record { answer = refl; left = tt })
+              let f : number_of r ≡ 7 = let d : ◌≡◌ {A = Answered Drafted} (refused (number_of r)) (refused 7) = rw (q, le-ltb max_number (c + n) h, lt-leb (length (expr_words s.body)) (length draft) l) at e in cc in
+              rw (q, le-ltb max_number (c + n) h, lt-leb (length (expr_words s.body)) (length draft) l) (record { answer = ap refused f; left = tt })
 
           fits : c + n ≤ max_number → length (expr_words s.body) ≤ length draft → Attempt
           fits h l =
-              let d : drafted.Refused r ≡ drafted.Done (length (words_of (param_items s))) (length (words_of (body_items s))) (c + n) = rw (q, le-ltb max_number (c + n) h, le-leb (length (expr_words s.body)) (length draft) l) at e in
-              let z : ◌≡◌ {A = ℕ} 0 1 = cc in
-              absurd (omega arith)
+              let d : ◌≡◌ {A = Answered Drafted} (refused (number_of r)) (told (record { params = length (words_of (param_items s)); body = length (words_of (body_items s)); count = c + n })) = rw (q, le-ltb max_number (c + n) h, le-leb (length (expr_words s.body)) (length draft) l) at e in
+              cc
 
 module _ (text tree draft : List ℕ) (c : ℕ) where
   -- A draft that is made.
-  pub made : {p w k : ℕ} → drafted.Done p w k ≡ draft_said c (draft_final text tree draft c) → Made text tree draft c p w k
+  pub made : {a : Drafted} → told a ≡ draft_said c (draft_final text tree draft c) → Made text tree draft c a.params a.body a.count
   unfolding draft_final finish pick
-  made {p} {w} {k} e = go (make_solution text tree 0) refl
+  made {a} e = go (make_solution text tree 0) refl
     where
-      go : (x : Res Solution) → make_solution text tree 0 ≡ x → Made text tree draft c p w k
+      go : (x : Res Solution) → make_solution text tree 0 ≡ x → Made text tree draft c a.params a.body a.count
       go (no z) q =
-          let d : drafted.Done p w k ≡ drafted.Refused (number z) = rw q at e in
-          let y : ◌≡◌ {A = ℕ} 0 1 = cc in
-          absurd (omega arith)
+          let d : ◌≡◌ {A = Answered Drafted} (told a) (refused (number z)) = rw q at e in
+          cc
       go (ok s n) q = either max_number (c + n) spent λ enough.
           either (length draft) (length (expr_words s.body)) (short enough) (fits enough)
         where
-          spent : max_number < c + n → Made text tree draft c p w k
+          spent : max_number < c + n → Made text tree draft c a.params a.body a.count
           spent h =
-              let d : drafted.Done p w k ≡ drafted.Refused 13 = rw (q, lt-ltb max_number (c + n) h) at e in
-              let y : ◌≡◌ {A = ℕ} 0 1 = cc in
-              absurd (omega arith)
+              let d : ◌≡◌ {A = Answered Drafted} (told a) (refused 13) = rw (q, lt-ltb max_number (c + n) h) at e in
+              cc
 
-          short : c + n ≤ max_number → length draft < length (expr_words s.body) → Made text tree draft c p w k
+          short : c + n ≤ max_number → length draft < length (expr_words s.body) → Made text tree draft c a.params a.body a.count
           short h l =
-              let d : drafted.Done p w k ≡ drafted.Refused 7 = rw (q, le-ltb max_number (c + n) h, lt-leb (length (expr_words s.body)) (length draft) l) at e in
-              let y : ◌≡◌ {A = ℕ} 0 1 = cc in
-              absurd (omega arith)
+              let d : ◌≡◌ {A = Answered Drafted} (told a) (refused 7) = rw (q, le-ltb max_number (c + n) h, lt-leb (length (expr_words s.body)) (length draft) l) at e in
+              cc
 
-          fits : c + n ≤ max_number → length (expr_words s.body) ≤ length draft → Made text tree draft c p w k
+          fits : c + n ≤ max_number → length (expr_words s.body) ≤ length draft → Made text tree draft c a.params a.body a.count
           fits h l =
-              let d : drafted.Done p w k ≡ drafted.Done (length (words_of (param_items s))) (length (words_of (body_items s))) (c + n) = rw (q, le-ltb max_number (c + n) h, le-leb (length (expr_words s.body)) (length draft) l) at e in
+              let d : ◌≡◌ {A = Answered Drafted} (told a) (told (record { params = length (words_of (param_items s)); body = length (words_of (body_items s)); count = c + n })) = rw (q, le-ltb max_number (c + n) h, le-leb (length (expr_words s.body)) (length draft) l) at e in
+              let z : a ≡ record { params = length (words_of (param_items s)); body = length (words_of (body_items s)); count = c + n } = cc in
               record {
                 solution = s;
                 numbers = n;
@@ -180,9 +180,9 @@ module _ (text tree draft : List ℕ) (c : ℕ) where
                 final = rw (q, le-ltb max_number (c + n) h, le-leb (length (expr_words s.body)) (length draft) l) refl;
                 enough = h;
                 room = l;
-                params = cc;
-                size = cc;
-                count = cc;
+                params = ap (λ (x : Drafted). x.params) z;
+                size = ap (λ (x : Drafted). x.body) z;
+                count = ap (λ (x : Drafted). x.count) z;
               }
 
   module _ {p w k : ℕ} (draft' : List ℕ) (m : Made text tree draft c p w k) (body : Laid (raised_words body_items c) (draft_final text tree draft c) draft draft') where
@@ -235,7 +235,7 @@ module _ (text tree draft : List ℕ) (c : ℕ) where
         ∙ sym (words_append (raise c (param_items s)) (raise c (expr_items (uncurry s.body))))
         ∙ ap words_of (sym (raise_append c (param_items s) (expr_items (uncurry s.body))))
 
-    module _ (out : List ℕ) {out₁ out₂ : List ℕ} {r : Places} (params : Laid (raised_words param_items c) (draft_final text tree draft c) out out₁) (wrote : (e : Expr) (n : ℕ) → expr_deep no_text max_nodes (take w draft') 0 ≡ reads e n → WroteExpr out₁ p e n out₂ r) where
+    module _ (out : List ℕ) {out₁ out₂ : List ℕ} {r : Walked} (params : Laid (raised_words param_items c) (draft_final text tree draft c) out out₁) (wrote : (e : Expr) (n : ℕ) → expr_deep no_text max_nodes (take w draft') 0 ≡ reads e n → WroteExpr out₁ p e n out₂ r) where
       laid-params : out₁ ≡ laid out 0 param_words
       laid-params = (rw m.final at params) ∙ sym (over-start param_words out)
 
@@ -255,7 +255,7 @@ module _ (text tree draft : List ℕ) (c : ℕ) where
       draft-fits = le-leb (length (expr_words s.body)) (length draft) m.room
 
       -- The words are there.
-      pub solution-done : {size : ℕ} → size ≡ length out₂ → r.place ≤ size → AttemptedAt flat_items c (solution_final text tree draft out c) out out₂ (counted.Done r.place k)
+      pub solution-done : {size : ℕ} → size ≡ length out₂ → r.place ≤ size → AttemptedAt flat_items c (solution_final text tree draft out c) out out₂ (Ok (record { words = r.place; count = k }))
       unfolding solution_final solution_fits pick
       solution-done e h =
           let f = whole.fits (omega (arith, e, h, whole.kept)) in
@@ -263,10 +263,10 @@ module _ (text tree draft : List ℕ) (c : ℕ) where
           let room : solution_fits draft out s ≡ true = rw (draft-fits, fit) refl in
           let g : solution_final text tree draft out c ≡ accepts s m.numbers = rw m.is (finish-long (solution_fits draft out) c s m.numbers m.enough room) in
           let n : r.place ≡ length (words_of (flat_items s)) = omega (arith, f.0, long) in
-          record { answer = rw g (ap₂ counted.Done n m.count); left = rw g (f.2 ∙ over-start (raised_words flat_items c s) out) }
+          record { answer = rw g (ap₂ (λ (x y : ℕ). told (record { words = x; count = y })) n m.count); left = rw g (f.2 ∙ over-start (raised_words flat_items c s) out) }
 
       -- They do not fit.
-      pub solution-full : {size : ℕ} → size ≡ length out₂ → size < r.place → AttemptedAt flat_items c (solution_final text tree draft out c) out out₂ (counted.Refused 7)
+      pub solution-full : {size : ℕ} → size ≡ length out₂ → size < r.place → AttemptedAt flat_items c (solution_final text tree draft out c) out out₂ (Err refusal.NoRoom)
       unfolding solution_final solution_fits pick
       solution-full e h =
           let far : length out < length (words_of (flat_items s)) = either (length out) (length (words_of (flat_items s))) (λ f. f) λ near. absurd (whole.full (omega (arith, e, h, whole.kept)) (omega (arith, near, long)) small) in

@@ -4,6 +4,7 @@
 #![tactic(auto)]
 
 ghost use Rattle.std.specs.Prelude.{◌≡◌};
+ghost use Rattle.words.specs.Answered.{answered};
 ghost use Rattle.reading.specs.Answer.{zeros, output_of};
 ghost use Rattle.grammar.specs.Item.{raised_words};
 ghost use Rattle.parse.specs.Answers.{Attempted, AttemptedAt};
@@ -12,44 +13,37 @@ ghost use Rattle.flatten.specs.Answers.{flatten_answer, solution_answer};
 
 use flatwriter::flat;
 use judge::expr_words::{NO_TEXT, judge};
-use judging::End;
+use parse::Counted;
 use parse::ending::close;
 use parse::solution::solution_draft;
-use parse::{Counted, Drafted};
-use words::Answer;
 use words::limits::MAX_NODES;
 use words::output::clear;
+use words::refusal::Refusal;
 
 // The flattened words; the output is not cleared yet.
-fn attempt(words: &[u32], out: &mut [u32]) -> Answer
+fn attempt(words: &[u32], out: &mut [u32]) -> Result<usize, Refusal>
     ensures { Attempted expr_words (flatten_final words.now out.old) out.old out.new result }
 {
-    match judge(words, NO_TEXT) {
-        End::No(r) => Answer::Refused(r),
-        End::At(_) => {
-            let p = flat(words, 0, MAX_NODES, out, 0);
-            if out.len() < p.place {
-                return Answer::Refused(7);
-            }
-            Answer::Done(p.place)
-        }
+    judge(words, NO_TEXT)?;
+    let walked = flat(words, 0, MAX_NODES, out, 0);
+    if out.len() < walked.place {
+        return Err(Refusal::NoRoom);
     }
+    Ok(walked.place)
 }
 
 // Flattens words: how many there are afterwards, written from the start of the output and nothing behind them. The refusals are 14 for
 // words that are no expression, 6 where one begins inside 128 others, 14 for words left over, and at last 7 if the output has room for fewer
 // words, or if a joined count exceeds 2^32 - 1. A refusal zeroes the output. The words that are read stay as they are.
-pub fn flatten(words: &[u32], out: &mut [u32]) -> Answer
-    ensures answer { result ≡ flatten_answer (flatten_final words.now out.old) }
+pub fn flatten(words: &[u32], out: &mut [u32]) -> Result<usize, Refusal>
+    ensures answer { answered result ≡ flatten_answer (flatten_final words.now out.old) }
     ensures output { out.new ≡ flatten_out words.now out.old }
 {
-    match attempt(words, out) {
-        Answer::Done(n) => Answer::Done(n),
-        Answer::Refused(r) => {
-            clear(out);
-            Answer::Refused(r)
-        }
+    let answer = attempt(words, out);
+    if answer.is_err() {
+        clear(out);
     }
+    answer
 }
 
 // The solution and its words; draft and output are not cleared yet.
@@ -59,21 +53,20 @@ fn attempt_solution(
     draft: &mut [u32],
     out: &mut [u32],
     count: u64,
-) -> Counted
+) -> Result<Counted, Refusal>
     ensures answer { AttemptedAt flat_items count (solution_final text.now tree.old draft.old out.old count) out.old out.new result }
     ensures working { tree.new ≡ zeros tree.old }
     ensures body { zeros draft.new ≡ zeros draft.old }
 {
-    match solution_draft(text, tree, draft, out, count) {
-        Drafted::Refused(r) => Counted::Refused(r),
-        Drafted::Done(p, w, next) => {
-            let q = flat(&draft[..w], 0, MAX_NODES, out, p);
-            if out.len() < q.place {
-                return Counted::Refused(7);
-            }
-            Counted::Done(q.place, next)
-        }
+    let made = solution_draft(text, tree, draft, out, count)?;
+    let end = flat(&draft[..made.body], 0, MAX_NODES, out, made.params);
+    if out.len() < end.place {
+        return Err(Refusal::NoRoom);
     }
+    Ok(Counted {
+        words: end.place,
+        count: made.count,
+    })
 }
 
 // The solution that a text begins with, flattened: how many words it has, and the reader's count afterwards; or the number of the refusal,
@@ -85,8 +78,8 @@ pub fn solution(
     draft: &mut [u32],
     out: &mut [u32],
     count: u64,
-) -> Counted
-    ensures answer { result ≡ solution_answer count (solution_final text.now tree.old draft.old out.old count) }
+) -> Result<Counted, Refusal>
+    ensures answer { answered result ≡ solution_answer count (solution_final text.now tree.old draft.old out.old count) }
     ensures working { tree.new ≡ zeros tree.old }
     ensures body { draft.new ≡ zeros draft.old }
     ensures output { out.new ≡ output_of (raised_words flat_items count) (solution_final text.now tree.old draft.old out.old count) out.old }

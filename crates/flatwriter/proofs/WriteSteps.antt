@@ -4,26 +4,39 @@ use mathlib.Core.Bool.{Bool}
 use mathlib.Core.Path.{◌≡◌, refl, sym, ap, ◌∙◌}
 use mathlib.Core.List.{List, [], ◌∷◌, ◌++◌}
 use native.Mathlib.Omega.{arith}
-use lib.ListN.{length, get_or, set}
+use lib.ListN.{length, take, drop}
+use borrow.Rule.Slice.PartMut.{put_mid}
+use Rattle.std.specs.List.{slice_range}
+use Rattle.std.proofs.lemmas.List.{take_at, length-drop}
+use Rattle.reading.specs.Answer.{over}
+use Rattle.writing.specs.Laid.{laid}
+use Rattle.writing.proofs.Laid.{laid-over, length-laid}
 use Rattle.reading.specs.Bytes.{Maybe}
 use Rattle.reading.specs.Tree.{bit}
-use Rattle.reading.proofs.Placed.{at-below, at-word, at_tail}
+use Rattle.reading.proofs.Placed.{at_drop}
 use Rattle.grammar.specs.Sort.{Sort}
 use Rattle.grammar.specs.Item.{words_of}
 use Rattle.grammar.specs.Expr.{Kind, Expr, Exprs, exprs, flag, kind_items, out_sort, expr_items, exprs_items}
 use Rattle.grammar.proofs.Items.{words_append}
 use Rattle.flattening.specs.Uncurry.{join, uncurry, uncurry_all, most_operands, most_operands_all}
 use Rattle.flattening.specs.Flat.{gathered, spine}
-use Rattle.judging.specs.Judge.{Judged, reads, operands_of, arguments_of, sort_if, header, expr_deep}
-use Rattle.judging.specs.Ends.{behind_of, end_of}
+use Rattle.judging.specs.Judge.{reads, operands_of, arguments_of, sort_if, header, expr_deep}
+use Rattle.judging.specs.Ends.{end_of}
+use Rattle.judging.proofs.PlaceBehind.{behind-read}
 use Rattle.heads.specs.Heads.{head_of}
 use Rattle.flattening.specs.Operations.{no_text}
 use Rattle.judging.specs.Spelled.{Spelled}
 use Rattle.writing.specs.Wrote.{most_count, Wrote}
 use Rattle.flatwriter.specs.Writing.{WroteExpr, WroteExprs, Patched, Chained}
-use Rattle.judging.specs.declared.End.{End}
+use Rattle.std.specs.Prelude.{Result}
+use Rattle.std.specs.Result.{result_unwrap_or}
+use Rattle.words.specs.Answered.{answered, told, refused}
+use Rattle.words.specs.declared.refusal.Refusal.{Refusal}
+use denote.Enum.Declared.{tag_of}
+use Rattle.heads.specs.contracts.Header.{the_type}
+use Rattle.heads.specs.declared.Header.{Header}
 use Rattle.heads.specs.declared.Header.TheVariants as head
-use Rattle.flatwriter.specs.declared.Places.{Places}
+use Rattle.words.specs.declared.walked.Walked.{Walked}
 use Rattle.flatwriter.specs.declared.Joined.{Joined}
 use Rattle.judge.proofs.ReadExpr.{siblings, head-operands, head-arguments, head-no}
 use Rattle.flattening.proofs.Uncurry.{exprs-uncurry, exprs-join, items-join, uncurry-join, uncurry-chain, most-join}
@@ -31,7 +44,7 @@ use Rattle.judging.proofs.Spell.{Low, spelled-inside}
 use Rattle.judging.proofs.SpellKind.{operands-spelled, arguments-spelled}
 use Rattle.judging.proofs.SpellExpr.{out-spelled, several-count, exprs-spelled}
 use Rattle.judging.proofs.Taken.{read-no-room, read-no-header, read-operands, read-arguments, read_none, read_more}
-use Rattle.writing.proofs.Wrote.{wrote_none, wrote_seq, wrote-more, wrote_as, wrote-first, wrote-full}
+use Rattle.writing.proofs.Wrote.{wrote_none, wrote_seq, wrote-more, wrote_as}
 use Rattle.flatwriter.proofs.Counted.{wrote_patched}
 
 -- The words of flattened expressions, and their largest count.
@@ -43,44 +56,28 @@ flat_most es = most_operands_all (uncurry_all es)
 
 -- ---- copying
 
--- Words that are still to be copied, and what copying them makes of the whole.
-pub record Left (ws : List ℕ) (i to p : ℕ) (l l₀ : List ℕ) (place : ℕ) (xs : List ℕ) : Type 0 where
-  pub rest : List ℕ
-  pub stands : Spelled ws i to rest
-  pub on : (l' : List ℕ) (r : ℕ) → Wrote l p rest 0 l' r → Wrote l₀ place xs 0 l' r
+-- Laid over the front of words.
+over-front : (ws o : List ℕ) → length ws ≤ length o → over ws o ≡ ws ++ drop (length ws) o
+unfolding over
+over-front [] o h = refl
+over-front (w ∷ ws) [] h = absurd (omega (arith, h))
+over-front (w ∷ ws) (x ∷ o) h = ap (λ (l : List ℕ). w ∷ l) (over-front ws o (omega (arith, h)))
 
-pub left-all : {ws : List ℕ} {from to place : ℕ} {l : List ℕ} (xs : List ℕ) → Spelled ws from to xs → Left ws from to place l l place xs
-left-all xs s = record { rest = xs; stands = s; on = λ l' r w. w }
+-- The part of the words that is copied.
+part-is : {ws xs : List ℕ} {from to : ℕ} → Spelled ws from to xs → slice_range ws from to ≡ xs
+part-is {ws} {xs} {from} {to} s =
+    let e : to - from ≡ length xs = omega (arith, s.ends) in
+    rw (at_drop s.stands, e) (take_at xs s.stands.rest (length xs) refl)
 
--- There is a word left to copy.
-left_word : {P : Type 0} (ws : List ℕ) (i to : ℕ) (ys : List ℕ) → i < to → Spelled ws i to ys → ((y : ℕ) (zs : List ℕ) → ys ≡ y ∷ zs → Spelled ws i to (y ∷ zs) → P) → P
-left_word ws i to [] h s f = absurd (omega (arith, h, s.ends))
-left_word ws i to (y ∷ zs) h s f = f y zs refl s
-
-pub left-next : {ws l l₀ : List ℕ} {i to p place : ℕ} (xs : List ℕ) → i < to → Left ws i to p l l₀ place xs → Left ws (i + 1) to (p + 1) (set l p (get_or ws i 0)) l₀ place xs
-left-next {ws} {l} {l₀} {i} {to} {p} {place} xs h k =
-    left_word ws i to k.rest h k.stands λ y zs e s.
-    record {
-      rest = zs;
-      stands = record { stands = at_tail s.stands; ends = omega (arith, s.ends) };
-      on = λ l' r w. k.on l' r (rw e (wrote-first y zs (rw (at-word s.stands) at w)));
-    }
-
--- Nothing is left, or a word that has no room.
-pub left-none : {ws l l₀ : List ℕ} {i to p place : ℕ} (xs : List ℕ) → to ≤ i → Left ws i to p l l₀ place xs → Wrote l₀ place xs 0 l p
-left-none {ws} {l} {l₀} {i} {to} {p} {place} xs h k = go k.rest refl k.stands
-  where
-    go : (ys : List ℕ) → k.rest ≡ ys → Spelled ws i to ys → Wrote l₀ place xs 0 l p
-    go [] e s = k.on l p (rw e (wrote_none l p))
-    go (y ∷ ys) e s = absurd (omega (arith, h, s.ends))
-
-pub left-full : {ws l l₀ : List ℕ} {i to p place r : ℕ} (xs : List ℕ) → i < to → length l ≤ p → length l < r → Left ws i to p l l₀ place xs → Wrote l₀ place xs 0 l r
-left-full {ws} {l} {i = i} {to = to} {p = p} {r = r} xs h f g k =
-    left_word ws i to k.rest h k.stands λ y zs e s. k.on l r (rw e (wrote-full l p y zs r f g))
-
-pub left-past : {P : Type 0} {ws l l₀ : List ℕ} {i to p place : ℕ} (xs : List ℕ) → i < to → length ws ≤ i → Left ws i to p l l₀ place xs → P
-left-past {ws = ws} {i = i} {to = to} xs h f k =
-    left_word ws i to k.rest h k.stands λ y zs e s. absurd (omega (arith, f, at-below s.stands))
+-- Words that are copied to a place where they have room.
+pub copied-all : {ws xs l part now : List ℕ} {from to place : ℕ} → Spelled ws from to xs → part ≡ slice_range ws from to → now ≡ part → place ≤ length l → length part ≤ length l - place → Wrote l place xs 0 (put_mid place (place + length part - place) l now) (place + length part)
+copied-all {ws} {xs} {l} {part} {now} {from} {to} {place} s p q h k =
+    let e : part ≡ xs = p ∙ part-is s in
+    let n : place + length xs - place ≡ length xs = omega arith in
+    let m : length part ≡ length xs = ap length e in
+    let w : put_mid place (place + length part - place) l now ≡ laid l place xs =
+    rw (q, e, n) (ap (λ (o : List ℕ). take place l ++ o) (sym (over-front xs (drop place l) (omega (arith, length-drop place l, h, k, m)))) ∙ laid-over xs l place) in
+    record { kept = ap length w ∙ length-laid xs l place; fits = λ _. (omega (arith, m), omega arith, w); full = λ f _ _. absurd (omega (arith, f, h, k)) }
 
 -- ---- the words and the largest count of joined expressions
 
@@ -95,14 +92,14 @@ most-joined fs es = sym (ap most_operands_all (uncurry-join fs es) ∙ most-join
 
 module _ (ws l : List ℕ) (at place : ℕ) where
   -- There is no room, or no header: nothing was read.
-  pub flat-no-room : (room : ℕ) {l' : List ℕ} {r : Places} → room ≡ 0 → (e : Expr) (n : ℕ) → expr_deep no_text room ws at ≡ reads e n → WroteExpr l place e n l' r
+  pub flat-no-room : (room : ℕ) {l' : List ℕ} {r : Walked} → room ≡ 0 → (e : Expr) (n : ℕ) → expr_deep no_text room ws at ≡ reads e n → WroteExpr l place e n l' r
   flat-no-room room z e n q = read-no-room no_text ws at room z q
 
-  pub flat-no-header : (room : ℕ) {k : ℕ} {l' : List ℕ} {r : Places} → (room ≡ 0 → ⊥) → head.No k ≡ head_of (header no_text ws at) → (e : Expr) (n : ℕ) → expr_deep no_text room ws at ≡ reads e n → WroteExpr l place e n l' r
+  pub flat-no-header : (room : ℕ) {k : ℕ} {l' : List ℕ} {r : Walked} → (room ≡ 0 → ⊥) → refused k ≡ head_of (header no_text ws at) → (e : Expr) (n : ℕ) → expr_deep no_text room ws at ≡ reads e n → WroteExpr l place e n l' r
   flat-no-header room z h e n q = read-no-header no_text ws at room z (head-no (header no_text ws at) h) q
 
   -- A kind: its own words as they are, then its operands.
-  pub flat-operands : (room : ℕ) {a c p : ℕ} {l₁ l₂ : List ℕ} {r : Places} → (room ≡ 0 → ⊥) → Low ws → c < most_count → head.Operands a c ≡ head_of (header no_text ws at)
+  pub flat-operands : (room : ℕ) {a c p : ℕ} {l₁ l₂ : List ℕ} {r : Walked} → (room ≡ 0 → ⊥) → Low ws → c < most_count → told (head.Operands a c) ≡ head_of (header no_text ws at)
       → ((xs : List ℕ) → Spelled ws at a xs → Wrote l place xs 0 l₁ p)
       → ((es : Exprs) (m : ℕ) → siblings no_text (room - 1) c ws a ≡ reads es m → WroteExprs l₁ p es m l₂ r)
       → (e : Expr) (n : ℕ) → expr_deep no_text room ws at ≡ reads e n → WroteExpr l place e n l₂ r
@@ -121,7 +118,7 @@ module _ (ws l : List ℕ) (at place : ℕ) where
       })
 
   -- An application: three words, of which the last is patched, the joined arguments, the output sort, the head at the end of the chain.
-  pub flat-arguments : (room : ℕ) {a c p q s : ℕ} {f : Bool} {l₁ l₂ l₃ l₄ l₅ : List ℕ} {j : Joined} {r : Places} → (room ≡ 0 → ⊥) → Low ws → head.Arguments a f c ≡ head_of (header no_text ws at)
+  pub flat-arguments : (room : ℕ) {a c p q s : ℕ} {f : Bool} {l₁ l₂ l₃ l₄ l₅ : List ℕ} {j : Joined} {r : Walked} → (room ≡ 0 → ⊥) → Low ws → told (head.Arguments a f c) ≡ head_of (header no_text ws at)
       → ((xs : List ℕ) → Spelled ws at a xs → Wrote l place xs 0 l₁ p)
       → ((es : Exprs) (b : ℕ) (o : Maybe Sort) (d : ℕ) (h : Expr) (m : ℕ) → siblings no_text (room - 1) c ws a ≡ reads es b → sort_if no_text f ws b ≡ reads o d → expr_deep no_text (room - 1) ws d ≡ reads h m → (Chained ws l₁ p (join (gathered h) es) (spine h) m l₂ j) × (j.from ≡ b) × (j.to ≡ d))
       → Patched l₂ p j.count j.place l₃ q
@@ -156,19 +153,20 @@ module _ (ws l : List ℕ) (at place : ℕ) where
 pub record LeftExprs (ws : List ℕ) (room i a p : ℕ) (l l₀ : List ℕ) (place : ℕ) (es : Exprs) (n : ℕ) : Type 0 where
   pub rest : Exprs
   pub there : siblings no_text room i ws a ≡ reads rest n
-  pub on : (l' : List ℕ) (r : Places) → WroteExprs l p rest n l' r → WroteExprs l₀ place es n l' r
+  pub on : (l' : List ℕ) (r : Walked) → WroteExprs l p rest n l' r → WroteExprs l₀ place es n l' r
 
-pub exprs-all : {ws l : List ℕ} {room i at place : ℕ} (es : Exprs) (n : ℕ) → siblings no_text room i ws at ≡ reads es n → LeftExprs ws room i at place l l place es n
-exprs-all es n s = record { rest = es; there = s; on = λ l' r w. w }
+pub exprs-all : {ws l : List ℕ} {room i j at place : ℕ} (es : Exprs) (n : ℕ) → j ≡ i → siblings no_text room i ws at ≡ reads es n → LeftExprs ws room j at place l l place es n
+exprs-all es n e s = record { rest = es; there = rw e s; on = λ l' r w. w }
 
-pub exprs-next : {ws l l₀ l₁ : List ℕ} {room i a p place : ℕ} {r₁ : Places} (es : Exprs) (n : ℕ) → 0 < i → ((e : Expr) (m : ℕ) → expr_deep no_text room ws a ≡ reads e m → WroteExpr l p e m l₁ r₁) → LeftExprs ws room i a p l l₀ place es n → LeftExprs ws room (i - 1) r₁.next r₁.place l₁ l₀ place es n
+pub exprs-next : {ws l l₀ l₁ : List ℕ} {room i a p place : ℕ} {r₁ : Walked} (es : Exprs) (n : ℕ) {i' : ℕ} → i ≡ i' + 1 → ((e : Expr) (m : ℕ) → expr_deep no_text room ws a ≡ reads e m → WroteExpr l p e m l₁ r₁) → LeftExprs ws room i a p l l₀ place es n → LeftExprs ws room i' r₁.next r₁.place l₁ l₀ place es n
 unfolding uncurry expr_items most_operands
-exprs-next {ws} {l} {l₀} {l₁} {room} {i} {a} {p} {place} {r₁} es n h wrote k =
-    read_more (expr_deep no_text room) ws a i h k.there λ f m fs x y t.
+exprs-next {ws} {l} {l₀} {l₁} {room} {i} {a} {p} {place} {r₁} es n {i'} h wrote k =
+    let z : i' ≡ i - 1 = omega (arith, h) in
+    read_more (expr_deep no_text room) ws a i (omega (arith, h)) k.there λ f m fs x y t.
     let w : WroteExpr l p f m l₁ r₁ = wrote f m x in
     record {
       rest = fs;
-      there = rw w.next y;
+      there = rw (w.next, z) y;
       on = λ l' r v. k.on l' r (rw t (record {
         next = v.next;
         words = wrote_as (sym (words_append (expr_items (uncurry f)) (exprs_items (uncurry_all fs)))) refl (wrote_seq (words_of (expr_items (uncurry f))) (flat_words fs) w.words v.words);
@@ -183,23 +181,19 @@ exprs-none {ws} {l} {l₀} {room} {i} {a} {p} {place} es n h k =
 
 -- ---- chains
 
--- The place behind what was read.
-behind-read : {A : Type 0} (x : Judged A) (at : ℕ) {a : A} {n r : ℕ} {e : End} → e ≡ end_of x → r ≡ behind_of e at → x ≡ reads a n → r ≡ n
-behind-read x at q p s = p ∙ rw (q, s) refl
-
 module _ (ws l : List ℕ) (at place : ℕ) where
   -- The arguments that the head brings, then the application's own.
-  pub arguments-joined : (room c : ℕ) (f : Bool) {b' d' : ℕ} {x y : End} {l₁ l₂ : List ℕ} {j r : Joined} {own : Places}
-      → x ≡ end_of (siblings no_text room c ws at) → b' ≡ behind_of x at
-      → y ≡ end_of (sort_if no_text f ws b') → d' ≡ behind_of y b'
+  pub arguments-joined : (room c : ℕ) (f : Bool) (x y : Result ℕ Refusal) {b' d' : ℕ} {l₁ l₂ : List ℕ} {j r : Joined} {own : Walked}
+      → answered x ≡ end_of (siblings no_text room c ws at) → b' ≡ result_unwrap_or x at
+      → answered y ≡ end_of (sort_if no_text f ws b') → d' ≡ result_unwrap_or y b'
       → ((e : Expr) (m : ℕ) → expr_deep no_text room ws d' ≡ reads e m → Chained ws l place (gathered e) (spine e) m l₁ j)
       → ((es : Exprs) (m : ℕ) → siblings no_text room c ws at ≡ reads es m → WroteExprs l₁ j.place es m l₂ own)
       → r.head ≡ j.head → r.room ≡ j.room → r.count ≡ min (j.count + c) most_count → r.place ≡ own.place → r.from ≡ b' → r.to ≡ d'
       → (es : Exprs) (b : ℕ) (o : Maybe Sort) (d : ℕ) (h : Expr) (m : ℕ) → siblings no_text room c ws at ≡ reads es b → sort_if no_text f ws b ≡ reads o d → expr_deep no_text room ws d ≡ reads h m → (Chained ws l place (join (gathered h) es) (spine h) m l₂ r) × (r.from ≡ b) × (r.to ≡ d)
-  arguments-joined room c f {b'} {d'} {x} {y} {l₁} {l₂} {j} {r} {own} ex eb ey ed chained wrote rh rr rc rp rf rt es b o d h m s₁ s₂ s₃ =
-      let p : b' ≡ b = behind-read (siblings no_text room c ws at) at ex eb s₁ in
+  arguments-joined room c f x y {b'} {d'} {l₁} {l₂} {j} {r} {own} ex eb ey ed chained wrote rh rr rc rp rf rt es b o d h m s₁ s₂ s₃ =
+      let p : b' ≡ b = behind-read (siblings no_text room c ws at) x at ex eb s₁ in
       let s₂' : sort_if no_text f ws b' ≡ reads o d = rw p s₂ in
-      let q : d' ≡ d = behind-read (sort_if no_text f ws b') b' ey ed s₂' in
+      let q : d' ≡ d = behind-read (sort_if no_text f ws b') y b' ey ed s₂' in
       let k : Chained ws l place (gathered h) (spine h) m l₁ j = chained h m (rw q s₃) in
       let w : WroteExprs l₁ j.place es b l₂ own = wrote es b s₁ in
       let n : exprs es ≡ c = several-count no_text room c ws at s₁ in (
@@ -216,10 +210,10 @@ module _ (ws l : List ℕ) (at place : ℕ) where
   pub chain-no-room : (room : ℕ) {l' : List ℕ} {r : Joined} → room ≡ 0 → (e : Expr) (m : ℕ) → expr_deep no_text room ws at ≡ reads e m → Chained ws l place (gathered e) (spine e) m l' r
   chain-no-room room z e m q = read-no-room no_text ws at room z q
 
-  pub chain-no-header : (room : ℕ) {k : ℕ} {l' : List ℕ} {r : Joined} → (room ≡ 0 → ⊥) → head.No k ≡ head_of (header no_text ws at) → (e : Expr) (m : ℕ) → expr_deep no_text room ws at ≡ reads e m → Chained ws l place (gathered e) (spine e) m l' r
+  pub chain-no-header : (room : ℕ) {k : ℕ} {l' : List ℕ} {r : Joined} → (room ≡ 0 → ⊥) → refused k ≡ head_of (header no_text ws at) → (e : Expr) (m : ℕ) → expr_deep no_text room ws at ≡ reads e m → Chained ws l place (gathered e) (spine e) m l' r
   chain-no-header room z h e m q = read-no-header no_text ws at room z (head-no (header no_text ws at) h) q
 
-  pub chain_lone : (room : ℕ) {a c : ℕ} {r : Joined} → (room ≡ 0 → ⊥) → head.Operands a c ≡ head_of (header no_text ws at) → r.head ≡ at → r.room ≡ room → r.count ≡ 0 → r.place ≡ place → (e : Expr) (m : ℕ) → expr_deep no_text room ws at ≡ reads e m → Chained ws l place (gathered e) (spine e) m l r
+  chain_lone : (room : ℕ) {a c : ℕ} {r : Joined} → (room ≡ 0 → ⊥) → told (head.Operands a c) ≡ head_of (header no_text ws at) → r.head ≡ at → r.room ≡ room → r.count ≡ 0 → r.place ≡ place → (e : Expr) (m : ℕ) → expr_deep no_text room ws at ≡ reads e m → Chained ws l place (gathered e) (spine e) m l r
   unfolding gathered spine uncurry expr_items most_operands words_of exprs
   chain_lone room {a} {c} {r} z h rh rr rc rp e m q =
       let k : Kind = (head-operands (header no_text ws at) h).0 in
@@ -227,8 +221,12 @@ module _ (ws l : List ℕ) (at place : ℕ) where
       read-operands no_text ws at room z x q λ es s t.
       rw t (record { head = rw (rh, rr) (q ∙ ap (λ i. reads i m) t); count = omega (arith, rc); words = rw rp (wrote_none l place) })
 
+  pub chain-lone : (room : ℕ) (x : Header) {r : Joined} → (room ≡ 0 → ⊥) → told x ≡ head_of (header no_text ws at) → tag_of the_type x ≡ 0 → r.head ≡ at → r.room ≡ room → r.count ≡ 0 → r.place ≡ place → (e : Expr) (m : ℕ) → expr_deep no_text room ws at ≡ reads e m → Chained ws l place (gathered e) (spine e) m l r
+  chain-lone room (head.Operands a c) z h n rh rr rc rp = chain_lone room z h rh rr rc rp
+  chain-lone room (head.Arguments a f c) z h n rh rr rc rp = absurd (omega (arith, n))
+
   -- A head that is an application.
-  pub chain-on : (room : ℕ) {a c : ℕ} {f : Bool} {l' : List ℕ} {r : Joined} → (room ≡ 0 → ⊥) → head.Arguments a f c ≡ head_of (header no_text ws at)
+  pub chain-on : (room : ℕ) {a c : ℕ} {f : Bool} {l' : List ℕ} {r : Joined} → (room ≡ 0 → ⊥) → told (head.Arguments a f c) ≡ head_of (header no_text ws at)
       → ((es : Exprs) (b : ℕ) (o : Maybe Sort) (d : ℕ) (h : Expr) (m : ℕ) → siblings no_text (room - 1) c ws a ≡ reads es b → sort_if no_text f ws b ≡ reads o d → expr_deep no_text (room - 1) ws d ≡ reads h m → (Chained ws l place (join (gathered h) es) (spine h) m l' r) × (r.from ≡ b) × (r.to ≡ d))
       → (e : Expr) (m : ℕ) → expr_deep no_text room ws at ≡ reads e m → Chained ws l place (gathered e) (spine e) m l' r
   unfolding gathered spine

@@ -6,15 +6,15 @@ use Rattle.writing.specs.Wrote.{most_count, Wrote}
 use Rattle.flattening.specs.Uncurry.{uncurry, uncurry_all, most_operands, most_operands_all}
 use Rattle.judging.specs.Judge.{reads, expr_deep}
 use Rattle.flattening.specs.Operations.{no_text}
-use Rattle.flatwriter.specs.declared.Places.{Places}
+use Rattle.words.specs.declared.walked.Walked.{Walked}
 use Rattle.flatwriter.specs.declared.Joined.{Joined}
 
 -- The flattened words of an expression that ends at n, and of several.
-pub record WroteExpr (l : List ℕ) (place : ℕ) (e : Expr) (n : ℕ) (l' : List ℕ) (r : Places) : Type 0 where
+pub record WroteExpr (l : List ℕ) (place : ℕ) (e : Expr) (n : ℕ) (l' : List ℕ) (r : Walked) : Type 0 where
   pub next : r.next ≡ n
   pub words : Wrote l place (words_of (expr_items (uncurry e))) (most_operands (uncurry e)) l' r.place
 
-pub record WroteExprs (l : List ℕ) (place : ℕ) (es : Exprs) (n : ℕ) (l' : List ℕ) (r : Places) : Type 0 where
+pub record WroteExprs (l : List ℕ) (place : ℕ) (es : Exprs) (n : ℕ) (l' : List ℕ) (r : Walked) : Type 0 where
   pub next : r.next ≡ n
   pub words : Wrote l place (words_of (exprs_items (uncurry_all es))) (most_operands_all (uncurry_all es)) l' r.place
 

@@ -16,18 +16,12 @@ ghost use Rattle.flatwriter.specs.Writing.{WroteExpr, WroteExprs, Patched, Chain
 
 use heads::{Header, head};
 use judge::expr_words::{NO_TEXT, exprs_end, out_sort};
-use judging::{End, behind};
+use judging::behind;
 use words::output::put;
+use words::walked::Walked;
 
 // One more than the largest count that a word holds.
 const TOO_MANY: u64 = 4294967296;
-
-// The place behind an expression in the words read, and behind its flattened words in the output.
-#[derive(Clone, Copy)]
-pub struct Places {
-    pub next: usize,
-    pub place: usize,
-}
 
 // A chain of heads: where the head at its end stands, with room there for so many expressions inside one another; how many arguments
 // are joined, and the place behind their words; and from where to where the outermost output sort stands.
@@ -45,20 +39,15 @@ pub struct Joined {
 fn copy(words: &[u32], from: usize, to: usize, out: &mut [u32], place: usize) -> usize
     ensures { (xs : List ℕ) → Spelled words.now from to xs → Wrote out.old place xs 0 out.new result }
 {
-    let mut i = from;
-    let mut p = place;
-    while i < to {
-        if words.len() <= i {
-            return out.len() + 1;
-        }
-        if out.len() <= p {
-            return out.len() + 1;
-        }
-        out[p] = words[i];
-        p += 1;
-        i += 1;
+    let Some(part) = words.get(from..to) else {
+        return out.len() + 1;
+    };
+    if out.len() < place || out.len() - place < part.len() {
+        return out.len() + 1;
     }
-    p
+    let end = place + part.len();
+    out[place..end].copy_from_slice(part);
+    end
 }
 
 // So many arguments more; no count grows past one that is too large.
@@ -66,22 +55,18 @@ fn added(count: u64, n: u32) -> u64
     requires { count ≤ most_count }
     ensures { result ≡ min (count + n) most_count }
 {
-    let sum = count + n as u64;
-    if TOO_MANY < sum {
-        return TOO_MANY;
-    }
-    sum
+    (count + n as u64).min(TOO_MANY)
 }
 
 // The joined count, in front of the place where the arguments begin.
 fn patch(out: &mut [u32], place: usize, count: u64, behind: usize) -> usize
     ensures { Patched out.old place count behind out.new result }
 {
-    if TOO_MANY <= count {
+    let Ok(word) = u32::try_from(count) else {
         return out.len() + 1;
-    }
+    };
     if 0 < place {
-        put(out, place - 1, count as u32);
+        put(out, place - 1, word);
     }
     behind
 }
@@ -92,9 +77,9 @@ fn lone(at: usize, room: u32, place: usize) -> Joined
 {
     Joined {
         head: at,
-        room: room,
+        room,
         count: 0,
-        place: place,
+        place,
         from: at,
         to: at,
     }
@@ -102,49 +87,38 @@ fn lone(at: usize, room: u32, place: usize) -> Joined
 
 // An expression that was judged: its flattened words.
 #[cycle(all_arguments_chain_flat_flats)]
-pub fn flat(words: &[u32], at: usize, room: u32, out: &mut [u32], place: usize) -> Places
+pub fn flat(words: &[u32], at: usize, room: u32, out: &mut [u32], place: usize) -> Walked
     ensures { (e : Expr) (n : ℕ) → expr_deep no_text room words.now at ≡ reads e n → WroteExpr out.old place e n out.new result }
 {
     if room == 0 {
-        return Places {
-            next: at,
-            place: place,
-        };
+        return Walked { next: at, place };
     }
     match head(words, at, NO_TEXT) {
-        Header::Operands(a, n) => {
+        Ok(Header::Operands(a, n)) => {
             let p = copy(words, at, a, out, place);
             flats(words, a, n, room - 1, out, p)
         }
-        Header::Arguments(a, flag, n) => {
+        Ok(Header::Arguments(a, flag, n)) => {
             let p = copy(words, at, a, out, place);
             let c = all_arguments(words, a, flag, n, room - 1, out, p);
             let q = patch(out, p, c.count, c.place);
             let s = copy(words, c.from, c.to, out, q);
             flat(words, c.head, c.room, out, s)
         }
-        Header::No(_) => Places {
-            next: at,
-            place: place,
-        },
+        Err(_) => Walked { next: at, place },
     }
 }
 
 // So many expressions, one after the other.
 #[cycle(all_arguments_chain_flat_flats)]
-fn flats(words: &[u32], at: usize, n: u32, room: u32, out: &mut [u32], place: usize) -> Places
+fn flats(words: &[u32], at: usize, n: u32, room: u32, out: &mut [u32], place: usize) -> Walked
     ensures { (es : Exprs) (m : ℕ) → several (expr_deep no_text room) enil econs n words.now at ≡ reads es m → WroteExprs out.old place es m out.new result }
 {
-    let mut a = at;
-    let mut p = place;
-    let mut i = n;
-    while 0 < i {
-        let r = flat(words, a, room, out, p);
-        a = r.next;
-        p = r.place;
-        i -= 1;
+    let mut walked = Walked { next: at, place };
+    for _ in 0..n {
+        walked = flat(words, walked.next, room, out, walked.place);
     }
-    Places { next: a, place: p }
+    walked
 }
 
 // The arguments of an application, which begin at a place: first those that its head brings, then its own.
@@ -185,8 +159,9 @@ fn chain(words: &[u32], at: usize, room: u32, out: &mut [u32], place: usize) -> 
         return lone(at, room, place);
     }
     match head(words, at, NO_TEXT) {
-        Header::Operands(_, _) => lone(at, room, place),
-        Header::Arguments(a, flag, n) => all_arguments(words, a, flag, n, room - 1, out, place),
-        Header::No(_) => lone(at, room, place),
+        Ok(Header::Arguments(a, flag, n)) => {
+            all_arguments(words, a, flag, n, room - 1, out, place)
+        }
+        _ => lone(at, room, place),
     }
 }

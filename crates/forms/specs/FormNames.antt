@@ -1,18 +1,17 @@
 -- The forms of lists, the theory functions and the bits of a literal, as the code has them.
-use Rattle.std.specs.Prelude.{ℕ, ◌≡◌, [], ◌∷◌}
+use Rattle.std.specs.Prelude.{ℕ, ◌≡◌, [], ◌∷◌, Option, Some, None, Result, Ok, Err}
 use Rattle.reading.specs.Bytes.{Maybe, nothing, just}
 use Rattle.reading.specs.Number.{Wide}
-use Rattle.lexing.specs.Quads.{as_wide}
-use Rattle.reading.specs.Answer.{Ans, got, bad, malformed, bad_literal}
+use Rattle.words.specs.declared.quad.Quad.{Quad}
+use Rattle.words.specs.declared.refusal.Refusal.{Refusal}
+use Rattle.words.specs.Quads.{as_quad}
+use Rattle.words.specs.Refusals.{refusal_of}
+use Rattle.reading.specs.Answer.{Ans, got, bad}
 use Rattle.grammar.specs.Item.{plain}
 use Rattle.grammar.specs.Expr.{Kind, kind_items}
 use Rattle.grammar.specs.Names.{Form, fixed, many, cast, exists, let_in, lit, minus, is_ctor, apply}
 use Rattle.forms.specs.declared.keywords.Form.{Form as Code}
 use Rattle.forms.specs.declared.keywords.Form.TheVariants as code
-use Rattle.forms.specs.declared.theory.Theory.{Theory}
-use Rattle.forms.specs.declared.theory.Theory.TheVariants as theory
-use Rattle.forms.specs.declared.literal.Bits.{Bits}
-use Rattle.forms.specs.declared.literal.Bits.TheVariants as bits
 
 -- A kind of one word, and a fixed number of operands.
 pub record IsOne (f : Form) (a n : ℕ) : Type 0 where
@@ -46,12 +45,11 @@ FormIs f code.IsCtor = f ≡ is_ctor
 FormIs f code.Apply = f ≡ apply
 
 -- The number of a theory function.
-abbrev pub theory_in : Theory → Maybe ℕ
-theory_in (theory.Is n) = just n
-theory_in theory.No = nothing
+abbrev pub theory_in : Option ℕ → Maybe ℕ
+theory_in (Some n) = just n
+theory_in None = nothing
 
--- The value of a literal: 8 where it does not begin with `#b`, 11 for other bits.
-abbrev pub bits_in : Bits → Ans Wide
-bits_in (bits.Is q) = got (as_wide q)
-bits_in bits.Bad = bad bad_literal
-bits_in bits.No = bad malformed
+-- The value of a literal, or why there is none.
+abbrev pub as_bits : Ans Wide → Result Quad Refusal
+as_bits (got w) = Ok (as_quad w)
+as_bits (bad e) = Err (refusal_of e)

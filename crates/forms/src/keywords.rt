@@ -23,7 +23,7 @@ pub enum Form {
     Apply,
 }
 
-// The keywords, in the order of the source.
+// The keywords, in the order of the source. A chain of tests in parts, for the reasons that theory.rt gives.
 pub fn form_named(name: &[u8]) -> Form
     ensures { FormIs (or_else_form (begins_with (ascii "is$") name.now) (lookup keywords name.now)) result }
 {

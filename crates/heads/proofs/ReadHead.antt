@@ -5,20 +5,21 @@ use mathlib.Core.List.{List, [], ◌∷◌}
 use native.Mathlib.Omega.{arith}
 use lib.ListN.{length, get_or}
 use lib.Dec.{eqb, ltb}
-use borrow.Author.Tests.{lt-ltb, le-ltb}
+use borrow.Author.Tests.{lt-ltb, le-ltb, eqb-true, eqb-false}
+use mathlib.Core.Logic.{◌⊎◌, inl, inr}
+use mathlib.Core.Bool.{Bool, true, false}
 use Rattle.reading.specs.Pick.{pick}
 use Rattle.reading.specs.Bytes.{Span, nothing}
 use Rattle.reading.specs.Answer.{not_words}
 use Rattle.grammar.specs.Expr.{op_add, op_sub, op_mul, op_div, op_mod, rel_eq, rel_ne, rel_gt, rel_ge, rel_lt, rel_le, VarName, Binder, Kind, k_bin, k_atom, k_and, k_or, k_bool, k_str, k_fresh, k_named, k_let, k_theory, k_is_ctor, k_exists, k_let_fresh}
 use Rattle.grammar.specs.Scope.{var_of}
-use Rattle.judging.specs.declared.End.{End}
-use Rattle.judging.specs.declared.End.TheVariants as end
+use Rattle.words.specs.Answered.{Answered, told, refused}
 use Rattle.heads.specs.declared.Header.{Header}
-use Rattle.heads.specs.declared.Header.TheVariants.{Operands, Arguments, No}
+use Rattle.heads.specs.declared.Header.TheVariants.{Operands, Arguments}
 use Rattle.judging.specs.Judge.{Judged, reads, fails, FromWords, Plan, go_on, ret, fail, plan, among, word, word_below, choose, two_words, four_words, several, span_within, name_within, binders_at, kinds, header}
 use Rattle.judging.specs.Ends.{end_of}
 use Rattle.heads.specs.Heads.{head_of, operands_at}
-use Rattle.judging.proofs.ReadFields.{any_words, ends-ret, word_in, word_out}
+use Rattle.judging.proofs.ReadFields.{any_words, ends-ret, word_in, word_out, There, there-reads}
 
 -- Operands behind fields, of whatever kind these make.
 fields : {A : Type 0} (x : Judged A) (f : A → Kind) (n : ℕ) (ws : List ℕ) → operands_at (end_of x) n ≡ head_of (go_on x (λ a. plan (f a) n) ws)
@@ -79,8 +80,8 @@ alike (reads n m) ws = refl
 alike (fails r) ws = refl
 
 -- The fields of each kind.
-module _ (limit : ℕ) (ws : List ℕ) (at : ℕ) {e : End} {r : Header} where
-  behind : (x : End) (n : ℕ) → e ≡ x → r ≡ operands_at e n → r ≡ operands_at x n
+module _ (limit : ℕ) (ws : List ℕ) (at : ℕ) {e : Answered ℕ} {r : Answered Header} where
+  behind : (x : Answered ℕ) (n : ℕ) → e ≡ x → r ≡ operands_at e n → r ≡ operands_at x n
   behind x n q o = o ∙ ap (λ y. operands_at y n) q
 
   pub at_32 : e ≡ end_of (any_words 4 ws at) → r ≡ operands_at e 0 → r ≡ head_of (choose 32 (kinds limit) 32 ws at)
@@ -134,79 +135,86 @@ module _ (limit : ℕ) (ws : List ℕ) (at : ℕ) {e : End} {r : Header} where
   at_52 q o = behind (end_of (any_words 2 ws at)) 2 q o ∙ numbered ws at k_let_fresh 2
 
 module _ (limit : ℕ) (ws : List ℕ) (at : ℕ) where
-  pub at_38 : {r : Header} → r ≡ head_of (choose 32 (kinds 0) 38 ws at) → r ≡ head_of (choose 32 (kinds limit) 38 ws at)
+  pub at_38 : {r : Answered Header} → r ≡ head_of (choose 32 (kinds 0) 38 ws at) → r ≡ head_of (choose 32 (kinds limit) 38 ws at)
   unfolding choose kinds pick
   at_38 q = q
 
-  pub at_42 : {r : Header} → r ≡ head_of (choose 32 (kinds 0) 42 ws at) → r ≡ head_of (choose 32 (kinds limit) 42 ws at)
+  pub at_42 : {r : Answered Header} → r ≡ head_of (choose 32 (kinds 0) 42 ws at) → r ≡ head_of (choose 32 (kinds limit) 42 ws at)
   unfolding choose kinds pick
   at_42 q = q
 
-  pub at_43 : {r : Header} → r ≡ head_of (choose 32 (kinds 0) 42 ws at) → r ≡ head_of (choose 32 (kinds limit) 43 ws at)
+  pub at_43 : {r : Answered Header} → r ≡ head_of (choose 32 (kinds 0) 42 ws at) → r ≡ head_of (choose 32 (kinds limit) 43 ws at)
   unfolding choose kinds pick
   at_43 q = q ∙ alike (word ws at) ws
 
   -- Kinds that have no fields.
-  pub at_39 : Operands at 1 ≡ head_of (choose 32 (kinds limit) 39 ws at)
+  pub at_39 : told (Operands at 1) ≡ head_of (choose 32 (kinds limit) 39 ws at)
   unfolding choose kinds pick
   at_39 = refl
 
-  pub at_41 : Operands at 3 ≡ head_of (choose 32 (kinds limit) 41 ws at)
+  pub at_41 : told (Operands at 3) ≡ head_of (choose 32 (kinds limit) 41 ws at)
   unfolding choose kinds pick
   at_41 = refl
 
-  pub at_44 : Operands at 1 ≡ head_of (choose 32 (kinds limit) 44 ws at)
+  pub at_44 : told (Operands at 1) ≡ head_of (choose 32 (kinds limit) 44 ws at)
   unfolding choose kinds pick
   at_44 = refl
 
-  pub at_45 : Operands at 2 ≡ head_of (choose 32 (kinds limit) 45 ws at)
+  pub at_45 : told (Operands at 2) ≡ head_of (choose 32 (kinds limit) 45 ws at)
   unfolding choose kinds pick
   at_45 = refl
 
-  pub at_46 : Operands at 2 ≡ head_of (choose 32 (kinds limit) 46 ws at)
+  pub at_46 : told (Operands at 2) ≡ head_of (choose 32 (kinds limit) 46 ws at)
   unfolding choose kinds pick
   at_46 = refl
 
 -- Operands behind fields.
-pub fields-end : {e : End} {a : ℕ} (n : ℕ) → e ≡ end.At a → Operands a n ≡ operands_at e n
+pub fields-end : {e : Answered ℕ} {a : ℕ} (n : ℕ) → e ≡ told a → told (Operands a n) ≡ operands_at e n
 fields-end n q = rw q refl
 
-pub fields-no : {e : End} {r : ℕ} (n : ℕ) → e ≡ end.No r → No r ≡ operands_at e n
+pub fields-no : {e : Answered ℕ} {r : ℕ} (n : ℕ) → e ≡ refused r → refused r ≡ operands_at e n
 fields-no n q = rw q refl
 
 -- The fields of And, of an application and of Exists, by what the code has tested.
 module _ (ws : List ℕ) (at : ℕ) where
-  pub counted_in : at < length ws → Operands (at + 1) (get_or ws at 0) ≡ head_of (choose 32 (kinds 0) 42 ws at)
+  pub counted_in : {n : ℕ} → There ws at n → told (Operands (at + 1) n) ≡ head_of (choose 32 (kinds 0) 42 ws at)
   unfolding choose kinds pick
-  counted_in h = rw (word_in ws at h) refl
+  counted_in t = rw (there-reads ws at t) refl
 
-  pub counted-out : length ws ≤ at → No 14 ≡ head_of (choose 32 (kinds 0) 42 ws at)
+  pub counted-out : length ws ≤ at → refused 14 ≡ head_of (choose 32 (kinds 0) 42 ws at)
   unfolding choose kinds pick
   counted-out h = rw (word_out ws at h) refl
 
-  pub arguments_in : at < length ws → get_or ws at 0 < 2 → at + 1 < length ws → Arguments (at + 1 + 1) (eqb (get_or ws at 0) 1) (get_or ws (at + 1) 0) ≡ head_of (choose 32 (kinds 0) 38 ws at)
+  pub arguments_in : {n : ℕ} → n ≡ length ws - at → 2 ≤ n → get_or ws at 0 ≤ 1 → told (Arguments (at + 2) (eqb (get_or ws at 0) 1) (get_or ws (at + 1) 0)) ≡ head_of (choose 32 (kinds 0) 38 ws at)
   unfolding choose kinds pick word_below
-  arguments_in h l k = rw (word_in ws at h, lt-ltb (get_or ws at 0) 2 l, word_in ws (at + 1) k) refl
+  arguments_in e h l =
+      let z : at + 2 ≡ at + 1 + 1 = omega arith in
+      rw (z, word_in ws at (omega (arith, e, h)), lt-ltb (get_or ws at 0) 2 (omega (arith, l)), word_in ws (at + 1) (omega (arith, e, h))) refl
 
-  pub arguments-half : at < length ws → get_or ws at 0 < 2 → length ws ≤ at + 1 → No 14 ≡ head_of (choose 32 (kinds 0) 38 ws at)
-  unfolding choose kinds pick word_below
-  arguments-half h l k = rw (word_in ws at h, lt-ltb (get_or ws at 0) 2 l, word_out ws (at + 1) k) refl
-
-  pub arguments-no : at < length ws → 2 ≤ get_or ws at 0 → No 14 ≡ head_of (choose 32 (kinds 0) 38 ws at)
+  pub arguments-no : at < length ws → 1 < get_or ws at 0 → refused 14 ≡ head_of (choose 32 (kinds 0) 38 ws at)
   unfolding choose kinds pick word_below
   arguments-no h l = rw (word_in ws at h, le-ltb (get_or ws at 0) 2 l) refl
 
-  pub arguments-out : length ws ≤ at → No 14 ≡ head_of (choose 32 (kinds 0) 38 ws at)
+  arguments-half : (t : Bool) → length ws ≤ at + 1 → at < length ws → ltb (get_or ws at 0) 2 ≡ t → refused 14 ≡ head_of (choose 32 (kinds 0) 38 ws at)
   unfolding choose kinds pick word_below
-  arguments-out h = rw (word_out ws at h) refl
+  arguments-half true k h l = rw (word_in ws at h, l, word_out ws (at + 1) k) refl
+  arguments-half false k h l = rw (word_in ws at h, l) refl
 
-  pub quantified_in : (limit : ℕ) {e : End} {r : Header} → at < length ws → e ≡ end_of (binders_at limit (get_or ws at 0) ws (at + 1)) → r ≡ operands_at e 1 → r ≡ head_of (choose 32 (kinds limit) 51 ws at)
+  pub arguments-short : {n : ℕ} → n ≡ length ws - at → n < 2 → refused 14 ≡ head_of (choose 32 (kinds 0) 38 ws at)
+  unfolding choose kinds pick word_below
+  arguments-short e h = go (length ws - at) refl (omega (arith, e, h))
+    where
+      go : (m : ℕ) → length ws - at ≡ m → m < 2 → refused 14 ≡ head_of (choose 32 (kinds 0) 38 ws at)
+      go zero f l = rw (word_out ws at (omega (arith, f))) refl
+      go (suc m) f l = arguments-half (ltb (get_or ws at 0) 2) (omega (arith, f, l)) (omega (arith, f)) refl
+
+  pub quantified_in : (limit : ℕ) {n : ℕ} {e : Answered ℕ} {r : Answered Header} → There ws at n → e ≡ end_of (binders_at limit n ws (at + 1)) → r ≡ operands_at e 1 → r ≡ head_of (choose 32 (kinds limit) 51 ws at)
   unfolding choose kinds pick
-  quantified_in limit h q o =
-      let bs : Judged (List Binder) = binders_at limit (get_or ws at 0) ws (at + 1) in
-      rw (word_in ws at h) (o ∙ ap (λ y. operands_at y 1) q ∙ fields bs k_exists 1 ws)
+  quantified_in limit {n} t q o =
+      let bs : Judged (List Binder) = binders_at limit n ws (at + 1) in
+      rw (there-reads ws at t) (o ∙ ap (λ y. operands_at y 1) q ∙ fields bs k_exists 1 ws)
 
-  pub quantified-out : (limit : ℕ) → length ws ≤ at → No 14 ≡ head_of (choose 32 (kinds limit) 51 ws at)
+  pub quantified-out : (limit : ℕ) → length ws ≤ at → refused 14 ≡ head_of (choose 32 (kinds limit) 51 ws at)
   unfolding choose kinds pick
   quantified-out limit h = rw (word_out ws at h) refl
 
@@ -222,21 +230,34 @@ next h z = omega (arith, h, z)
 
 -- A header: no word, no kind, a kind.
 module _ (limit : ℕ) (ws : List ℕ) (at : ℕ) where
-  pub head-out : length ws ≤ at → No 14 ≡ head_of (header limit ws at)
+  pub head-out : length ws ≤ at → refused 14 ≡ head_of (header limit ws at)
   unfolding header
   head-out h = rw (word_out ws at h) refl
 
-  pub head-low : at < length ws → get_or ws at 0 < 32 → No 14 ≡ head_of (header limit ws at)
-  unfolding header choose pick
-  head-low h l = rw (word_in ws at h, lt-ltb (get_or ws at 0) 32 l) refl
+  -- By its word, k.
+  module _ {k : ℕ} (there : There ws at k) where
+    pub head-kind : (j : ℕ) {r : Answered Header} → k ≡ j → r ≡ head_of (choose 32 (kinds limit) j ws (at + 1)) → r ≡ head_of (header limit ws at)
+    unfolding header
+    head-kind j e q = rw (there-reads ws at there, e) q
 
-  pub head-high : at < length ws → 53 ≤ get_or ws at 0 → No 14 ≡ head_of (header limit ws at)
-  unfolding header choose pick kinds
-  head-high h l =
-      let low : 32 ≤ get_or ws at 0 = omega (arith, l) in
-      let far : 21 ≤ get_or ws at 0 - 32 = omega (arith, l) in
-      rw (word_in ws at h, le-ltb (get_or ws at 0) 32 low, past (kinds limit) (get_or ws at 0 - 32) far) refl
+    -- Before the first kind and behind the last one.
+    pub head-low : k < 32 → refused 14 ≡ head_of (header limit ws at)
+    unfolding header choose pick
+    head-low l = rw (there-reads ws at there, lt-ltb k 32 l) refl
 
-  pub head-kind : (k : ℕ) {r : Header} → at < length ws → get_or ws at 0 ≡ k → r ≡ head_of (choose 32 (kinds limit) k ws (at + 1)) → r ≡ head_of (header limit ws at)
-  unfolding header
-  head-kind k h e q = rw (word_in ws at h, e) q
+    pub head-high : 53 ≤ k → refused 14 ≡ head_of (header limit ws at)
+    unfolding header choose pick kinds
+    head-high l = rw (there-reads ws at there, le-ltb k 32 (omega (arith, l)), past (kinds limit) (k - 32) (omega (arith, l))) refl
+
+    -- One of two kinds.
+    pub head-either : (i j : ℕ) {r : Answered Header} → k ≡ i ⊎ k ≡ j → r ≡ head_of (choose 32 (kinds limit) i ws (at + 1)) → r ≡ head_of (choose 32 (kinds limit) j ws (at + 1)) → r ≡ head_of (header limit ws at)
+    head-either i j (inl e) p q = head-kind i e p
+    head-either i j (inr e) p q = head-kind j e q
+
+    -- One of two kinds that follow one another.
+    pub head-next : (i : ℕ) {r : Answered Header} → i ≤ k → k < i + 2 → r ≡ head_of (choose 32 (kinds limit) i ws (at + 1)) → r ≡ head_of (choose 32 (kinds limit) (i + 1) ws (at + 1)) → r ≡ head_of (header limit ws at)
+    head-next i {r} l h p q = go (eqb k i) refl
+      where
+        go : (t : Bool) → eqb k i ≡ t → r ≡ head_of (header limit ws at)
+        go true e = head-kind i (eqb-true k i e) p
+        go false e = head-kind (i + 1) (omega (arith, l, h, eqb-false k i e)) q

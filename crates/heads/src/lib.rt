@@ -4,127 +4,108 @@
 ghost use Rattle.std.specs.Prelude.{◌≡◌, [], ◌∷◌, ◌≤◌, length};
 ghost use Rattle.judging.specs.Judge.{word, word_below, choose, kinds, header, several};
 ghost use Rattle.judging.specs.Ends.{end_of};
+ghost use Rattle.words.specs.Answered.{answered};
 ghost use Rattle.heads.specs.Heads.{head_of, operands_at};
 
-use judging::End;
 use sortwords::{binders_end, span_end};
 use words::expr_kinds::{
     AND, APP, ATOM, BINARY, BIT_VEC, BOOLEAN, EXISTS, FRESH, IF, IFF, IMP, IS_CTOR, LET, LET_FRESH,
     NAMED, NEG, NOT, NUMERAL, OR, STRING, THEORY,
 };
+use words::refusal::Refusal;
 
 // What the kind and the fields of an expression say: the place behind them, and how many operands follow; or, of an application, whether
-// an output sort follows its arguments and how many these are; or a refusal.
+// an output sort follows its arguments and how many these are.
 #[derive(Clone, Copy)]
 pub enum Header {
     Operands(usize, u32),
     Arguments(usize, bool, u32),
-    No(u32),
 }
 
 // So many words of any value.
-fn skip(words: &[u32], at: usize, n: usize) -> End
+fn skip(words: &[u32], at: usize, n: usize) -> Result<usize, Refusal>
     requires { at ≤ length words.now }
-    ensures { result ≡ end_of (several word [] (λ a rest. a ∷ rest) n words.now at) }
+    ensures { answered result ≡ end_of (several word [] (λ a rest. a ∷ rest) n words.now at) }
 {
     if words.len() - at < n {
-        return End::No(14);
+        return Err(Refusal::NotWords);
     }
-    End::At(at + n)
+    Ok(at + n)
 }
 
 // A word below a bound.
-fn below(words: &[u32], at: usize, bound: u32) -> End
-    ensures { result ≡ end_of (word_below bound words.now at) }
+fn below(words: &[u32], at: usize, bound: u32) -> Result<usize, Refusal>
+    ensures { answered result ≡ end_of (word_below bound words.now at) }
 {
-    if at < words.len() {
-        if words[at] < bound {
-            return End::At(at + 1);
-        }
+    match words.get(at) {
+        Some(&k) if k < bound => Ok(at + 1),
+        _ => Err(Refusal::NotWords),
     }
-    End::No(14)
 }
 
 // So many operands behind the fields.
-fn operands(fields: End, n: u32) -> Header
-    ensures { result ≡ operands_at fields n }
+fn operands(fields: Result<usize, Refusal>, n: u32) -> Result<Header, Refusal>
+    ensures { answered result ≡ operands_at (answered fields) n }
 {
-    match fields {
-        End::At(a) => Header::Operands(a, n),
-        End::No(r) => Header::No(r),
-    }
+    Ok(Header::Operands(fields?, n))
 }
 
 // The fields of And, kind 42, and of Or: how many operands follow.
-fn counted(words: &[u32], at: usize) -> Header
-    ensures { result ≡ head_of (choose 32 (kinds 0) 42 words.now at) }
+fn counted(words: &[u32], at: usize) -> Result<Header, Refusal>
+    ensures { answered result ≡ head_of (choose 32 (kinds 0) 42 words.now at) }
 {
-    if at < words.len() {
-        return Header::Operands(at + 1, words[at]);
-    }
-    Header::No(14)
+    let Some(&n) = words.get(at) else {
+        return Err(Refusal::NotWords);
+    };
+    Ok(Header::Operands(at + 1, n))
 }
 
 // The fields of an application, kind 38: whether it has an output sort, and how many arguments follow.
-fn arguments(words: &[u32], at: usize) -> Header
-    ensures { result ≡ head_of (choose 32 (kinds 0) 38 words.now at) }
+fn arguments(words: &[u32], at: usize) -> Result<Header, Refusal>
+    ensures { answered result ≡ head_of (choose 32 (kinds 0) 38 words.now at) }
 {
-    if at < words.len() {
-        let f = words[at];
-        let a = at + 1;
-        if f < 2 {
-            if a < words.len() {
-                return Header::Arguments(a + 1, f == 1, words[a]);
-            }
-        }
+    if words.len().saturating_sub(at) < 2 || 1 < words[at] {
+        return Err(Refusal::NotWords);
     }
-    Header::No(14)
+    Ok(Header::Arguments(at + 2, words[at] == 1, words[at + 1]))
 }
 
 // The fields of Exists, kind 51: how many binders, and these.
-fn quantified(words: &[u32], at: usize, limit: u64) -> Header
-    ensures { result ≡ head_of (choose 32 (kinds limit) 51 words.now at) }
+fn quantified(words: &[u32], at: usize, limit: u64) -> Result<Header, Refusal>
+    ensures { answered result ≡ head_of (choose 32 (kinds limit) 51 words.now at) }
 {
-    if at < words.len() {
-        return operands(binders_end(words, at + 1, words[at], limit), 1);
-    }
-    Header::No(14)
+    let Some(&n) = words.get(at) else {
+        return Err(Refusal::NotWords);
+    };
+    operands(binders_end(words, at + 1, n, limit), 1)
 }
 
 // The kind and the fields of an expression.
-pub fn head(words: &[u32], at: usize, limit: u64) -> Header
-    ensures { result ≡ head_of (header limit words.now at) }
+pub fn head(words: &[u32], at: usize, limit: u64) -> Result<Header, Refusal>
+    ensures { answered result ≡ head_of (header limit words.now at) }
 {
-    if words.len() <= at {
-        return Header::No(14);
-    }
-    let k = words[at];
+    let Some(&k) = words.get(at) else {
+        return Err(Refusal::NotWords);
+    };
     let a = at + 1;
-    if k < NUMERAL {
-        return Header::No(14);
-    }
     match k {
         NUMERAL => operands(skip(words, a, 4), 0),
         BOOLEAN => operands(below(words, a, 2), 0),
-        STRING => operands(span_end(words, a, limit), 0),
+        STRING | NAMED => operands(span_end(words, a, limit), 0),
         BIT_VEC => operands(skip(words, a, 5), 0),
         FRESH => operands(skip(words, a, 2), 0),
-        NAMED => operands(span_end(words, a, limit), 0),
         APP => arguments(words, a),
-        NEG => Header::Operands(a, 1),
+        NEG | NOT => Ok(Header::Operands(a, 1)),
         BINARY => operands(below(words, a, 5), 2),
-        IF => Header::Operands(a, 3),
-        AND => counted(words, a),
-        OR => counted(words, a),
-        NOT => Header::Operands(a, 1),
-        IMP => Header::Operands(a, 2),
-        IFF => Header::Operands(a, 2),
+        IF => Ok(Header::Operands(a, 3)),
+        AND | OR => counted(words, a),
+        IMP | IFF => Ok(Header::Operands(a, 2)),
         ATOM => operands(below(words, a, 6), 2),
         LET => operands(span_end(words, a, limit), 2),
         THEORY => operands(below(words, a, 42), 0),
         IS_CTOR => operands(span_end(words, a, limit), 1),
         EXISTS => quantified(words, a, limit),
         LET_FRESH => operands(skip(words, a, 2), 2),
-        _ => Header::No(14),
+        _ => Err(Refusal::NotWords),
     }
 }

@@ -8,4 +8,7 @@ pub mod SpellSort
 pub mod SpellKind
 pub mod SpellExpr
 pub mod Taken
+pub mod Missed
+pub mod Exits
 pub mod SolutionParts
+pub mod PlaceBehind

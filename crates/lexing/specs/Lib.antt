@@ -1,3 +1,4 @@
+pub mod Found
 pub mod Next
 pub mod Quads
 pub mod TokenWords

@@ -1,6 +1,5 @@
--- ASCII characters; what may follow a byte, and how many bytes a character takes, as the code has them.
-use Rattle.std.specs.Prelude.{ℕ, ◌+◌, ◌≤◌, Bool, true, false, ◌&&◌, ◌≡◌, List, [], ◌∷◌, ltb, eqb, length, drop}
-use Rattle.reading.specs.Pick.{pick}
+-- ASCII characters; what may follow a byte, and where a character ends, as the code has them.
+use Rattle.std.specs.Prelude.{ℕ, ◌<◌, ◌≤◌, Bool, true, false, ◌&&◌, ◌≡◌, List, [], ◌∷◌, ltb, length, drop, Option, Some, None}
 use Rattle.reading.specs.Utf8.{Expected, first, inside, wrong, well_formed}
 use Rattle.lexing.specs.declared.utf8.Next.{Next}
 use Rattle.lexing.specs.declared.utf8.Next.TheVariants.{First, Inside, Wrong}
@@ -15,7 +14,7 @@ expected First = first
 expected (Inside lo hi n) = inside lo hi n
 expected Wrong = wrong
 
--- Where such bytes are expected at a place, a character ends with the next n bytes; or n is 0, and the text is not UTF-8.
-pub record CharacterEnds (e : Expected) (text : List ℕ) (at n : ℕ) : Type 0 where
-  pub follows : well_formed e (drop at text) ≡ pick (eqb n 0) false (well_formed first (drop (at + n) text))
-  pub fits : at + n ≤ length text
+-- Where such bytes are expected at a place, a character ends before a later one; or the text is not UTF-8.
+abbrev pub CharacterEnds : Expected → List ℕ → ℕ → Option ℕ → Type 0
+CharacterEnds e text at (Some next) = (at < next) × (next ≤ length text) × (well_formed e (drop at text) ≡ well_formed first (drop next text))
+CharacterEnds e text at None = well_formed e (drop at text) ≡ false

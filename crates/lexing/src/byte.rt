@@ -1,6 +1,7 @@
 // Byte strings compared with one another, and found in a text.
-ghost use Rattle.std.specs.Prelude.{◌≡◌, ◌+◌, ◌≤◌, length, drop};
-ghost use Rattle.reading.specs.Bytes.{same_bytes, begins_with, before, starts_with};
+ghost use Rattle.std.specs.Prelude.{◌≡◌, ◌≤◌, length};
+ghost use Rattle.reading.specs.Bytes.{same_bytes, begins_with, starts_with};
+ghost use Rattle.lexing.specs.Found.{FoundAt};
 
 // Whether two slices hold the same bytes. Names of one length often begin alike, so the last bytes are compared first.
 pub fn same(a: &[u8], b: &[u8]) -> bool
@@ -17,12 +18,10 @@ pub fn same(a: &[u8], b: &[u8]) -> bool
     if a[last] != b[last] {
         return false;
     }
-    let mut i = 0;
-    while i < last {
+    for i in 0..last {
         if a[i] != b[i] {
             return false;
         }
-        i += 1;
     }
     true
 }
@@ -38,17 +37,15 @@ pub fn begins_with(w: &[u8], s: &[u8]) -> bool
     same(w, &s[0..n])
 }
 
-// The place of the first such byte from `from` on, or the text's end.
-pub fn find(text: &[u8], from: usize, byte: u8) -> usize
+// The place of the first such byte from `from` on.
+pub fn find(text: &[u8], from: usize, byte: u8) -> Option<usize>
     requires { from ≤ length text.now }
-    ensures { (result ≡ from + before (starts_with byte) (drop from text.now)) × (result ≤ length text.now) }
+    ensures { FoundAt (starts_with byte) text.now from result }
 {
-    let mut i = from;
-    while i < text.len() {
+    for i in from..text.len() {
         if text[i] == byte {
-            return i;
+            return Some(i);
         }
-        i += 1;
     }
-    i
+    None
 }

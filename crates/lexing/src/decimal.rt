@@ -5,30 +5,24 @@ ghost use Rattle.reading.specs.Decimal.{leading_digits, some_digits, is_exponent
 
 use crate::integer::sign_bytes;
 use crate::number::is_digit;
-use words::number::byte_to_long;
 
 // How many digits stand in front.
 fn leading_digits(t: &[u8]) -> usize
     ensures { (result ≡ leading_digits t.now) × (result ≤ length t.now) }
 {
-    let mut i = 0;
-    while i < t.len() {
-        if !is_digit(10, byte_to_long(t[i])) {
+    for (i, &b) in t.iter().enumerate() {
+        if !is_digit(10, b as u64) {
             return i;
         }
-        i += 1;
     }
-    i
+    t.len()
 }
 
 // Whether the bytes are digits, at least one.
 fn some_digits(t: &[u8]) -> bool
     ensures { result ≡ some_digits t.now }
 {
-    if t.len() == 0 {
-        return false;
-    }
-    leading_digits(t) == t.len()
+    t.len() != 0 && leading_digits(t) == t.len()
 }
 
 // Whether the bytes are an optional sign and digits.
@@ -43,17 +37,11 @@ fn signed_digits(t: &[u8]) -> bool
 fn is_exponent(t: &[u8]) -> bool
     ensures { result ≡ is_exponent t.now }
 {
-    if t.len() == 0 {
-        return true;
+    match t {
+        [] => true,
+        [b'e' | b'E', behind @ ..] => signed_digits(behind),
+        _ => false,
     }
-    let b = t[0];
-    if b == b'e' {
-        return signed_digits(&t[1..]);
-    }
-    if b == b'E' {
-        return signed_digits(&t[1..]);
-    }
-    false
 }
 
 // Whether n digits in front and the bytes behind them are a decimal.
@@ -66,15 +54,9 @@ fn is_fraction(t: &[u8], n: usize) -> bool
     }
     if t[n] == b'.' {
         let m = leading_digits(&t[n + 1..]);
-        if n + m == 0 {
-            return false;
-        }
-        return is_exponent(&t[n + 1 + m..]);
+        return n + m != 0 && is_exponent(&t[n + 1 + m..]);
     }
-    if n == 0 {
-        return false;
-    }
-    is_exponent(&t[n..])
+    n != 0 && is_exponent(&t[n..])
 }
 
 // Whether the bytes are a decimal without a sign.

@@ -2,31 +2,12 @@
 ghost use Rattle.std.specs.Prelude.{◌≡◌, ◌^◌, ◌≤◌, length};
 ghost use Rattle.reading.specs.Bytes.{just};
 ghost use Rattle.reading.specs.Number.{value_of, is_digit, digits, below, plus_bytes, unsigned as unsignedOf};
-ghost use Rattle.lexing.specs.Quads.{as_wide, as_mag, as_word32, as_word64, QuickOf};
+ghost use Rattle.words.specs.Quads.{as_wide};
+ghost use Rattle.lexing.specs.Quads.{as_mag, as_word, QuickOf};
 
-use crate::quad::{Quad, grow, quad_of};
-use words::number::{WORD, byte_to_long};
-
-// A number below 2^128, or none.
-#[derive(Clone, Copy)]
-pub enum Mag {
-    Is(Quad),
-    No,
-}
-
-// A number of 32 bits, or none.
-#[derive(Clone, Copy)]
-pub enum Word32 {
-    Is(u32),
-    No,
-}
-
-// A number of 64 bits, or none.
-#[derive(Clone, Copy)]
-pub enum Word64 {
-    Is(u64),
-    No,
-}
+use crate::quad::grow;
+use words::number::words_to_long;
+use words::quad::Quad;
 
 // A number of 64 bits, none, or a number that may be longer.
 #[derive(Clone, Copy)]
@@ -40,14 +21,12 @@ enum Quick {
 const LAST: u64 = 1844674407370955160;
 
 // Whether a byte is a digit.
+#[tactic(auto, unfolding(reading::specs::Number::is_digit, reading::specs::Pick::pick))]
 pub fn is_digit(base: u64, b: u64) -> bool
     requires { base ≤ 10 }
     ensures { result ≡ is_digit base b }
 {
-    if b < 48 {
-        return false;
-    }
-    b < 48 + base
+    48 <= b && b < 48 + base
 }
 
 // The number that the digits give, where it is found to fit 64 bits.
@@ -59,79 +38,65 @@ fn short_digits(t: &[u8], base: u64) -> Quick
         return Quick::No;
     }
     let mut v = 0;
-    let mut i = 0;
-    while i < t.len() {
-        let b = byte_to_long(t[i]);
-        if !is_digit(base, b) {
+    for &b in t {
+        if !is_digit(base, b as u64) {
             return Quick::No;
         }
         if LAST < v {
             return Quick::Long;
         }
-        v = base * v + (b - 48);
-        i += 1;
+        v = base * v + u64::from(b - b'0');
     }
     Quick::Is(v)
 }
 
 // The number that the digits give, in four words from the start.
-fn long_digits(t: &[u8], base: u64) -> Mag
+fn long_digits(t: &[u8], base: u64) -> Option<Quad>
     requires { (1 ≤ base) × (base ≤ 10) }
     ensures { result ≡ as_mag (below (2 ^ 128) (digits base t.now)) }
 {
     if t.len() == 0 {
-        return Mag::No;
+        return None;
     }
-    let mut q = Quad {
-        a: 0,
-        b: 0,
-        c: 0,
-        d: 0,
-    };
-    let mut i = 0;
-    while i < t.len() {
-        let b = byte_to_long(t[i]);
-        if !is_digit(base, b) {
-            return Mag::No;
+    let mut q = Quad::from(0);
+    for &b in t {
+        if !is_digit(base, b as u64) {
+            return None;
         }
-        let g = grow(q, base, b - 48);
+        let g = grow(q, base, u64::from(b - b'0'));
         if g.over != 0 {
-            return Mag::No;
+            return None;
         }
         q = g.q;
-        i += 1;
     }
-    Mag::Is(q)
+    Some(q)
 }
 
 // The number that the digits give, below 2^128.
-pub fn magnitude(t: &[u8], base: u64) -> Mag
+pub fn magnitude(t: &[u8], base: u64) -> Option<Quad>
     requires { (1 ≤ base) × (base ≤ 10) }
     ensures { result ≡ as_mag (below (2 ^ 128) (digits base t.now)) }
 {
-    let n = short_digits(t, base);
-    match n {
-        Quick::Is(v) => Mag::Is(quad_of(v)),
-        Quick::No => Mag::No,
+    match short_digits(t, base) {
+        Quick::Is(v) => Some(Quad::from(v)),
+        Quick::No => None,
         Quick::Long => long_digits(t, base),
     }
 }
 
 // How many bytes a `+` takes in front.
+#[tactic(auto, unfolding(reading::specs::Number::plus_bytes, reading::specs::Pick::pick))]
 pub fn plus_bytes(t: &[u8]) -> usize
     ensures { (result ≡ plus_bytes t.now) × (result ≤ length t.now) }
 {
-    if t.len() == 0 {
-        return 0;
+    match t {
+        [b'+', ..] => 1,
+        _ => 0,
     }
-    if t[0] == b'+' {
-        return 1;
-    }
-    0
 }
 
 // An optional `+` and digits, below 2^128.
-pub fn unsigned(t: &[u8], base: u64) -> Mag
+pub fn unsigned(t: &[u8], base: u64) -> Option<Quad>
     requires { (1 ≤ base) × (base ≤ 10) }
     ensures { result ≡ as_mag (unsignedOf base (2 ^ 128) t.now) }
 {
@@ -139,53 +104,26 @@ pub fn unsigned(t: &[u8], base: u64) -> Mag
     magnitude(&t[k..], base)
 }
 
-// The number of four words, where it has 32 bits.
-fn low_word(q: Quad) -> Word32
-    ensures { result ≡ as_word32 (below (2 ^ 32) (just (value_of (as_wide q)))) }
-{
-    if q.d != 0 {
-        return Word32::No;
-    }
-    if q.c != 0 {
-        return Word32::No;
-    }
-    if q.b != 0 {
-        return Word32::No;
-    }
-    Word32::Is(q.a)
-}
-
 // The number of four words, where it has 64 bits.
-fn low_words(q: Quad) -> Word64
-    ensures { result ≡ as_word64 (below (2 ^ 64) (just (value_of (as_wide q)))) }
+fn low_words(q: Quad) -> Option<u64>
+    ensures { result ≡ as_word (below (2 ^ 64) (just (value_of (as_wide q)))) }
 {
-    if q.d != 0 {
-        return Word64::No;
+    if q.c != 0 || q.d != 0 {
+        return None;
     }
-    if q.c != 0 {
-        return Word64::No;
-    }
-    Word64::Is((q.a as u64) + WORD * (q.b as u64))
+    Some(words_to_long(q.a, q.b))
 }
 
 // An optional `+` and decimal digits, of 32 bits.
-pub fn u32_of(t: &[u8]) -> Word32
-    ensures { result ≡ as_word32 (unsignedOf 10 (2 ^ 32) t.now) }
+pub fn u32_of(t: &[u8]) -> Option<u32>
+    ensures { result ≡ as_word (unsignedOf 10 (2 ^ 32) t.now) }
 {
-    let m = unsigned(t, 10);
-    match m {
-        Mag::Is(q) => low_word(q),
-        Mag::No => Word32::No,
-    }
+    u32::try_from(u64_of(t)?).ok()
 }
 
 // An optional `+` and decimal digits, of 64 bits.
-pub fn u64_of(t: &[u8]) -> Word64
-    ensures { result ≡ as_word64 (unsignedOf 10 (2 ^ 64) t.now) }
+pub fn u64_of(t: &[u8]) -> Option<u64>
+    ensures { result ≡ as_word (unsignedOf 10 (2 ^ 64) t.now) }
 {
-    let m = unsigned(t, 10);
-    match m {
-        Mag::Is(q) => low_words(q),
-        Mag::No => Word64::No,
-    }
+    low_words(unsigned(t, 10)?)
 }

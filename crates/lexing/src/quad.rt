@@ -1,18 +1,11 @@
 // 128-bit numbers as four words.
 ghost use Rattle.std.specs.Prelude.{◌≡◌, ◌+◌, ◌*◌, ◌^◌, ◌≤◌, ◌<◌};
-ghost use Rattle.reading.specs.Number.{wide_of, value_of, minus_of};
-ghost use Rattle.lexing.specs.Quads.{as_quad, as_wide, Grows};
+ghost use Rattle.reading.specs.Number.{minus_of};
+ghost use Rattle.words.specs.Quads.{as_quad, as_wide};
+ghost use Rattle.lexing.specs.Quads.{Grows};
 
 use words::number::WORD;
-
-// The words of a 128-bit number, lowest first.
-#[derive(Clone, Copy)]
-pub struct Quad {
-    pub a: u32,
-    pub b: u32,
-    pub c: u32,
-    pub d: u32,
-}
+use words::quad::Quad;
 
 // A word, and what is carried to the next one.
 #[derive(Clone, Copy)]
@@ -26,18 +19,6 @@ struct Limb {
 pub struct Grown {
     pub q: Quad,
     pub over: u64,
-}
-
-// The words of a 64-bit number.
-pub fn quad_of(n: u64) -> Quad
-    ensures { result ≡ as_quad (wide_of n) }
-{
-    Quad {
-        a: (n % WORD) as u32,
-        b: (n / WORD) as u32,
-        c: 0,
-        d: 0,
-    }
 }
 
 // m times a word, and k more.

@@ -3,78 +3,49 @@ ghost use Rattle.std.specs.Prelude.{◌≡◌, ◌+◌, ◌≤◌, ◌<◌, leng
 ghost use Rattle.reading.specs.Bytes.{before};
 ghost use Rattle.reading.specs.Space.{is_white, char_bytes, char_at, space_bytes, ends_atom};
 
-use words::number::byte_to_word;
-
 // Whether a character is white space.
+#[tactic(auto, unfolding(reading::specs::Space::is_white, reading::specs::Pick::pick))]
 fn is_white(c: u32) -> bool
     ensures { result ≡ is_white c }
 {
-    if c < 9 {
-        return false;
+    match c {
+        9..=13
+        | 32
+        | 0x85
+        | 0xa0
+        | 0x1680
+        | 0x2000..=0x200a
+        | 0x2028
+        | 0x2029
+        | 0x202f
+        | 0x205f
+        | 0x3000 => true,
+        _ => false,
     }
-    if c <= 13 {
-        return true;
-    }
-    if c == 32 {
-        return true;
-    }
-    if c == 0x85 {
-        return true;
-    }
-    if c == 0xa0 {
-        return true;
-    }
-    if c == 0x1680 {
-        return true;
-    }
-    if c < 0x2000 {
-        return false;
-    }
-    if c <= 0x200a {
-        return true;
-    }
-    if c == 0x2028 {
-        return true;
-    }
-    if c == 0x2029 {
-        return true;
-    }
-    if c == 0x202f {
-        return true;
-    }
-    if c == 0x205f {
-        return true;
-    }
-    c == 0x3000
 }
 
-// How many bytes the character has that a byte begins; 0 for a byte inside a character.
+// How many bytes the character has that a byte begins; 0 for a byte inside a character, as the definition has it.
+#[tactic(auto, unfolding(reading::specs::Space::char_bytes, reading::specs::Pick::pick))]
 fn char_bytes(b: u8) -> usize
     ensures { result ≡ char_bytes b }
 {
-    if b < 0x80 {
-        return 1;
+    match b {
+        0..=0x7f => 1,
+        0x80..=0xbf => 0,
+        0xc0..=0xdf => 2,
+        0xe0..=0xef => 3,
+        _ => 4,
     }
-    if b < 0xc0 {
-        return 0;
-    }
-    if b < 0xe0 {
-        return 2;
-    }
-    if b < 0xf0 {
-        return 3;
-    }
-    4
 }
 
 // The byte at a place as a number, or 0 behind the text.
 fn byte_at(text: &[u8], i: usize) -> u32
     ensures { (result ≡ get_or text.now i 0) × (result < 256) }
 {
-    if i < text.len() {
-        return byte_to_word(text[i]);
+    match text.get(i) {
+        Some(&b) => u32::from(b),
+        None => 0,
     }
-    0
 }
 
 // The character that begins at a place.
@@ -99,101 +70,57 @@ fn char_at(text: &[u8], at: usize) -> u32
 }
 
 // How many bytes the white space character at a place has, by its decoded character.
+// Never inlined, so that its lone caller is small enough to be inlined itself.
+#[inline(never)]
 fn decoded_space(text: &[u8], at: usize) -> usize
     requires { at < length text.now }
     ensures { result ≡ space_bytes (drop at text.now) }
 {
     let n = char_bytes(text[at]);
-    if text.len() - at < n {
-        return 0;
+    if n <= text.len() - at && is_white(char_at(text, at)) {
+        n
+    } else {
+        0
     }
-    if is_white(char_at(text, at)) {
-        return n;
-    }
-    0
 }
 
-// Whether the character with the number of a byte is white space.
-fn white_byte(b: u8) -> bool
-    ensures { result ≡ is_white b }
-{
-    if b < 9 {
-        return false;
-    }
-    if b <= 13 {
-        return true;
-    }
-    if b == 32 {
-        return true;
-    }
-    if b == 0x85 {
-        return true;
-    }
-    if b == 0xa0 {
-        return true;
-    }
-    false
-}
-
-// How many bytes the white space character at a place has; 0 where none is there. Bytes inside
+// How many bytes the white space character at a place has; 0 where none is there, as the definition has it. Bytes inside
 // characters and first bytes that begin no white space are told apart without decoding.
 pub fn space_bytes(text: &[u8], at: usize) -> usize
     requires { at < length text.now }
     ensures { result ≡ space_bytes (drop at text.now) }
 {
     let b = text[at];
-    if b == b' ' {
-        return 1;
-    }
+    // Two tests in front tell most bytes: one match on all takes two instructions a byte more of reading.
     if (b' ' < b) & (b < 0x80) {
         return 0;
     }
+    if b == b' ' {
+        return 1;
+    }
     if b < 0x80 {
-        if white_byte(b) {
-            return 1;
-        }
-        return 0;
+        return usize::from(is_white(u32::from(b)));
     }
-    if b < 0xc0 {
-        return 0;
+    match b {
+        0xc0..=0xc2 | 0xe0..=0xe3 | 0xf0..=0xff => decoded_space(text, at),
+        _ => 0,
     }
-    if b < 0xc3 {
-        return decoded_space(text, at);
-    }
-    if b < 0xe0 {
-        return 0;
-    }
-    if b < 0xe4 {
-        return decoded_space(text, at);
-    }
-    if b < 0xf0 {
-        return 0;
-    }
-    decoded_space(text, at)
 }
 
-// Whether an atom ends before a place. The bytes that most often go on inside one, and the blank that most often ends one, are told first.
+// Whether an atom ends before a place.
 fn ends_atom(text: &[u8], at: usize) -> bool
     requires { at < length text.now }
     ensures { result ≡ ends_atom (drop at text.now) }
 {
     let b = text[at];
+    // One test in front tells most bytes that go on inside an atom, as above.
     if (b')' < b) & (b < 0x80) {
         return false;
     }
-    if b == b' ' {
-        return true;
+    match b {
+        b' ' | b'(' | b')' | b'"' => true,
+        _ => space_bytes(text, at) != 0,
     }
-    if b == b'(' {
-        return true;
-    }
-    if b == b')' {
-        return true;
-    }
-    if b == b'"' {
-        return true;
-    }
-    space_bytes(text, at) != 0
 }
 
 // The place where the atom ends that stands from `from` on.
@@ -201,12 +128,10 @@ pub fn atom_end(text: &[u8], from: usize) -> usize
     requires { from ≤ length text.now }
     ensures { (result ≡ from + before ends_atom (drop from text.now)) × (result ≤ length text.now) }
 {
-    let mut i = from;
-    while i < text.len() {
+    for i in from..text.len() {
         if ends_atom(text, i) {
             return i;
         }
-        i += 1;
     }
-    i
+    text.len()
 }

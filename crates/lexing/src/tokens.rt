@@ -10,7 +10,6 @@ ghost use Rattle.lexing.specs.TokenWords.{as_coded, span_coded, quoted_at, symbo
 use crate::byte::{find, same};
 use crate::decimal::is_decimal;
 use crate::integer::integer;
-use crate::number::Mag;
 use crate::space::{atom_end, space_bytes};
 use words::output::{put, put_three};
 use words::tree_kinds::{BOOLEAN, DECIMAL, INTEGER, QUOTED, SYMBOL};
@@ -66,14 +65,13 @@ fn number_or_symbol(t: &[u8], start: usize) -> Coded
     ensures { result ≡ as_coded (or_decimal (integer_of t.now) (is_decimal t.now)
         (record { start = start; len = length t.now })) }
 {
-    if t.len() != 0 {
-        if b'9' < t[0] {
+    if let [first, ..] = t {
+        if *first > b'9' {
             return spanned(SYMBOL, start, t.len());
         }
     }
-    let m = integer(t);
-    match m {
-        Mag::Is(q) => Coded {
+    match integer(t) {
+        Some(q) => Coded {
             count: 5,
             words: Words {
                 a: INTEGER,
@@ -83,12 +81,8 @@ fn number_or_symbol(t: &[u8], start: usize) -> Coded
                 e: q.d,
             },
         },
-        Mag::No => {
-            if is_decimal(t) {
-                return spanned(DECIMAL, start, t.len());
-            }
-            spanned(SYMBOL, start, t.len())
-        }
+        None if is_decimal(t) => spanned(DECIMAL, start, t.len()),
+        None => spanned(SYMBOL, start, t.len()),
     }
 }
 
@@ -127,13 +121,11 @@ fn quoted(text: &[u8], at: usize) -> Token
     requires { (length text.now ≤ max_bytes) × (at < length text.now) }
     ensures { result ≡ as_token at (quoted_at at (drop (at + 1) text.now)) }
 {
-    let e = find(text, at + 1, b'"');
-    if text.len() <= e {
+    let Some(e) = find(text, at + 1, b'"') else {
         return Token::Unfinished;
-    }
+    };
     let w = spanned(QUOTED, at + 1, e - (at + 1));
-    let words = w.words;
-    Token::Leaf(e + 1, w.count, words)
+    Token::Leaf(e + 1, w.count, w.words)
 }
 
 // An `@` at a place, a symbol up to the next `)`.
@@ -141,13 +133,11 @@ fn at_sign(text: &[u8], at: usize) -> Token
     requires { (length text.now ≤ max_bytes) × (at < length text.now) }
     ensures { result ≡ as_token at (symbol_at at (drop (at + 1) text.now)) }
 {
-    let e = find(text, at + 1, b')');
-    if text.len() <= e {
+    let Some(e) = find(text, at + 1, b')') else {
         return Token::Unfinished;
-    }
+    };
     let w = spanned(SYMBOL, at, e + 1 - at);
-    let words = w.words;
-    Token::Leaf(e + 1, w.count, words)
+    Token::Leaf(e + 1, w.count, w.words)
 }
 
 // What stands at a place.
@@ -155,27 +145,21 @@ pub fn token_at(text: &[u8], at: usize) -> Token
     requires { (length text.now ≤ max_bytes) × (at < length text.now) }
     ensures { result ≡ as_token at (token_at at (get_or text.now at 0) (drop (at + 1) text.now)) }
 {
-    let b = text[at];
-    if b == b'(' {
-        return Token::Opens;
+    match text[at] {
+        b'(' => Token::Opens,
+        b')' => Token::Closes,
+        b'"' => quoted(text, at),
+        b'@' => at_sign(text, at),
+        _ => {
+            let n = space_bytes(text, at);
+            if n != 0 {
+                return Token::Blank(at + n);
+            }
+            let e = atom_end(text, at + 1);
+            let w = atom(&text[at..e], at);
+            Token::Leaf(e, w.count, w.words)
+        }
     }
-    if b == b')' {
-        return Token::Closes;
-    }
-    if b == b'"' {
-        return quoted(text, at);
-    }
-    if b == b'@' {
-        return at_sign(text, at);
-    }
-    let n = space_bytes(text, at);
-    if n != 0 {
-        return Token::Blank(at + n);
-    }
-    let e = atom_end(text, at + 1);
-    let w = atom(&text[at..e], at);
-    let words = w.words;
-    Token::Leaf(e, w.count, words)
 }
 
 // The first n of the words of an atom, written to an output.

@@ -13,84 +13,56 @@ enum Next {
 }
 
 // What may follow a character's first byte.
+#[tactic(auto, unfolding(reading::specs::Utf8::after_first, reading::specs::Pick::pick))]
 fn after_first(b: u8) -> Next
     ensures { expected result ≡ after_first b }
 {
-    if b <= 0x7f {
-        return Next::First;
+    match b {
+        0..=0x7f => Next::First,
+        0xc2..=0xdf => Next::Inside(0x80, 0xbf, 0),
+        0xe0 => Next::Inside(0xa0, 0xbf, 1),
+        0xe1..=0xec | 0xee | 0xef => Next::Inside(0x80, 0xbf, 1),
+        0xed => Next::Inside(0x80, 0x9f, 1),
+        0xf0 => Next::Inside(0x90, 0xbf, 2),
+        0xf1..=0xf3 => Next::Inside(0x80, 0xbf, 2),
+        0xf4 => Next::Inside(0x80, 0x8f, 2),
+        _ => Next::Wrong,
     }
-    if b <= 0xc1 {
-        return Next::Wrong;
-    }
-    if b <= 0xdf {
-        return Next::Inside(0x80, 0xbf, 0);
-    }
-    if b == 0xe0 {
-        return Next::Inside(0xa0, 0xbf, 1);
-    }
-    if b <= 0xec {
-        return Next::Inside(0x80, 0xbf, 1);
-    }
-    if b == 0xed {
-        return Next::Inside(0x80, 0x9f, 1);
-    }
-    if b <= 0xef {
-        return Next::Inside(0x80, 0xbf, 1);
-    }
-    if b == 0xf0 {
-        return Next::Inside(0x90, 0xbf, 2);
-    }
-    if b <= 0xf3 {
-        return Next::Inside(0x80, 0xbf, 2);
-    }
-    if b == 0xf4 {
-        return Next::Inside(0x80, 0x8f, 2);
-    }
-    Next::Wrong
 }
 
-// How many bytes are left of a character, the next of them from lo to hi and `more` behind it;
-// 0 where one of them is wrong or missing.
-fn rest(text: &[u8], from: usize, lo: u8, hi: u8, more: u8) -> usize
+// The place behind a character whose bytes go on at `from`, the next of them from lo to hi and `more` behind it; none where one of them is
+// wrong or missing.
+fn rest(text: &[u8], from: usize, lo: u8, hi: u8, more: u8) -> Option<usize>
     requires { from ≤ length text.now }
     ensures { CharacterEnds (inside lo hi more) text.now from result }
 {
     let mut low = lo;
     let mut high = hi;
     let mut left = more;
-    let mut i = from;
-    while i < text.len() {
+    for i in from..text.len() {
         let b = text[i];
-        if b < low {
-            return 0;
+        if b < low || high < b {
+            return None;
         }
-        if high < b {
-            return 0;
-        }
-        i += 1;
         if left == 0 {
-            return i - from;
+            return Some(i + 1);
         }
         low = 0x80;
         high = 0xbf;
         left -= 1;
     }
-    0
+    None
 }
 
-// How many bytes the character at a place has; 0 where one of them is wrong or missing.
-fn character(text: &[u8], at: usize) -> usize
+// The place behind the character at a place; none where one of its bytes is wrong or missing.
+fn character(text: &[u8], at: usize) -> Option<usize>
     requires { at < length text.now }
     ensures { CharacterEnds first text.now at result }
 {
-    let next = after_first(text[at]);
-    match next {
-        Next::First => 1,
-        Next::Inside(lo, hi, more) => {
-            let n = rest(text, at + 1, lo, hi, more);
-            if n == 0 { 0 } else { n + 1 }
-        }
-        Next::Wrong => 0,
+    match after_first(text[at]) {
+        Next::First => Some(at + 1),
+        Next::Inside(lo, hi, more) => rest(text, at + 1, lo, hi, more),
+        Next::Wrong => None,
     }
 }
 
@@ -100,14 +72,12 @@ fn ascii_end(text: &[u8], from: usize) -> usize
     ensures { (well_formed first (drop from text.now) ≡ well_formed first (drop result text.now))
         × (from ≤ result) × (result ≤ length text.now) }
 {
-    let mut i = from;
-    while i < text.len() {
-        if 0x80 <= text[i] {
+    for i in from..text.len() {
+        if text[i] >= 0x80 {
             return i;
         }
-        i += 1;
     }
-    i
+    text.len()
 }
 
 // Whether all characters are ASCII ones. No byte ends the loop, so that the compiled one takes many bytes at a time.
@@ -115,10 +85,8 @@ fn is_ascii(text: &[u8]) -> bool
     ensures { result ≡ all_ascii text.now }
 {
     let mut all = true;
-    let mut i = 0;
-    while i < text.len() {
-        all = all & (text[i] < 0x80);
-        i += 1;
+    for &b in text {
+        all = all & (b < 0x80);
     }
     all
 }
@@ -131,12 +99,12 @@ pub fn is_utf8(text: &[u8]) -> bool
         return true;
     }
     let mut i = ascii_end(text, 0);
+    // A cursor and not a `for`: a character has up to four bytes.
     while i < text.len() {
-        let n = character(text, i);
-        if n == 0 {
+        let Some(next) = character(text, i) else {
             return false;
-        }
-        i = ascii_end(text, i + n);
+        };
+        i = ascii_end(text, next);
     }
     true
 }

@@ -1,12 +1,12 @@
 -- The kind that is told of words is the kind that was read from them.
-use Prim.Native.Nat.{ℕ, zero, suc, ◌+◌, ◌-◌, ◌*◌, ◌^◌, ◌≤◌, ◌<◌}
+use Prim.Native.Nat.{ℕ, zero, suc, ◌+◌, ◌-◌, ◌*◌, ◌^◌, ◌≤◌}
 use mathlib.Core.Bool.{Bool, true, false}
 use mathlib.Core.Path.{◌≡◌, refl, sym, ap, ◌∙◌}
 use mathlib.Core.List.{List, [], ◌∷◌}
 use native.Mathlib.Omega.{arith}
 use lib.Dec.{eqb, ltb, leb}
 use lib.ListN.{length, get_or}
-use borrow.Author.Tests.{lt-ltb, le-ltb}
+use borrow.Author.Tests.{le-ltb, ltb-false, eqb-true, eqb-false}
 use Rattle.reading.specs.Pick.{pick}
 use Rattle.reading.specs.Bytes.{Span, nothing}
 use Rattle.reading.specs.Number.{Wide}
@@ -14,9 +14,12 @@ use Rattle.reading.specs.Answer.{not_words}
 use Rattle.grammar.specs.Expr.{VarName, op_add, op_sub, op_mul, op_div, op_mod, rel_eq, rel_ne, rel_gt, rel_ge, rel_lt, rel_le, Kind, k_num, k_bool, k_str, k_bit_vec, k_fresh, k_named, k_bin, k_atom, k_let, k_theory, k_is_ctor, k_exists, k_let_fresh}
 use Rattle.grammar.specs.Scope.{var_of}
 use Rattle.judging.specs.Judge.{reads, FromWords, ◌>>=◌, ret, fail, word, word_below, among, or_fail, choose, two_words, four_words, Plan, operands_of, arguments_of, plan, span_within, name_within, binders_at, kinds, header}
-use Rattle.nodes.specs.Node.{node_of, nodes_at, or_other, node_at}
+use Rattle.words.specs.Quads.{as_quad}
+use Rattle.nodes.specs.Node.{quad_of, node_of, nodes_at, or_other, node_at}
+use Rattle.words.specs.Spans.{told_span}
 use Rattle.nodes.specs.declared.kind.Node.{Node}
 use Rattle.nodes.specs.declared.kind.Node.TheVariants as told
+use Rattle.judging.proofs.Missed.{Missed, before, above}
 use Rattle.judging.proofs.SpellKind.{binders-count}
 use Rattle.judging.proofs.Taken.{never-reads, first_read, same-value, same_end, word_read}
 
@@ -38,14 +41,25 @@ module _ (ws : List ℕ) (at : ℕ) where
   unfolding node_at pick
   told_at k {r} low e q = rw (e, le-ltb k 32 low) q
 
-  pub told-low : get_or ws at 0 < 32 → told.Other ≡ node_at ws at
+  pub told-out : length ws ≤ at → told.Other ≡ node_at ws at
   unfolding node_at pick
-  told-low h = rw (lt-ltb (get_or ws at 0) 32 h) refl
+  told-out h = rw (behind-end ws at h) refl
 
-  pub told-high : 53 ≤ get_or ws at 0 → told.Other ≡ node_at ws at
+  -- None of the kinds: 38 is an application.
+  pub told-rest : Missed (Missed (Unit {0}) (get_or ws at 0) 32 6) (get_or ws at 0) 39 14 → told.Other ≡ node_at ws at
   unfolding node_at nodes_at pick
-  told-high h =
-      rw (le-ltb (get_or ws at 0) 32 (omega (arith, h)), past (nodes_at ws (at + 1)) (get_or ws at 0 - 32) (omega (arith, h))) refl
+  told-rest h = go (ltb w 32) (eqb w 38) refl refl
+    where
+      w : ℕ
+      w = get_or ws at 0
+
+      go : (low app : Bool) → ltb w 32 ≡ low → eqb w 38 ≡ app → told.Other ≡ pick low told.Other (or_other (among (nodes_at ws (at + 1)) (w - 32)))
+      go true app e f = refl
+      go false true e f = rw (eqb-true w 38 f) refl
+      go false false e f =
+          let l : 38 ≤ w = above _ w 32 6 (before _ w 39 14 h) (ltb-false w 32 e) in
+          let k : 53 ≤ w = above _ w 39 14 h (omega (arith, l, eqb-false w 38 f)) in
+          rw (past (nodes_at ws (at + 1)) (w - 32) (omega (arith, k))) refl
 
 -- A value that is kept by a test.
 kept : {A : Type 0} (t : Bool) (a : A) (ws : List ℕ) (at : ℕ) {b : A} {n : ℕ} → pick t (ret a) (fail not_words) ws at ≡ reads b n → b ≡ a
@@ -172,14 +186,14 @@ by-binders limit ws at k n b e =
     first_read (binders_at limit m ws i) _ ws y λ bs j u v.
     ap told.Exists (sym (word_read ws at x).0 ∙ sym (binders-count limit ws i m u)) ∙ ap node_of (plan-kind v)
 
-by_bits : (ws : List ℕ) (at : ℕ) → Tells ws at (four_words >>= λ v. word >>= λ width. plan (k_bit_vec v width) 0) (told.BitVec (get_or ws at 0) (get_or ws (at + 1) 0) (get_or ws (at + 2) 0) (get_or ws (at + 3) 0) (get_or ws (at + 4) 0))
+by_bits : (ws : List ℕ) (at : ℕ) → Tells ws at (four_words >>= λ v. word >>= λ width. plan (k_bit_vec v width) 0) (told.BitVec (quad_of ws at) (get_or ws (at + 4) 0))
 by_bits ws at k n b e =
     first_read (four_words ws at) _ ws e λ v i x y.
     first_read (word ws i) _ ws y λ width j u w.
     let p = four_is ws at x in
     let q = word_read ws i u in
     let z : get_or ws (at + 4) 0 ≡ width = sym (q.0 ∙ ap (λ (m : ℕ). get_or ws m 0) p.1) in
-    rw (z) (ap (λ (o : Wide). told.BitVec o.a o.b o.c o.d width) (sym p.0) ∙ ap node_of (plan-kind w))
+    rw (z) (ap (λ (o : Wide). told.BitVec (as_quad o) width) (sym p.0) ∙ ap node_of (plan-kind w))
 
 by-arguments : (ws : List ℕ) (at : ℕ) (x : Node) → Tells ws at (word_below 2 >>= λ f. word >>= λ m. ret (arguments_of (eqb f 1) m)) x
 by-arguments ws at x k n b e =
@@ -190,17 +204,17 @@ by-arguments ws at x k n b e =
 kinds_tell : (limit : ℕ) (ws : List ℕ) (at : ℕ) → TellAll ws at (kinds limit) (nodes_at ws at)
 unfolding kinds nodes_at
 kinds_tell limit ws at = (
-  by-fields ws at four_words k_num 0 _ (λ v n e. ap (λ (o : Wide). told.Num o.a o.b o.c o.d) (sym (four_is ws at e).0)),
+  by-fields ws at four_words k_num 0 _ (λ v n e. ap (λ (o : Wide). told.Num (as_quad o)) (sym (four_is ws at e).0)),
   (
     by-fields ws at (word_below 2) (λ b. k_bool (eqb b 1)) 0 _ (λ b n e. ap (λ (o : ℕ). told.Bool (eqb o 1)) (sym (below-is ws at 2 e))),
     (
-      by-fields ws at (span_within limit) k_str 0 _ (λ s n e. ap (λ (o : Span). told.Str o.start o.len) (sym (span-is ws at limit e))),
+      by-fields ws at (span_within limit) k_str 0 _ (λ s n e. ap (λ (o : Span). told.Str (told_span o)) (sym (span-is ws at limit e))),
       (
         by_bits ws at,
         (
           by-fields ws at two_words k_fresh 0 _ (λ k n e. ap told.Fresh (sym (two_is ws at e))),
           (
-            by-fields ws at (name_within limit) k_named 0 _ (λ x n e. ap (λ (o : VarName). told.Named o.span.start o.span.len) (sym (name-is ws at limit e))),
+            by-fields ws at (name_within limit) k_named 0 _ (λ x n e. ap (λ (o : VarName). told.Named (told_span o.span)) (sym (name-is ws at limit e))),
             (
               by-arguments ws at _,
               (
@@ -222,11 +236,11 @@ kinds_tell limit ws at = (
                               (
                                 by_number_lem ws at 2 told.Atom (k_atom rel_eq ∷ k_atom rel_ne ∷ k_atom rel_gt ∷ k_atom rel_ge ∷ k_atom rel_lt ∷ k_atom rel_le ∷ []) (refl, (refl, (refl, (refl, (refl, (refl, tt)))))),
                                 (
-                                  by-fields ws at (name_within limit) k_let 2 _ (λ x n e. ap (λ (o : VarName). told.Let o.span.start o.span.len) (sym (name-is ws at limit e))),
+                                  by-fields ws at (name_within limit) k_let 2 _ (λ x n e. ap (λ (o : VarName). told.Let (told_span o.span)) (sym (name-is ws at limit e))),
                                   (
                                     by-fields ws at (word_below 42) k_theory 0 _ (λ k n e. ap told.Theory (sym (below-is ws at 42 e))),
                                     (
-                                      by-fields ws at (name_within limit) k_is_ctor 1 _ (λ x n e. ap (λ (o : VarName). told.IsCtor o.span.start o.span.len) (sym (name-is ws at limit e))),
+                                      by-fields ws at (name_within limit) k_is_ctor 1 _ (λ x n e. ap (λ (o : VarName). told.IsCtor (told_span o.span)) (sym (name-is ws at limit e))),
                                       (
                                         by-binders limit ws at,
                                         (by-fields ws at two_words k_let_fresh 2 _ (λ k n e. ap told.LetFresh (sym (two_is ws at e))), tt),

@@ -6,22 +6,28 @@ use native.Mathlib.Omega.{arith}
 use lib.ListN.{length, take, replicate, length-take}
 use borrow.Author.Tests.{le-leb, lt-leb}
 use Rattle.reading.specs.Tree.{Tree}
-use Rattle.reading.specs.Answer.{Refusal, number, no_room, Ans, got, bad, lifted, Final, accepts, refuses, finish, fits_in, zeros, output_of}
+use Rattle.reading.specs.Answer.{Refusal as Met, number, no_room, Ans, got, bad, lifted, Final, accepts, refuses, finish, fits_in, zeros, output_of}
 use Rattle.reading.proofs.Finish.{finish-short, finish-long}
 use Rattle.grammar.specs.Sort.{Sort, sort_words}
 use Rattle.grammar.specs.ParseSort.{parse_sort}
 use Rattle.grammar.specs.Operations.{the_tree, make_sort, sort_final}
 use Rattle.sorts.specs.Outcome.{IsTree, Outcome, wrote, refused}
-use Rattle.parse.specs.Answers.{said_by, Laid, Attempted}
-use Rattle.words.specs.declared.Answer.{Answer}
-use Rattle.words.specs.declared.Answer.TheVariants.{Done, Refused}
+use Rattle.parse.specs.Answers.{Laid, Attempted}
+use Rattle.std.specs.Prelude.{Result, Ok, Err}
+use Rattle.words.specs.declared.refusal.Refusal.{Refusal}
+use Rattle.words.specs.declared.refusal.Refusal.TheVariants as refusal
+use Rattle.words.specs.Refusals.{number_of, refusal_of}
+use Rattle.words.specs.Answered.{answered, told, refused as answer_refused, sized_by}
+use Rattle.words.proofs.Numbered.{number_told}
+use Rattle.std.specs.Prelude.{is_err}
+use mathlib.Core.Bool.{true, false}
 use Rattle.parse.specs.TreeOf.{TreeIn, NoTree}
 
 module _ (text tree out : List ℕ) where
   abbrev whole : Final Sort
   whole = sort_final text tree out
 
-  no-tree-final : (e : Refusal) → the_tree text tree ≡ bad e → whole ≡ refuses (number e)
+  no-tree-final : (e : Met) → the_tree text tree ≡ bad e → whole ≡ refuses (number e)
   unfolding sort_final make_sort finish
   no-tree-final e p = rw p
 
@@ -30,7 +36,7 @@ module _ (text tree out : List ℕ) where
     unfolding sort_final make_sort
     tree-final = rw p
 
-    bad-final : (e : Refusal) → parse_sort text t ≡ bad e → whole ≡ refuses (number e)
+    bad-final : (e : Met) → parse_sort text t ≡ bad e → whole ≡ refuses (number e)
     unfolding finish
     bad-final e q = tree-final ∙ rw q
 
@@ -50,54 +56,56 @@ is-tree x = record { tree = x.it; words = x.there; small = rw length-take (omega
 
 module _ {text tree out : List ℕ} where
   -- No tree: its refusal.
-  pub without-tree : {n : ℕ} {out' : List ℕ} → NoTree text tree n → Attempted sort_words (sort_final text tree out) out out' (Refused n)
-  without-tree x = let e = no-tree-final text tree out x.why x.is in record { answer = rw e (ap Refused x.tells); left = rw e tt }
+  pub without-tree : {n : Refusal} {out' : List ℕ} → NoTree text tree n → Attempted sort_words (sort_final text tree out) out out' (Err n)
+  without-tree x = let e = no-tree-final text tree out x.why x.is in record { answer = rw e (ap answer_refused x.tells); left = rw e tt }
 
   module _ {tree' : List ℕ} {n : ℕ} (x : TreeIn text tree tree' n) where
-    module _ {out' : List ℕ} {r : Answer} (y : Outcome sort_words (parse_sort text x.it) out out' r) where
-      pub sort-refused : {k : ℕ} → r ≡ Refused k → Attempted sort_words (sort_final text tree out) out out' (Refused k)
+    module _ {out' : List ℕ} {r : Result ℕ Refusal} (y : Outcome sort_words (parse_sort text x.it) out out' r) where
+      pub sort-refused : {k : Refusal} → r ≡ Err k → Attempted sort_words (sort_final text tree out) out out' (Err k)
       sort-refused {k} e = go (parse_sort text x.it) refl y
         where
-          go : (a : Ans Sort) → parse_sort text x.it ≡ a → Outcome sort_words a out out' r → Attempted sort_words (sort_final text tree out) out out' (Refused k)
+          go : (a : Ans Sort) → parse_sort text x.it ≡ a → Outcome sort_words a out out' r → Attempted sort_words (sort_final text tree out) out out' (Err k)
           go (got s) q (wrote c d) = let z : ◌≡◌ {A = ℕ} 0 1 = cc in absurd (omega arith)
-          go (bad w) q (refused c) = let f = bad-final text tree out x.it x.is w q in record { answer = rw f (sym e ∙ c); left = rw f tt }
+          go (bad w) q (refused c) = let f = bad-final text tree out x.it x.is w q in record { answer = rw f (ap answered (sym e ∙ c) ∙ ap answer_refused (number_told w)); left = rw f tt }
 
-      module _ {w : ℕ} (e : r ≡ Done w) where
-        pub sort-short : {n' : ℕ} → n' ≡ length out → n' < w → Attempted sort_words (sort_final text tree out) out out' (Refused 7)
+      module _ {w : ℕ} (e : r ≡ Ok w) where
+        pub sort-short : {n' : ℕ} → n' ≡ length out → n' < w → Attempted sort_words (sort_final text tree out) out out' (Err refusal.NoRoom)
         sort-short {n'} m l = go (parse_sort text x.it) refl y
           where
-            go : (a : Ans Sort) → parse_sort text x.it ≡ a → Outcome sort_words a out out' r → Attempted sort_words (sort_final text tree out) out out' (Refused 7)
+            go : (a : Ans Sort) → parse_sort text x.it ≡ a → Outcome sort_words a out out' r → Attempted sort_words (sort_final text tree out) out out' (Err refusal.NoRoom)
             go (bad u) q (refused c) = let z : ◌≡◌ {A = ℕ} 0 1 = cc in absurd (omega arith)
             go (got s) q (wrote c d) =
                 let k : w ≡ length (sort_words s) = cc in
                 let f = short-final text tree out x.it x.is s q (omega arith) in
                 record { answer = rw f refl; left = rw f tt }
 
-        pub sort-long : {n' : ℕ} → n' ≡ length out → w ≤ n' → Attempted sort_words (sort_final text tree out) out out' (Done w)
+        pub sort-long : {n' : ℕ} → n' ≡ length out → w ≤ n' → Attempted sort_words (sort_final text tree out) out out' (Ok w)
         sort-long {n'} m l = go (parse_sort text x.it) refl y
           where
-            go : (a : Ans Sort) → parse_sort text x.it ≡ a → Outcome sort_words a out out' r → Attempted sort_words (sort_final text tree out) out out' (Done w)
+            go : (a : Ans Sort) → parse_sort text x.it ≡ a → Outcome sort_words a out out' r → Attempted sort_words (sort_final text tree out) out out' (Ok w)
             go (bad u) q (refused c) = let z : ◌≡◌ {A = ℕ} 0 1 = cc in absurd (omega arith)
             go (got s) q (wrote c d) =
                 let k : w ≡ length (sort_words s) = cc in
                 let f = long-final text tree out x.it x.is s q (omega arith) in
-                record { answer = rw f (ap Done k); left = rw f d }
+                record { answer = rw f (ap told k); left = rw f d }
 
-module _ {A : Type 0} {words : A → List ℕ} {f : Final A} {out out' : List ℕ} {r : Answer} (s : Attempted words f out out' r) where
+module _ {A : Type 0} {words : A → List ℕ} {f : Final A} {out out' : List ℕ} where
   -- An accepted call leaves the words.
-  pub kept : {w : ℕ} → r ≡ Done w → (Done w ≡ said_by words f) × (out' ≡ output_of words f out)
+  pub kept : (r : Result ℕ Refusal) → Attempted words f out out' r → is_err r ≡ false → out' ≡ output_of words f out
   unfolding output_of
-  kept {w} e = (sym e ∙ s.answer, go f refl s.left)
+  kept (Err x) s h = cc
+  kept (Ok w) s h = go f s.answer s.left
     where
-      go : (g : Final A) → f ≡ g → Laid words g out out' → out' ≡ output_of words g out
+      go : (g : Final A) → told w ≡ sized_by words g → Laid words g out out' → out' ≡ output_of words g out
       go (accepts a n) q l = l
-      go (refuses k) q l = let a = s.answer in let z : ◌≡◌ {A = ℕ} 0 1 = cc in absurd (omega arith)
+      go (refuses k) q l = cc
 
   -- A refused one is cleared.
-  pub cleared : {n : ℕ} {out'' : List ℕ} → r ≡ Refused n → length out' ≡ length out → out'' ≡ zeros out' → (Refused n ≡ said_by words f) × (out'' ≡ output_of words f out)
+  pub cleared : (r : Result ℕ Refusal) → Attempted words f out out' r → is_err r ≡ true → {out'' : List ℕ} → length out' ≡ length out → out'' ≡ zeros out' → out'' ≡ output_of words f out
   unfolding output_of
-  cleared {n} {out''} e k z = (sym e ∙ s.answer, z ∙ ap (λ (m : ℕ). replicate m 0) k ∙ go f refl)
+  cleared (Ok w) s h k z = cc
+  cleared (Err x) s h k z = z ∙ ap (λ (m : ℕ). replicate m 0) k ∙ go f s.answer
     where
-      go : (g : Final A) → f ≡ g → zeros out ≡ output_of words g out
-      go (accepts a m) q = let b = s.answer in let y : ◌≡◌ {A = ℕ} 0 1 = cc in absurd (omega arith)
+      go : (g : Final A) → answer_refused (number_of x) ≡ sized_by words g → zeros out ≡ output_of words g out
+      go (accepts a m) q = cc
       go (refuses m) q = refl

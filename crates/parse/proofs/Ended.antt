@@ -23,9 +23,14 @@ use Rattle.scopes.specs.Scopes.{slots}
 use Rattle.plans.specs.Plans.{Parsed, wrote, refused, Here}
 use Rattle.plans.specs.Whole.{Whole}
 use Rattle.grammar.specs.Item.{raised_words}
-use Rattle.parse.specs.Answers.{Laid, AttemptedAt, counted_by, finished_by, closed_by}
+use Rattle.parse.specs.Answers.{Laid, AttemptedAt, counted_by, with_count, finished_by, closed_by}
 use Rattle.parse.specs.declared.Counted.{Counted}
-use Rattle.parse.specs.declared.Counted.TheVariants.{Done, Refused}
+use Rattle.std.specs.Prelude.{Result, Ok, Err}
+use Rattle.words.specs.declared.refusal.Refusal.{Refusal}
+use Rattle.words.specs.declared.refusal.Refusal.TheVariants as refusal
+use Rattle.words.specs.Refusals.{number_of, refusal_of}
+use Rattle.words.specs.Answered.{answered, told, refused as answer_refused, sized_by}
+use Rattle.words.proofs.Numbered.{number_told}
 use Rattle.plans.specs.declared.progress.Progress.{Progress}
 use Rattle.grammar.proofs.Raise.{words-raise}
 use Rattle.writing.proofs.Laid.{over-start}
@@ -38,16 +43,16 @@ module _ {A : Type 0} (items : A → List Item) (c : ℕ) (out out' : List ℕ) 
   decided x = finish (λ a. fits_in out (words_of (items a))) c x
 
   -- What was parsed, and then 13 and 7.
-  pub ended : (x : Res A) {b : ℕ} {p : Progress} {room : ℕ} → Parsed (told_of items c x) 0 out out' b p → room ≡ length out → AttemptedAt items c (decided x) out out' (finished_by p c room)
+  pub ended : (x : Res A) {b : ℕ} {p : Result Progress Refusal} {room : ℕ} → Parsed (told_of items c x) 0 out out' b p → room ≡ length out → AttemptedAt items c (decided x) out out' (finished_by p c room)
   unfolding finish pick
-  ended (no e) (refused is) r = rw is (record { answer = refl; left = tt })
+  ended (no e) (refused is) r = rw is (record { answer = ap answer_refused (number_told e); left = tt })
   ended (ok a n) {room = room} (wrote y) r = rw y.is (go (ltb (max_number - c) n) (ltb room (0 + length (words_of (raise c (items a))))) refl refl)
     where
       size : 0 + length (words_of (raise c (items a))) ≡ length (words_of (items a))
       size = zero-add _ ∙ words-raise c (items a)
 
       go : (s t : Bool) → ltb (max_number - c) n ≡ s → ltb room (0 + length (words_of (raise c (items a)))) ≡ t
-          → AttemptedAt items c (decided (ok a n)) out out' (pick s (Refused 13) (pick t (Refused 7) (Done (0 + length (words_of (raise c (items a)))) (c + n))))
+          → AttemptedAt items c (decided (ok a n)) out out' (with_count (λ k. record { words = 0 + length (words_of (raise c (items a))); count = k }) (pick s (Err refusal.NumbersSpent) (pick t (Err refusal.NoRoom) (Ok (c + n)))))
       go true t p q =
           let f : decided (ok a n) ≡ refuses 13 = finish-spent (λ z. fits_in out (words_of (items z))) c a n (omega (arith, ltb-true (max_number - c) n p)) in
           record { answer = rw f refl; left = rw f tt }
@@ -56,17 +61,19 @@ module _ {A : Type 0} (items : A → List Item) (c : ℕ) (out out' : List ℕ) 
           record { answer = rw f refl; left = rw f tt }
       go false false p q =
           let f : decided (ok a n) ≡ accepts a n = finish-long (λ z. fits_in out (words_of (items z))) c a n (omega (arith, ltb-false (max_number - c) n p)) (le-leb (length (words_of (items a))) (length out) (omega (arith, ltb-false room (0 + length (words_of (raise c (items a)))) q, r, size))) in
-          record { answer = rw f (ap (λ k. Done k (c + n)) size); left = rw f (y.words ∙ over-start (words_of (raise c (items a))) out) }
+          record { answer = rw f (ap (λ k. told (record { words = k; count = c + n })) size); left = rw f (y.words ∙ over-start (words_of (raise c (items a))) out) }
 
 -- Slices are cleared.
-module _ {A : Type 0} {items : A → List Item} {c : ℕ} {f : Final A} {out out' : List ℕ} {r : Counted} (s : AttemptedAt items c f out out' r) where
-  pub closed : length out' ≡ length out → closed_by r out' ≡ output_of (raised_words items c) f out
+module _ {A : Type 0} {items : A → List Item} {c : ℕ} {f : Final A} {out out' : List ℕ} where
+  pub closed : {r : Result Counted Refusal} → AttemptedAt items c f out out' r → length out' ≡ length out → closed_by r out' ≡ output_of (raised_words items c) f out
   unfolding output_of
-  closed k = rw s.answer (go f s.left)
+  closed {r} s k = go r f s.answer s.left
     where
-      go : (g : Final A) → Laid (raised_words items c) g out out' → closed_by (counted_by items c g) out' ≡ output_of (raised_words items c) g out
-      go (accepts a n) l = l
-      go (refuses e) l = ap (λ (i : ℕ). replicate i 0) k
+      go : (r : Result Counted Refusal) (g : Final A) → answered r ≡ counted_by items c g → Laid (raised_words items c) g out out' → closed_by r out' ≡ output_of (raised_words items c) g out
+      go (Ok x) (accepts a n) q l = l
+      go (Ok x) (refuses e) q l = cc
+      go (Err x) (accepts a n) q l = cc
+      go (Err x) (refuses e) q l = ap (λ (i : ℕ). replicate i 0) k
 
 -- ---- the tree of the text
 
@@ -110,10 +117,10 @@ module _ (text tree out : List ℕ) (c : ℕ) where
   bind-final t e = rw (bind_from t e)
 
   -- And where there is none.
-  pub expr-none : {k : ℕ} {out' : List ℕ} → NoTree text tree k → AttemptedAt expr_items c (expr_final text tree out c) out out' (Refused k)
+  pub expr-none : {k : Refusal} {out' : List ℕ} → NoTree text tree k → AttemptedAt expr_items c (expr_final text tree out c) out out' (Err k)
   unfolding expr_final make_expr finish
-  expr-none x = rw x.is (record { answer = ap Refused x.tells; left = tt })
+  expr-none x = rw x.is (record { answer = ap answer_refused x.tells; left = tt })
 
-  pub bind-none : {k : ℕ} {out' : List ℕ} → NoTree text tree k → AttemptedAt bind_items c (bind_final text tree out c) out out' (Refused k)
+  pub bind-none : {k : Refusal} {out' : List ℕ} → NoTree text tree k → AttemptedAt bind_items c (bind_final text tree out c) out out' (Err k)
   unfolding bind_final make_bind finish
-  bind-none x = rw x.is (record { answer = ap Refused x.tells; left = tt })
+  bind-none x = rw x.is (record { answer = ap answer_refused x.tells; left = tt })

@@ -10,17 +10,17 @@ use borrow.Author.Tests.{leb-true}
 use Rattle.reading.specs.Tree.{Trees, tree_words, trees_words}
 use Rattle.reading.specs.Answer.{Refusal, number, no_room, Ans, got, bad, lifted, Final, accepts, refuses, finish, fits_in, said_of, over, output_of}
 use Rattle.reading.specs.Reading.{Read, read_text, read_words, read_report, read_final, read_said, read_out}
-use Rattle.text.specs.Answers.{as_answer}
-use Rattle.text.specs.declared.Answer.{Answer}
-use Rattle.text.specs.declared.Answer.TheVariants as Answers
+use Rattle.std.specs.Prelude.{Result, Ok, Err}
+use Rattle.words.specs.declared.refusal.Refusal.{Refusal as Told}
+use Rattle.words.specs.declared.report.Report.{Report}
+use Rattle.words.specs.Refusals.{number_of}
+use Rattle.words.specs.Answered.{heard}
 use Rattle.reading.proofs.Finish.{finish-short, finish-long}
 use Rattle.reading.proofs.Over.{over-fits, over-length}
 use Rattle.reading.proofs.Read.{read-size, read_short}
 use Rattle.reading.proofs.TextTree.{text-tree}
 use Rattle.grammar.specs.ParseSort.{tree_at}
 use Rattle.grammar.specs.Operations.{the_tree}
-use Rattle.words.specs.declared.Answer.{Answer as SaidAnswer}
-use Rattle.words.specs.declared.Answer.TheVariants as Said
 use Rattle.parse.specs.TreeOf.{TreeIn, NoTree, TreeOf}
 
 module _ (text tree : List ℕ) where
@@ -58,40 +58,40 @@ module _ (text tree : List ℕ) where
         small = omega (arith, read-size false text q p, read_short false text q p);
       }
 
-module _ {text tree tree' : List ℕ} {r : Answer} (a : r ≡ as_answer (read_said false text tree)) (o : tree' ≡ read_out false text tree) where
-  pub tree_in : {n m : ℕ} → r ≡ Answers.Accepted n m → TreeIn text tree tree' n
+module _ {text tree tree' : List ℕ} {r : Result Report Told} (a : heard r ≡ read_said false text tree) (o : tree' ≡ read_out false text tree) where
+  pub tree_in : {n : Report} → r ≡ Ok n → TreeIn text tree tree' n.first
   unfolding read_out output_of said_of
-  tree_in {n} {m} e = go (read_text false text) refl
+  tree_in {n} e = go (read_text false text) refl
     where
-      room : (q : Read) → read_text false text ≡ got q → (b : Bool) → fits_in tree (read_words q) ≡ b → TreeIn text tree tree' n
-      room q p false b = let s = said_of_lem text tree (final-short text tree q p b) in let z : ◌≡◌ {A = ℕ} 0 1 = cc in absurd (omega arith)
+      room : (q : Read) → read_text false text ≡ got q → (b : Bool) → fits_in tree (read_words q) ≡ b → TreeIn text tree tree' n.first
+      room q p false b = let s = said_of_lem text tree (final-short text tree q p b) in let h = ap heard (sym e) ∙ a ∙ s in let z : ◌≡◌ {A = ℕ} 0 1 = cc in absurd (omega arith)
       room q p true b =
           let s = said_of_lem text tree (final-long text tree q p b) in
-          let k : n ≡ length (read_words q) = cc in
+          let k : n.first ≡ length (read_words q) = let h : heard (Ok n) ≡ said_of (read_report false) (accepts q 0) = ap heard (sym e) ∙ a ∙ s in cc in
           tree_of text tree q p b (o ∙ rw (final-long text tree q p b) refl) k
 
-      go : (x : Ans Read) → read_text false text ≡ x → TreeIn text tree tree' n
-      go (bad w) p = let s = said_of_lem text tree (final-bad text tree w p) in let z : ◌≡◌ {A = ℕ} 0 1 = cc in absurd (omega arith)
+      go : (x : Ans Read) → read_text false text ≡ x → TreeIn text tree tree' n.first
+      go (bad w) p = let s = said_of_lem text tree (final-bad text tree w p) in let h = ap heard (sym e) ∙ a ∙ s in let z : ◌≡◌ {A = ℕ} 0 1 = cc in absurd (omega arith)
       go (got q) p = room q p (fits_in tree (read_words q)) refl
 
-  pub no-tree : {n : ℕ} → r ≡ Answers.Refused n → NoTree text tree n
+  pub no-tree : {n : Told} → r ≡ Err n → NoTree text tree n
   unfolding said_of the_tree
   no-tree {n} e = go (read_text false text) refl
     where
       room : (q : Read) → read_text false text ≡ got q → (b : Bool) → fits_in tree (read_words q) ≡ b → NoTree text tree n
-      room q p true b = let s = said_of_lem text tree (final-long text tree q p b) in let z : ◌≡◌ {A = ℕ} 0 1 = cc in absurd (omega arith)
-      room q p false b = let s = said_of_lem text tree (final-short text tree q p b) in record { why = no_room; is = rw (p, b) refl; tells = cc }
+      room q p true b = let s = said_of_lem text tree (final-long text tree q p b) in let h = ap heard (sym e) ∙ a ∙ s in let z : ◌≡◌ {A = ℕ} 0 1 = cc in absurd (omega arith)
+      room q p false b = let s = said_of_lem text tree (final-short text tree q p b) in record { why = no_room; is = rw (p, b) refl; tells = let h = ap heard (sym e) ∙ a ∙ s in cc }
 
       go : (x : Ans Read) → read_text false text ≡ x → NoTree text tree n
-      go (bad w) p = let s = said_of_lem text tree (final-bad text tree w p) in record { why = w; is = rw p refl; tells = cc }
+      go (bad w) p = let s = said_of_lem text tree (final-bad text tree w p) in record { why = w; is = rw p refl; tells = let h = ap heard (sym e) ∙ a ∙ s in cc }
       go (got q) p = room q p (fits_in tree (read_words q)) refl
 
 -- ---- the same of what the operations ask for
 
 -- The words of the tree are there.
-pub there-is : {text tree tree' : List ℕ} {r : SaidAnswer} {n : ℕ} → TreeOf text tree tree' r → r ≡ Said.Done n → TreeIn text tree tree' n
-there-is {text} {tree} {tree'} x e = subst (λ (z : SaidAnswer). TreeOf text tree tree' z) e x
+pub there-is : {text tree tree' : List ℕ} {r : Result ℕ Told} {n : ℕ} → TreeOf text tree tree' r → r ≡ Ok n → TreeIn text tree tree' n
+there-is {text} {tree} {tree'} x e = subst (λ (z : Result ℕ Told). TreeOf text tree tree' z) e x
 
 -- There is none.
-pub there-none : {text tree : List ℕ} (tree' : List ℕ) {r : SaidAnswer} {n : ℕ} → TreeOf text tree tree' r → r ≡ Said.Refused n → NoTree text tree n
-there-none {text} {tree} tree' x e = subst (λ (z : SaidAnswer). TreeOf text tree tree' z) e x
+pub there-none : {text tree : List ℕ} (tree' : List ℕ) {r : Result ℕ Told} {n : Told} → TreeOf text tree tree' r → r ≡ Err n → NoTree text tree n
+there-none {text} {tree} tree' x e = subst (λ (z : Result ℕ Told). TreeOf text tree tree' z) e x

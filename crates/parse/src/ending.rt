@@ -1,43 +1,61 @@
 // What an operation that takes fresh numbers decides in the end.
 ghost use Rattle.std.specs.Prelude.{◌≡◌};
 ghost use Rattle.reading.specs.Answer.{zeros};
-ghost use Rattle.parse.specs.Answers.{finished_by, closed_by};
+ghost use Rattle.parse.specs.Answers.{count_on, finished_by, closed_by};
 
 use crate::Counted;
 use plans::progress::Progress;
 use words::limits::MAX_NUMBER;
 use words::output::clear;
+use words::refusal::Refusal;
 
-// 13 if the numbers run out, then 7 if there is room for fewer words.
-pub fn finished(p: Progress, count: u64, room: usize) -> Counted
-    ensures { result ≡ finished_by p count room }
+// The reader's count behind so many words that take so many numbers: 13 if the numbers run out, then 7 if there is room for fewer words.
+pub(crate) fn count_behind(
+    words: usize,
+    fresh: u64,
+    count: u64,
+    room: usize,
+) -> Result<u64, Refusal>
+    ensures { result ≡ count_on words fresh count room }
 {
-    match p {
-        Progress::Refused(e) => Counted::Refused(e),
-        Progress::Done(w, n) => {
-            if MAX_NUMBER - count < n {
-                return Counted::Refused(13);
-            }
-            if room < w {
-                return Counted::Refused(7);
-            }
-            Counted::Done(w, count + n)
-        }
+    if MAX_NUMBER - count < fresh {
+        return Err(Refusal::NumbersSpent);
     }
+    if room < words {
+        return Err(Refusal::NoRoom);
+    }
+    Ok(count + fresh)
+}
+
+// What was parsed, and then 13 and 7.
+pub(crate) fn finished(
+    parsed: Result<Progress, Refusal>,
+    count: u64,
+    room: usize,
+) -> Result<Counted, Refusal>
+    ensures { result ≡ finished_by parsed count room }
+{
+    let end = parsed?;
+    let after = count_behind(end.words, end.next, count, room)?;
+    Ok(Counted {
+        words: end.words,
+        count: after,
+    })
 }
 
 // The working slice is cleared, and the output too after a refusal.
-pub fn close(working: &mut [u32], out: &mut [u32], answer: Counted) -> Counted
+pub fn close<E: Copy>(
+    working: &mut [u32],
+    out: &mut [u32],
+    answer: Result<Counted, E>,
+) -> Result<Counted, E>
     ensures answer { result ≡ answer }
     ensures working { working.new ≡ zeros working.old }
     ensures output { out.new ≡ closed_by answer out.old }
 {
     clear(working);
-    match answer {
-        Counted::Done(w, c) => Counted::Done(w, c),
-        Counted::Refused(n) => {
-            clear(out);
-            Counted::Refused(n)
-        }
+    if answer.is_err() {
+        clear(out);
     }
+    answer
 }

@@ -10,18 +10,17 @@ pub mod solution;
 pub mod sort;
 mod tree;
 
-// How many words there are, and the reader's count afterwards; or the number of the refusal: those of sort, and 9 for a decimal as an
-// expression, 10 for a repeated name in an exists, 11 for the digits of a `lit`, 17 if there are not as many as its size says, 13 if the fresh
-// numbers run out.
+// How many words there are, and the reader's count afterwards.
 #[derive(Clone, Copy)]
-pub enum Counted {
-    Done(usize, u64),
-    Refused(u32),
+pub struct Counted {
+    pub words: usize,
+    pub count: u64,
 }
 
-// How many words the parameters and the body have, and the reader's count afterwards; or the number of the refusal.
+// How many words the parameters and the body have, and the reader's count afterwards.
 #[derive(Clone, Copy)]
-pub enum Drafted {
-    Done(usize, usize, u64),
-    Refused(u32),
+pub struct Drafted {
+    pub params: usize,
+    pub body: usize,
+    pub count: u64,
 }

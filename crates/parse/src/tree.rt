@@ -2,14 +2,12 @@
 ghost use Rattle.parse.specs.TreeOf.{TreeOf};
 
 use text::read_one;
-use words::Answer;
+use words::refusal::Refusal;
 
-// How many words of the tree slice are the tree's, or the number of the refusal; no slice is cleared.
-pub fn tree_of(text: &[u8], tree: &mut [u32]) -> Answer
+// How many words of the tree slice are the tree's; no slice is cleared.
+pub fn tree_of(text: &[u8], tree: &mut [u32]) -> Result<usize, Refusal>
     ensures { TreeOf text.now tree.old tree.new result }
 {
-    match read_one(text, tree) {
-        text::Answer::Refused(n) => Answer::Refused(n),
-        text::Answer::Accepted(words, _) => Answer::Done(words),
-    }
+    let read = read_one(text, tree)?;
+    Ok(read.first)
 }

@@ -13,7 +13,8 @@ use Rattle.reading.specs.Tree.{Tree, Trees, atom, list, tnil, tcons, trees, tree
 use Rattle.grammar.specs.ParseExpr
 use Rattle.grammar.specs.ParseExpr.{atom_child}
 use Rattle.places.specs.Spot.{Spot}
-use Rattle.places.specs.declared.place.Node.{Node}
+use Rattle.std.specs.Prelude.{Option, Some, None}
+use Rattle.places.specs.declared.place.List.{List as ListHere}
 use Rattle.places.proofs.Spots.{word}
 
 -- A list stands at a place: its items stand behind three words, which say what it is, how many items there are, and how many words they have.
@@ -73,18 +74,18 @@ pub record ListNode (ws : List ℕ) (at k f : ℕ) : Type 0 where
   pub many : k ≡ get_or ws (at + 1) 0
   pub first : f ≡ at + 3
 
-module _ (ws : List ℕ) (at : ℕ) {r : Node} (e : r ≡ pick (eqb (get_or ws at 0) 21) (Node.List (get_or ws (at + 1) 0) (at + 3)) Node.Other) where
-  pub node-list : {k f : ℕ} → r ≡ Node.List k f → ListNode ws at k f
+module _ (ws : List ℕ) (at : ℕ) {r : Option ListHere} (e : r ≡ pick (eqb (get_or ws at 0) 21) (Some (record { items = get_or ws (at + 1) 0; first = at + 3 })) None) where
+  pub node-list : {l : ListHere} → r ≡ Some l → ListNode ws at l.items l.first
   unfolding pick
-  node-list {k} {f} h = go (eqb (get_or ws at 0) 21) refl e
+  node-list {l} h = go (eqb (get_or ws at 0) 21) refl e
     where
-      go : (b : Bool) → eqb (get_or ws at 0) 21 ≡ b → r ≡ pick b (Node.List (get_or ws (at + 1) 0) (at + 3)) Node.Other → ListNode ws at k f
-      go true t x = record { kind = eqb-true (get_or ws at 0) 21 t; many = cc; first = cc }
+      go : (b : Bool) → eqb (get_or ws at 0) 21 ≡ b → r ≡ pick b (Some (record { items = get_or ws (at + 1) 0; first = at + 3 })) None → ListNode ws at l.items l.first
+      go true t x = let s : l ≡ record { items = get_or ws (at + 1) 0; first = at + 3 } = cc in record { kind = eqb-true (get_or ws at 0) 21 t; many = ap (λ (k : ListHere). k.items) s; first = ap (λ (k : ListHere). k.first) s }
       go false t x = let z : ◌≡◌ {A = ℕ} 0 1 = cc in absurd (omega arith)
 
-  pub node-other : r ≡ Node.Other → get_or ws at 0 ≡ 21 → ⊥
+  pub node-other : r ≡ None → get_or ws at 0 ≡ 21 → ⊥
   unfolding pick
-  node-other h k = let x : r ≡ Node.List (get_or ws (at + 1) 0) (at + 3) = rw (eq-eqb (get_or ws at 0) 21 k) at e in let z : ◌≡◌ {A = ℕ} 0 1 = cc in omega arith
+  node-other h k = let x : r ≡ Some (record { items = get_or ws (at + 1) 0; first = at + 3 }) = rw (eq-eqb (get_or ws at 0) 21 k) at e in let z : ◌≡◌ {A = ℕ} 0 1 = cc in omega arith
 
 -- An item of a list is made of its tree.
 pub child-tree : (text : List ℕ) (t : Tree) → (ParseExpr.child text t).tree ≡ t

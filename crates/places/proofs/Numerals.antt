@@ -5,8 +5,8 @@ use mathlib.Core.List.{◌∷◌}
 use borrow.Author.Tests.{lt-ltb, le-ltb}
 use Rattle.reading.specs.Pick.{pick}
 use Rattle.reading.specs.Number.{Wide, minus_of, value_of}
-use Rattle.lexing.specs.Quads.{as_quad, as_wide}
-use Rattle.lexing.specs.declared.quad.Quad.{Quad}
+use Rattle.words.specs.Quads.{as_quad, as_wide}
+use Rattle.words.specs.declared.quad.Quad.{Quad}
 use Rattle.reading.specs.Tree.{wide_words}
 use Rattle.grammar.specs.Item.{raise, words_of}
 use Rattle.grammar.specs.Expr.{exprs, expr_items, exprs_items, kind_items}

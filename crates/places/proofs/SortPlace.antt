@@ -7,15 +7,16 @@ use native.Mathlib.Nat.{zero-add}
 use lib.ListN.{length, take, drop}
 use lib.Seq.{take_at}
 use Rattle.reading.specs.Tree.{Tree, tree_words}
-use Rattle.reading.specs.Answer.{Refusal, number, Ans, got, bad}
+use Rattle.reading.specs.Answer.{Refusal as Met, Ans, got, bad}
 use Rattle.grammar.specs.Sort.{Sort, sort_words}
 use Rattle.grammar.specs.ParseSort.{parse_sort}
 use Rattle.sorts.specs.Outcome.{Outcome, wrote, refused}
+use Rattle.words.specs.Refusals.{refusal_of}
 use Rattle.places.specs.Spot.{Spot}
 use Rattle.writing.proofs.Laid.{laid-over}
 use Rattle.places.specs.Outcome.{Put, OutcomeAt, wrote_at, refused_at}
-use Rattle.words.specs.declared.Answer.{Answer}
-use Rattle.words.specs.declared.Answer.TheVariants.{Done, Refused}
+use Rattle.words.specs.declared.refusal.Refusal.{Refusal}
+use Rattle.std.specs.Prelude.{Result, Ok, Err}
 use Rattle.grammar.proofs.AnswerHolds.{Every}
 use Rattle.grammar.proofs.SortOf.{SortOf, sort_of_lem}
 use Rattle.sorts.proofs.Lend.{lent-rest}
@@ -23,13 +24,13 @@ use Rattle.sorts.proofs.Lend.{lent-rest}
 -- ---- what an outcome says
 
 -- No answer is both.
-never : {B : Type 0} {r : Answer} {u e : ℕ} → r ≡ Done u → r ≡ Refused e → B
+never : {B : Type 0} {r : Result ℕ Refusal} {u : ℕ} {e : Refusal} → r ≡ Ok u → r ≡ Err e → B
 never p q = let z : ◌≡◌ {A = ℕ} 0 1 = cc in absurd (omega arith)
 
-same-done : {r : Answer} {u v : ℕ} → r ≡ Done u → r ≡ Done v → u ≡ v
+same-done : {r : Result ℕ Refusal} {u v : ℕ} → r ≡ Ok u → r ≡ Ok v → u ≡ v
 same-done p q = cc
 
-same-refused : {r : Answer} {u v : ℕ} → r ≡ Refused u → r ≡ Refused v → u ≡ v
+same-refused : {r : Result ℕ Refusal} {u v : Refusal} → r ≡ Err u → r ≡ Err v → u ≡ v
 same-refused p q = cc
 
 -- There is a value, and its words are laid.
@@ -39,34 +40,34 @@ pub record GotAt {A : Type 0} (words : A → List ℕ) (a : Ans A) (w : ℕ) (o 
   pub put : Put o w (words value) o' u
 
 -- There is none.
-pub record BadAt {A : Type 0} (a : Ans A) (e : ℕ) : Type 0 where
-  pub why : Refusal
+pub record BadAt {A : Type 0} (a : Ans A) (e : Refusal) : Type 0 where
+  pub why : Met
   pub is : a ≡ bad why
-  pub same : e ≡ number why
+  pub same : e ≡ refusal_of why
 
 module _ {A : Type 0} {words : A → List ℕ} where
-  pub got-at : {a : Ans A} {w u : ℕ} {o o' : List ℕ} {r : Answer} → OutcomeAt words a w o o' r → r ≡ Done u → GotAt words a w o o' u
+  pub got-at : {a : Ans A} {w u : ℕ} {o o' : List ℕ} {r : Result ℕ Refusal} → OutcomeAt words a w o o' r → r ≡ Ok u → GotAt words a w o o' u
   got-at (wrote_at {a} d l) e = record { value = a; is = refl; put = record { is = same-done e d; words = l } }
   got-at (refused_at d) e = never e d
 
-  pub bad-at : {a : Ans A} {w e : ℕ} {o o' : List ℕ} {r : Answer} → OutcomeAt words a w o o' r → r ≡ Refused e → BadAt a e
+  pub bad-at : {a : Ans A} {w : ℕ} {e : Refusal} {o o' : List ℕ} {r : Result ℕ Refusal} → OutcomeAt words a w o o' r → r ≡ Err e → BadAt a e
   bad-at (wrote_at d l) e = never d e
   bad-at (refused_at {e = why} d) e = record { why = why; is = refl; same = same-refused e d }
 
   -- The rest of m from f on was lent, and came back as ys.
-  pub lent-done : {a : Ans A} {w f n : ℕ} {m ys : List ℕ} {r : Answer} → f ≡ min w (length m) → Outcome words a (take (length m - f) (drop f m)) ys r → r ≡ Done n
-      → OutcomeAt words a w m (take f m ++ (ys ++ drop (length m - f) (drop f m))) (Done (w + n))
+  pub lent-done : {a : Ans A} {w f n : ℕ} {m ys : List ℕ} {r : Result ℕ Refusal} → f ≡ min w (length m) → Outcome words a (take (length m - f) (drop f m)) ys r → r ≡ Ok n
+      → OutcomeAt words a w m (take f m ++ (ys ++ drop (length m - f) (drop f m))) (Ok (w + n))
   lent-done {w = w} {f = f} {m = m} {ys = ys} p (wrote {a} d l) e =
-      wrote_at (ap (λ (k : ℕ). Done (w + k)) (same-done e d)) (lent-rest (words a) m ys w f p l ∙ laid-over (words a) m w)
+      wrote_at (ap (λ (k : ℕ). Ok (w + k)) (same-done e d)) (lent-rest (words a) m ys w f p l ∙ laid-over (words a) m w)
   lent-done p (refused d) e = never e d
 
-  pub lent-refused : {a : Ans A} {w n : ℕ} {m z o ys : List ℕ} {r : Answer} → Outcome words a o ys r → r ≡ Refused n → OutcomeAt words a w m z (Refused n)
+  pub lent-refused : {a : Ans A} {w : ℕ} {n : Refusal} {m z o ys : List ℕ} {r : Result ℕ Refusal} → Outcome words a o ys r → r ≡ Err n → OutcomeAt words a w m z (Err n)
   lent-refused (wrote d l) e = never d e
-  lent-refused (refused d) e = refused_at (ap Refused (same-refused e d))
+  lent-refused (refused d) e = refused_at (ap Err (same-refused e d))
 
   -- Words laid over an output are laid from its start on.
-  pub over-at : {a : Ans A} {o o' : List ℕ} {r : Answer} → Outcome words a o o' r → OutcomeAt words a 0 o o' r
-  over-at {o = o} (wrote {a} d l) = wrote_at (d ∙ ap Done (sym (zero-add (length (words a))))) (l ∙ laid-over (words a) o 0)
+  pub over-at : {a : Ans A} {o o' : List ℕ} {r : Result ℕ Refusal} → Outcome words a o o' r → OutcomeAt words a 0 o o' r
+  over-at {o = o} (wrote {a} d l) = wrote_at (d ∙ ap Ok (sym (zero-add (length (words a))))) (l ∙ laid-over (words a) o 0)
   over-at (refused d) = refused_at d
 
 -- What holds of every value holds of this one.

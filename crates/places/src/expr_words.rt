@@ -1,17 +1,15 @@
 // The words of expressions, laid from a place on. What does not fit is dropped; the answer is the place behind the words.
 ghost use Rattle.std.specs.Prelude.{[], ◌∷◌, ℕ, ◌+◌, ◌≤◌};
-ghost use Rattle.lexing.specs.Quads.{as_wide};
+ghost use Rattle.words.specs.Quads.{as_wide};
 ghost use Rattle.grammar.specs.ParseExpr.{numeral as numeralOf};
 ghost use Rattle.grammar.specs.Written.{expr_words};
 ghost use Rattle.places.specs.Outcome.{bound, Put};
 
-use lexing::quad::{Quad, negate};
+use lexing::quad::negate;
 use words::expr_kinds::{NEG, NUMERAL};
 use words::output::put;
-
-// The name of a variable, a span of the text: its first byte and how many bytes it has.
-#[derive(Clone, Copy)]
-pub struct VarName(pub u32, pub u32);
+use words::quad::Quad;
+use words::span::Span;
 
 // One word.
 pub fn put1(out: &mut [u32], w: usize, a: u32) -> usize
@@ -44,11 +42,11 @@ pub fn put3(out: &mut [u32], w: usize, a: u32, b: u32, c: u32) -> usize
 }
 
 // A kind and a name.
-pub fn put_name(out: &mut [u32], w: usize, kind: u32, name: VarName) -> usize
+pub fn put_name(out: &mut [u32], w: usize, kind: u32, name: Span) -> usize
     requires { w ≤ bound + 9 }
-    ensures { Put out.old w (kind ∷ name.0 ∷ name.1 ∷ []) out.new result }
+    ensures { Put out.old w (kind ∷ name.start ∷ name.len ∷ []) out.new result }
 {
-    put3(out, w, kind, name.0, name.1)
+    put3(out, w, kind, name.start, name.len)
 }
 
 // A kind and the four words of a number.

@@ -3,7 +3,6 @@ ghost use Rattle.std.specs.Prelude.{◌≡◌, false, length, get_or, ◌+◌, e
 ghost use Rattle.reading.specs.Tree.{tree_words};
 ghost use Rattle.reading.specs.Pick.{pick};
 ghost use Rattle.places.specs.Spot.{Spot, Seen};
-ghost use Rattle.places.specs.declared.place.Node.TheVariants.{List, Other};
 
 use words::tree::node_words;
 use words::tree_kinds::LIST;
@@ -16,22 +15,25 @@ pub fn words_at(tree: &[u32], at: usize) -> usize
     node_words(&tree[at..])
 }
 
-// A list: how many items it has, and where the first stands; or another tree.
+// A list: how many items it has, and where the first stands.
 #[derive(Clone, Copy)]
-pub enum Node {
-    List(u32, usize),
-    Other,
+pub struct List {
+    pub items: u32,
+    pub first: usize,
 }
 
-// The tree at a place, taken apart.
-pub fn node_at(tree: &[u32], at: usize) -> Node
+// The list at a place, if there is one.
+pub fn list_at(tree: &[u32], at: usize) -> Option<List>
     requires { Spot tree.now at }
-    ensures { result ≡ pick (eqb (get_or tree.now at 0) 21) (List (get_or tree.now (at + 1) 0) (at + 3)) Other }
+    ensures { result ≡ pick (eqb (get_or tree.now at 0) 21) (Some (record { items = get_or tree.now (at + 1) 0; first = at + 3 })) None }
 {
-    if tree[at] == LIST {
-        return Node::List(tree[at + 1], at + 3);
+    if tree[at] != LIST {
+        return None;
     }
-    Node::Other
+    Some(List {
+        items: tree[at + 1],
+        first: at + 3,
+    })
 }
 
 // The place inside lists of one element.
@@ -40,10 +42,8 @@ pub fn through(text: &[u8], tree: &[u32], at: usize) -> usize
     ensures { (p : Spot tree.now at) → Seen text.now false tree.now at p result }
 {
     let mut p = at;
-    while tree[p] == LIST {
-        if tree[p + 1] != 1 {
-            return p;
-        }
+    // A cursor and not a `for`: the lists say how far it goes.
+    while tree[p] == LIST && tree[p + 1] == 1 {
         p += 3;
     }
     p

@@ -7,18 +7,21 @@ ghost use Rattle.places.specs.Outcome.{bound, OutcomeAt};
 
 use crate::place::words_at;
 use sorts::sorts::sort;
-use words::Answer;
-use words::number::least;
+use words::refusal::Refusal;
 
 // The rest of the output is lent on.
-pub fn sort_at(text: &[u8], tree: &[u32], at: usize, out: &mut [u32], w: usize) -> Answer
+pub fn sort_at(
+    text: &[u8],
+    tree: &[u32],
+    at: usize,
+    out: &mut [u32],
+    w: usize,
+) -> Result<usize, Refusal>
     requires { (Small tree.now at) × (w ≤ bound) }
     ensures { (p : Small tree.now at) → OutcomeAt sort_words (parse_sort text.now p.spot.tree) w out.old out.new result }
 {
     let end = at + words_at(tree, at);
-    let from = least(w, out.len());
-    match sort(text, &tree[at..end], &mut out[from..]) {
-        Answer::Refused(e) => Answer::Refused(e),
-        Answer::Done(n) => Answer::Done(w + n),
-    }
+    let from = w.min(out.len());
+    let n = sort(text, &tree[at..end], &mut out[from..])?;
+    Ok(w + n)
 }

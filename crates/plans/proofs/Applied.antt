@@ -5,7 +5,7 @@ use Rattle.reading.specs.Limits.{max_lists}
 use Rattle.reading.specs.Pick.{pick}
 use Rattle.reading.specs.Bytes.{ascii, same_bytes, bytes_at}
 use Rattle.reading.specs.Tree.{symbol, quoted, integer, decimal, boolean, Tree, Trees, atom, list, tnil, tcons, trees, atom_words, tree_words, trees_words, nesting, nestings}
-use Rattle.reading.specs.Answer.{Refusal, malformed, got, bad, no}
+use Rattle.reading.specs.Answer.{Refusal as Met, malformed, got, bad, no}
 use Rattle.grammar.specs.Sort.{Sort, sort_words}
 use Rattle.grammar.specs.ParseSort.{in_list, tree_at, parse_sort}
 use Rattle.grammar.specs.Scope.{Scope, repeated}
@@ -17,7 +17,9 @@ use Rattle.scopes.specs.Scopes.{inner}
 use Rattle.places.specs.Outcome.{bound, Put}
 use Rattle.plans.specs.Late.{filled}
 use Rattle.plans.specs.Plans.{Parsed, refused, Listed, PlannedList, EndsAt, end_nesting, end_size, factor, most}
-use Rattle.plans.specs.declared.progress.Progress.TheVariants.{Refused}
+use Rattle.words.specs.declared.refusal.Refusal.{Refusal}
+use Rattle.words.specs.declared.refusal.Refusal.TheVariants.{Malformed}
+use Rattle.std.specs.Prelude.{Ok, Err}
 use Rattle.plans.specs.declared.plan.Plan.TheVariants.{Go}
 use Rattle.plans.specs.declared.plan.Run.{Run}
 use Rattle.grammar.proofs.FormsWritten.{after-done, as_told, call-told}
@@ -90,7 +92,7 @@ module _ (text : List ℕ) (count : ℕ) (us : Trees) (sc : List Scope) (n : ℕ
       apply-short = rw h refl
 
       module _ (c : Tree) (ts : Trees) where
-        apply-bad : {e : Refusal} → parse_sort text c ≡ bad e → told count (ParseExpr.apply_form text (ParseExpr.children text (tcons (list (tcons a (tcons b (tcons c ts)))) us)) sc n) ≡ no e
+        apply-bad : {e : Met} → parse_sort text c ≡ bad e → told count (ParseExpr.apply_form text (ParseExpr.children text (tcons (list (tcons a (tcons b (tcons c ts)))) us)) sc n) ≡ no e
         unfolding ParseExpr.apply_form ParseExpr.as_form ParseExpr.child ParseExpr.list_child child_at in_list tree_at pick
         apply-bad e = rw (h, e) refl
 
@@ -145,14 +147,14 @@ module _ {text ws : List ℕ} {at w next : ℕ} {t : Tree} {us : Trees} (h : Lis
   ap-two = omega (arith, ap-within, tree-two t)
 
   -- The head is no list.
-  pub ap-atom : (count : ℕ) {o o' : List ℕ} → (get_or ws (at + 3) 0 ≡ 21 → ⊥) → Parsed (told_of count t) w o o' (most w next (list (tcons t us))) (Refused 8)
+  pub ap-atom : (count : ℕ) {o o' : List ℕ} → (get_or ws (at + 3) 0 ≡ 21 → ⊥) → Parsed (told_of count t) w o o' (most w next (list (tcons t us))) (Err Malformed)
   ap-atom count k = rw (app-atom text count us h.scopes next t (no-list head-spot.rest t refl (λ e. k (word0 head-spot ∙ e)))) (refused refl)
 
   -- Its words are laid, and so many of the other items are left to do, and perhaps the head.
   module _ (count : ℕ) {o o' : List ℕ} {u j have : ℕ} (hd : List ℕ) (p : Put o w hd o' u) (js : j ≡ length (tree_words t)) (hs : have ≡ get_or ws (at + 1) 0 - 1) where
     ap-run : (want last : ℕ) (final : Last) → EndsAt ws at w (app_run (at + 3 + j) have want last u) final → h.depth + 1 + end_nesting final ≤ max_lists → length hd + factor * end_size final ≤ factor * (3 + length (tree_words t))
         → told_of count t ≡ ahead hd (after (operands_w text count us want h.scopes next) (λ m. end_w text count final h.scopes [] m))
-        → PlannedList text count ws at w next (tcons t us) h (told_of count t) o o' (Go (app_run (at + 3 + j) have want last u))
+        → PlannedList text count ws at w next (tcons t us) h (told_of count t) o o' (Ok (Go (app_run (at + 3 + j) have want last u)))
     unfolding inner pick filled
     ap-run want last final ends deep short eq =
         record {
@@ -175,7 +177,7 @@ module _ {text ws : List ℕ} {at w next : ℕ} {t : Tree} {us : Trees} (h : Lis
     ap-list = as_list head-spot n.kind
 
     -- It has less than two items.
-    pub ap-short : (count : ℕ) {o o' : List ℕ} → m < 2 → Parsed (told_of count t) w o o' (most w next (list (tcons t us))) (Refused 8)
+    pub ap-short : (count : ℕ) {o o' : List ℕ} → m < 2 → Parsed (told_of count t) w o o' (most w next (list (tcons t us))) (Err Malformed)
     ap-short count l = rw (ap (told_of count) ap-list.is ∙ app-short text count us h.scopes next ap-list.items (omega (arith, n.many, ap-list.many))) (refused refl)
 
     module _ (two : 2 ≤ m) where
@@ -214,7 +216,7 @@ module _ {text ws : List ℕ} {at w next : ℕ} {t : Tree} {us : Trees} (h : Lis
 
       -- A call: the head comes behind the other items.
       pub in_call : (count : ℕ) {o o' : List ℕ} {u j have want : ℕ} → is_apply text in_second.first ≡ false → Put o w (38 ∷ 0 ∷ (get_or ws (at + 1) 0 - 1) ∷ []) o' u → j ≡ length (tree_words t) → have ≡ get_or ws (at + 1) 0 - 1 → want ≡ get_or ws (at + 1) 0 - 1
-          → PlannedList text count ws at w next (tcons t us) h (told_of count t) o o' (Go (app_run (at + 3 + j) have want (at + 3) u))
+          → PlannedList text count ws at w next (tcons t us) h (told_of count t) o o' (Ok (Go (app_run (at + 3 + j) have want (at + 3) u)))
       unfolding end_w
       in_call count {want = want} x p js hs wants =
           let others : get_or ws (at + 1) 0 - 1 ≡ trees us = omega (arith, ap-many) in
@@ -238,7 +240,7 @@ module _ {text ws : List ℕ} {at w next : ℕ} {t : Tree} {us : Trees} (h : Lis
 
         module _ (x : is_apply text in_second.first ≡ true) where
           -- The sort is missing.
-          pub in_short : (count : ℕ) {o o' : List ℕ} → m < 3 → Parsed (told_of count t) w o o' (most w next (list (tcons t us))) (Refused 8)
+          pub in_short : (count : ℕ) {o o' : List ℕ} → m < 3 → Parsed (told_of count t) w o o' (most w next (list (tcons t us))) (Err Malformed)
           in_short count q =
               let z : in_second.others ≡ tnil = none_left in_second.others (omega (arith, in_many)) in
               rw (ap (told_of count) (in_tree ∙ ap (λ (ts : Trees). list (tcons in_first_lem.first (tcons in_second.first ts))) z) ∙ apply-short text count us h.scopes next in_first_lem.first in_second.first x) (refused refl)
@@ -272,12 +274,12 @@ module _ {text ws : List ℕ} {at w next : ℕ} {t : Tree} {us : Trees} (h : Lis
             in_three = in_tree ∙ ap (λ (ts : Trees). list (tcons in_first_lem.first (tcons in_second.first ts))) in_third.is
 
             -- The sort is refused.
-            pub in_bad : (count : ℕ) {o o' : List ℕ} {r : ℕ} → BadAt (parse_sort text in_third.first) r → Parsed (told_of count t) w o o' (most w next (list (tcons t us))) (Refused r)
-            in_bad count b = rw (ap (told_of count) in_three ∙ apply-bad text count us h.scopes next in_first_lem.first in_second.first x in_third.first in_third.others b.is) (refused (ap Refused b.same))
+            pub in_bad : (count : ℕ) {o o' : List ℕ} {r : Refusal} → BadAt (parse_sort text in_third.first) r → Parsed (told_of count t) w o o' (most w next (list (tcons t us))) (Err r)
+            in_bad count b = rw (ap (told_of count) in_three ∙ apply-bad text count us h.scopes next in_first_lem.first in_second.first x in_third.first in_third.others b.is) (refused (ap Err b.same))
 
             -- It is read: the function is left to do.
             pub in_apply : (count : ℕ) {o o₁ o₂ : List ℕ} {v u i have : ℕ} → Put o w (38 ∷ 1 ∷ 0 ∷ []) o₁ v → GotAt sort_words (parse_sort text in_third.first) v o₁ o₂ u → i ≡ length (tree_words t) → have ≡ get_or ws (at + 1) 0 - 1
-                → PlannedList text count ws at w next (tcons t us) h (told_of count t) o o₂ (Go (app_run (at + 3 + i) have 1 0 u))
+                → PlannedList text count ws at w next (tcons t us) h (told_of count t) o o₂ (Ok (Go (app_run (at + 3 + i) have 1 0 u)))
             unfolding end_w repeated pick
             in_apply count p g is hs =
                 let z : length (38 ∷ 1 ∷ 0 ∷ sort_words g.value) ≡ suc (suc (suc (length (sort_words g.value)))) = refl in

@@ -17,8 +17,9 @@ use Rattle.writing.specs.Laid.{laid}
 use Rattle.places.specs.Outcome.{bound, Put, OutcomeAt, wrote_at, refused_at}
 use Rattle.plans.specs.Plans.{factor}
 use Rattle.plans.specs.BinderWords.{BinderRow, binders_words}
-use Rattle.words.specs.declared.Answer.{Answer}
-use Rattle.words.specs.declared.Answer.TheVariants.{Done, Refused}
+use Rattle.words.specs.declared.refusal.Refusal.{Refusal}
+use Rattle.words.specs.declared.refusal.Refusal.TheVariants.{Malformed}
+use Rattle.std.specs.Prelude.{Result, Ok, Err}
 use Rattle.grammar.proofs.Items.{words-front}
 use Rattle.grammar.proofs.Raise.{raise-front}
 use Rattle.places.proofs.FirstTree.{More, some, none_left}
@@ -177,13 +178,13 @@ wrapped_more : (v k k' : ℕ) → k ≡ v % 2 ^ 64 → k' ≡ (k + 1) % 2 ^ 64 �
 wrapped_more v k k' p q = omega arith
 
 -- A binder's words, and then the others'.
-out-binder : (c n : ℕ) (s : Span) {a : Ans Sort} {b : Ans Binders} {m m₁ m₂ o'' : List ℕ} {v u z : ℕ} {q : Answer}
+out-binder : (c n : ℕ) (s : Span) {a : Ans Sort} {b : Ans Binders} {m m₁ m₂ o'' : List ℕ} {v u z : ℕ} {q : Result ℕ Refusal}
     → Put m v (two (c + n)) m₁ u → GotAt sort_words a u m₁ m₂ z → OutcomeAt (binders_words c (suc n)) b z m₂ o'' q → OutcomeAt (binders_words c n) (with_pair s a b) v m o'' q
 out-binder c n s {m = m} {m₂ = m₂} {o'' = o''} {v = v} {z = z} p g (wrote_at {a = bs} d l) =
     let w = words_more c n s g.value bs in
     let put : Put m v ((two (c + n) ++ sort_words g.value) ++ binders_words c (suc n) bs) o'' (z + length (binders_words c (suc n) bs))
     = put_append (two (c + n) ++ sort_words g.value) (binders_words c (suc n) bs) (put_append (two (c + n)) (sort_words g.value) p g.put) (record { is = refl; words = l }) in
-    rw g.is (wrote_at (d ∙ ap Done (put.is ∙ ap (λ (ws : List ℕ). v + length ws) (sym w))) (put.words ∙ ap (laid m v) (sym w)))
+    rw g.is (wrote_at (d ∙ ap Ok (put.is ∙ ap (λ (ws : List ℕ). v + length ws) (sym w))) (put.words ∙ ap (laid m v) (sym w)))
 out-binder c n s p g (refused_at d) = rw g.is (refused_at d)
 
 pub record Numbering (text ws : List ℕ) (at n from w : ℕ) (h : BinderRow ws at n w) (o m : List ℕ) (i p k v : ℕ) : Type 0 where
@@ -193,7 +194,7 @@ pub record Numbering (text ws : List ℕ) (at n from w : ℕ) (h : BinderRow ws 
   pub fewer : length (trees_words items) ≤ length (trees_words h.items)
   pub room : v + factor * length (trees_words items) ≤ w + factor * length (trees_words h.items)
   pub num : (count next : ℕ) → from ≡ (count + next) % 2 ^ 64 → k ≡ (count + (next + i)) % 2 ^ 64
-  pub goes : (count next : ℕ) → from ≡ (count + next) % 2 ^ 64 → (o'' : List ℕ) (q : Answer)
+  pub goes : (count next : ℕ) → from ≡ (count + next) % 2 ^ 64 → (o'' : List ℕ) (q : Result ℕ Refusal)
       → OutcomeAt (binders_words count (next + i)) (binders text items) v m o'' q → OutcomeAt (binders_words count next) (binders text h.items) w o o'' q
 
 module _ {text ws : List ℕ} {at n from w : ℕ} {h : BinderRow ws at n w} {o : List ℕ} where
@@ -210,12 +211,12 @@ module _ {text ws : List ℕ} {at n from w : ℕ} {h : BinderRow ws at n w} {o :
 
   module _ {m : List ℕ} {i p k v : ℕ} (g : Numbering text ws at n from w h o m i p k v) where
     -- All are read.
-    pub numbering_end : n ≤ i → (count next : ℕ) → from ≡ (count + next) % 2 ^ 64 → OutcomeAt (binders_words count next) (binders text h.items) w o m (Done v)
+    pub numbering_end : n ≤ i → (count next : ℕ) → from ≡ (count + next) % 2 ^ 64 → OutcomeAt (binders_words count next) (binders text h.items) w o m (Ok v)
     unfolding binders numbered binder_items raise words_of laid
     numbering_end e count next d =
         let z : g.items ≡ tnil = none_left g.items (omega (arith, g.many)) in
-        let y : OutcomeAt (binders_words count (next + i)) (binders text tnil) v m m (Done v) = wrote_at (ap Done (sym (add-zero v))) refl in
-        g.goes count next d m (Done v) (rw z y)
+        let y : OutcomeAt (binders_words count (next + i)) (binders text tnil) v m m (Ok v) = wrote_at (ap Ok (sym (add-zero v))) refl in
+        g.goes count next d m (Ok v) (rw z y)
 
     module _ (l : i < n) where
       pub next-binder : More g.items
@@ -239,9 +240,9 @@ module _ {text ws : List ℕ} {at n from w : ℕ} {h : BinderRow ws at n w} {o :
 
       -- No pair.
       pub numbering_bad : {r : Bool} → r ≡ is_got (name_of next-binder.first) → r ≡ false → (count next : ℕ) → from ≡ (count + next) % 2 ^ 64
-          → OutcomeAt (binders_words count next) (binders text h.items) w o m (Refused 8)
+          → OutcomeAt (binders_words count next) (binders text h.items) w o m (Err Malformed)
       numbering_bad x e count next d =
-          g.goes count next d m (Refused 8)
+          g.goes count next d m (Err Malformed)
           (rw (ap (binders text) next-binder.is ∙ binders-bad text next-binder.first next-binder.others (pair-bad next-binder.first (sym x ∙ e))) (refused_at refl))
 
       module _ {r : Bool} (x : r ≡ is_got (name_of next-binder.first)) (e : r ≡ true) where
@@ -267,14 +268,14 @@ module _ {text ws : List ℕ} {at n from w : ℕ} {h : BinderRow ws at n w} {o :
         binders-here : binders text g.items ≡ with_pair the_pair.name (parse_sort text the_pair.sort) (binders text next-binder.others)
         binders-here = ap (binders text) next-binder.is ∙ binders-more text next-binder.first the_pair next-binder.others
 
-        module _ {a b : ℕ} (la : a ≡ k % 2 ^ 32) (hb : b ≡ k / 2 ^ 32 % 2 ^ 32) {m₁ m₂ : List ℕ} {u : ℕ} (put : Put m v (a ∷ b ∷ []) m₁ u) {s : Answer} (y : OutcomeAt sort_words (parse_sort text the_pair.sort) u m₁ m₂ s) where
+        module _ {a b : ℕ} (la : a ≡ k % 2 ^ 32) (hb : b ≡ k / 2 ^ 32 % 2 ^ 32) {m₁ m₂ : List ℕ} {u : ℕ} (put : Put m v (a ∷ b ∷ []) m₁ u) {s : Result ℕ Refusal} (y : OutcomeAt sort_words (parse_sort text the_pair.sort) u m₁ m₂ s) where
           -- No sort.
-          pub numbering_refused : {f : ℕ} {o'' : List ℕ} → s ≡ Refused f → (count next : ℕ) → from ≡ (count + next) % 2 ^ 64 → OutcomeAt (binders_words count next) (binders text h.items) w o o'' (Refused f)
+          pub numbering_refused : {f : Refusal} {o'' : List ℕ} → s ≡ Err f → (count next : ℕ) → from ≡ (count + next) % 2 ^ 64 → OutcomeAt (binders_words count next) (binders text h.items) w o o'' (Err f)
           numbering_refused {f} {o''} d count next c =
               let z = bad-at y d in
-              g.goes count next c o'' (Refused f) (rw (binders-here, z.is) (refused_at (ap Refused z.same)))
+              g.goes count next c o'' (Err f) (rw (binders-here, z.is) (refused_at (ap Err z.same)))
 
-          pub numbering_more : {z k' j : ℕ} → s ≡ Done z → k' ≡ (k + 1) % 2 ^ 64 → j ≡ length (tree_words next-binder.first) → Numbering text ws at n from w h o m₂ (i + 1) (p + j) k' z
+          pub numbering_more : {z k' j : ℕ} → s ≡ Ok z → k' ≡ (k + 1) % 2 ^ 64 → j ≡ length (tree_words next-binder.first) → Numbering text ws at n from w h o m₂ (i + 1) (p + j) k' z
           numbering_more {k' = k'} {j = j} d ke is =
               let t = got-at y d in
               record {

@@ -4,7 +4,7 @@ use native.Mathlib.Nat.{le-max_left, le-max_right}
 use Rattle.reading.specs.Pick.{pick}
 use Rattle.reading.specs.Bytes.{Span}
 use Rattle.reading.specs.Tree.{symbol, Tree, Trees, atom, list, tnil, tcons, trees, atom_words, tree_words, trees_words, nesting, nestings}
-use Rattle.reading.specs.Answer.{Refusal, malformed, got, bad, no}
+use Rattle.reading.specs.Answer.{Refusal as Met, malformed, got, bad, no}
 use Rattle.grammar.specs.Sort.{Sort}
 use Rattle.grammar.specs.ParseSort.{in_list}
 use Rattle.grammar.specs.Item.{raise, words_of}
@@ -19,7 +19,9 @@ use Rattle.places.specs.Outcome.{bound, Put}
 use Rattle.plans.specs.Late.{filled}
 use Rattle.plans.specs.Plans.{Parsed, refused, Listed, PlannedList, factor, most}
 use Rattle.plans.specs.BinderWords.{BinderRow, binders_words}
-use Rattle.plans.specs.declared.progress.Progress.TheVariants.{Refused}
+use Rattle.words.specs.declared.refusal.Refusal.{Refusal}
+use Rattle.words.specs.declared.refusal.Refusal.TheVariants.{Malformed}
+use Rattle.std.specs.Prelude.{Ok, Err}
 use Rattle.plans.specs.declared.plan.Plan.TheVariants.{Go}
 use Rattle.grammar.proofs.FormsWritten.{children-count, exists-told}
 use Rattle.places.proofs.Puts.{put_append}
@@ -42,7 +44,7 @@ module _ (text : List ℕ) (count : ℕ) (t : Tree) (sc : List Scope) (n : ℕ) 
   unfolding ParseExpr.exists_form ParseExpr.child child_at
   exists-atom v b h = rw (child-tree text v, h) refl
 
-  exists-bad : (ps : Trees) (b : Tree) {e : Refusal} → binders text ps ≡ bad e → told count (ParseExpr.exists_form text (ParseExpr.children text (tcons t (tcons (list ps) (tcons b tnil)))) sc n) ≡ no e
+  exists-bad : (ps : Trees) (b : Tree) {e : Met} → binders text ps ≡ bad e → told count (ParseExpr.exists_form text (ParseExpr.children text (tcons t (tcons (list ps) (tcons b tnil)))) sc n) ≡ no e
   unfolding ParseExpr.exists_form ParseExpr.child ParseExpr.list_child child_at in_list
   exists-bad ps b h = rw h refl
 
@@ -92,7 +94,7 @@ module _ {text ws : List ℕ} {at w next : ℕ} {s : Span} {us : Trees} (h : Lis
       ap (λ (k : ℕ). drop k ws) six ∙ others-there ws (at + 3) (atom (symbol s)) us h.rest (items-there ws at (tcons (atom (symbol s)) us) h.rest h.words) 3 refl
 
   -- Not three items.
-  pub ex_count : (count : ℕ) {o o' : List ℕ} → (get_or ws (at + 1) 0 ≡ 3 → ⊥) → Parsed (told_of count us) w o o' (most w next whole) (Refused 8)
+  pub ex_count : (count : ℕ) {o o' : List ℕ} → (get_or ws (at + 1) 0 ≡ 3 → ⊥) → Parsed (told_of count us) w o o' (most w next whole) (Err Malformed)
   ex_count count n = rw (exists-count text count (atom (symbol s)) h.scopes next us (λ e. n (omega (arith, ex_many)))) (refused refl)
 
   module _ (three : get_or ws (at + 1) 0 ≡ 3) where
@@ -109,7 +111,7 @@ module _ {text ws : List ℕ} {at w next : ℕ} {s : Span} {us : Trees} (h : Lis
     vars-spot = record { tree = ex_pair.first; rest = trees_words (tcons ex_pair.second tnil) ++ h.rest; words = vars-words }
 
     -- The binders are no list.
-    pub ex_atom : (count : ℕ) {o o' : List ℕ} → (get_or ws (at + 6) 0 ≡ 21 → ⊥) → Parsed (told_of count us) w o o' (most w next whole) (Refused 8)
+    pub ex_atom : (count : ℕ) {o o' : List ℕ} → (get_or ws (at + 6) 0 ≡ 21 → ⊥) → Parsed (told_of count us) w o o' (most w next whole) (Err Malformed)
     ex_atom count k =
         rw (ap (told_of count) ex_pair.is
         ∙ exists-atom text count (atom (symbol s)) h.scopes next ex_pair.first ex_pair.second (no-list vars-spot.rest ex_pair.first refl (λ e. k (word0 vars-spot ∙ e))))
@@ -151,14 +153,14 @@ module _ {text ws : List ℕ} {at w next : ℕ} {s : Span} {us : Trees} (h : Lis
       told-list count = ap (told_of count) (ex_pair.is ∙ ap (λ (t : Tree). tcons t (tcons ex_pair.second tnil)) ex_list.is)
 
       -- The binders are refused.
-      pub ex_bad : (count : ℕ) {o o' : List ℕ} {r : ℕ} → BadAt (binders text ex_list.items) r → Parsed (told_of count us) w o o' (most w next whole) (Refused r)
-      ex_bad count b = rw (told-list count ∙ exists-bad text count (atom (symbol s)) h.scopes next ex_list.items ex_pair.second b.is) (refused (ap Refused b.same))
+      pub ex_bad : (count : ℕ) {o o' : List ℕ} {r : Refusal} → BadAt (binders text ex_list.items) r → Parsed (told_of count us) w o o' (most w next whole) (Err r)
+      ex_bad count b = rw (told-list count ∙ exists-bad text count (atom (symbol s)) h.scopes next ex_list.items ex_pair.second b.is) (refused (ap Err b.same))
 
       -- They are read: the body is left to do.
       pub ex_go : (count : ℕ) {o o₁ o₂ : List ℕ} {v u j fresh : ℕ} → Put o w (51 ∷ m ∷ []) o₁ v → GotAt (binders_words count next) (binders text ex_list.items) v o₁ o₂ u
           → j ≡ length (tree_words ex_pair.first) → fresh ≡ m
           → PlannedList text count ws at w next (tcons (atom (symbol s)) us) h (told_of count us) o o₂
-          (Go (record { first = at + 6 + j; have = 1; want = 1; last = 0; plain = false; names = f; fresh = fresh; pair = 0; words = u }))
+          (Ok (Go (record { first = at + 6 + j; have = 1; want = 1; last = 0; plain = false; names = f; fresh = fresh; pair = 0; words = u })))
       unfolding inner pick trees nestings filled
       ex_go count {o} {o₂ = o₂} {u = u} {j = j} {fresh = fresh} p g js fr =
           let bs = g.value in

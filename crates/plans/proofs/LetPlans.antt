@@ -19,6 +19,8 @@ use Rattle.plans.specs.Late.{filled}
 use Rattle.plans.specs.Plans.{Parsed, Listed, PlannedList, Counts, EndsAt, end_nesting, end_size, most}
 use Rattle.plans.specs.declared.progress.Progress.{Progress}
 use Rattle.plans.specs.declared.plan.Plan.TheVariants.{Go}
+use Rattle.words.specs.declared.refusal.Refusal.{Refusal}
+use Rattle.std.specs.Prelude.{Result, Ok}
 use Rattle.plans.specs.declared.plan.Run.{Run}
 use Rattle.grammar.proofs.FormsWritten.{let_behind, let-told, let-short}
 use Rattle.grammar.proofs.TreeHead.{no_symbol}
@@ -183,10 +185,10 @@ module _ {text ws : List ℕ} {at w next : ℕ} (s : Span) (us : Trees) (h : Lis
 
               -- The value is an operand; what comes behind it.
               module _ (want last bind : ℕ) (final : Last) (ends : EndsAt ws at w (let_run f want last bind (u + 2)) final) (deep : end_nesting final ≤ nestings let-pair.others) (size : end_size final ≤ length (trees_words let-pair.others) + 1)
-                  (goes : (o'' : List ℕ) (q : Progress) (m : ℕ) → Counts (operands_w text count (tcons let-value.tree tnil) want h.scopes next) m
+                  (goes : (o'' : List ℕ) (q : Result Progress Refusal) (m : ℕ) → Counts (operands_w text count (tcons let-value.tree tnil) want h.scopes next) m
                   → Parsed (after (operands_w text count (tcons let-value.tree tnil) want h.scopes next) (λ j. end_w text count final h.scopes [] j)) (u + 2) (filled bind (w + 1) (count + m) o') o'' (most w next (list (tcons (atom (symbol s)) us))) q
                   → Parsed (told count whole) w o o'' (most w next (list (tcons (atom (symbol s)) us))) q) where
-                made : PlannedList text count ws at w next (tcons (atom (symbol s)) us) h (told count whole) o o' (Go (let_run f want last bind (u + 2)))
+                made : PlannedList text count ws at w next (tcons (atom (symbol s)) us) h (told count whole) o o' (Ok (Go (let_run f want last bind (u + 2))))
                 unfolding inner pick trees
                 made = record {
                   items = tcons let-value.tree tnil;
@@ -207,7 +209,7 @@ module _ {text ws : List ℕ} {at w next : ℕ} (s : Span) (us : Trees) (h : Lis
 
               -- Without a body: it is refused when it is reached.
               pub made-alone : get_or ws (at + 1) 0 < 3
-                  → PlannedList text count ws at w next (tcons (atom (symbol s)) us) h (told count whole) o o' (Go (let_run f 2 0 0 (u + 2)))
+                  → PlannedList text count ws at w next (tcons (atom (symbol s)) us) h (told count whole) o o' (Ok (Go (let_run f 2 0 0 (u + 2))))
               unfolding operands_w
               made-alone b =
                   let z = none_left let-pair.others (omega (arith, head-count s us h, lead-count let-pair)) in
@@ -216,7 +218,7 @@ module _ {text ws : List ℕ} {at w next : ℕ} (s : Span) (us : Trees) (h : Lis
 
               -- The body stands behind the pair.
               pub made-body : {j : ℕ} → 3 ≤ get_or ws (at + 1) 0 → j ≡ length (tree_words let-pair.tree)
-                  → PlannedList text count ws at w next (tcons (atom (symbol s)) us) h (told count whole) o o' (Go (let_run f 1 (at + 6 + j) q (u + 2)))
+                  → PlannedList text count ws at w next (tcons (atom (symbol s)) us) h (told count whole) o o' (Ok (Go (let_run f 1 (at + 6 + j) q (u + 2))))
               unfolding kind_items raise words_of
               made-body {j} b e =
                   let l = lead-next let-pair e (omega (arith, head-count s us h)) in

@@ -17,7 +17,10 @@ use Rattle.places.specs.Outcome.{Put}
 use Rattle.plans.specs.Late.{filled}
 use Rattle.plans.specs.Plans.{Parsed, refused, Listed, Filled, Headed, PlannedList, factor, most}
 use Rattle.plans.specs.declared.plan.Plan.{Plan}
-use Rattle.plans.specs.declared.plan.Plan.TheVariants.{Stop, Go}
+use Rattle.plans.specs.declared.plan.Plan.TheVariants.{Go}
+use Rattle.words.specs.declared.refusal.Refusal.{Refusal}
+use Rattle.words.specs.declared.refusal.Refusal.TheVariants.{Malformed}
+use Rattle.std.specs.Prelude.{Result, Ok, Err}
 use Rattle.plans.specs.declared.plan.Run.{Run}
 use Rattle.grammar.proofs.FormsWritten.{after-done, ahead_nil, node-told}
 use Rattle.reading.proofs.TreeHead.{tree-two, apart}
@@ -100,7 +103,7 @@ module _ {text ws : List ℕ} {at w next : ℕ} (s : Span) (us : Trees) (h : Lis
 
 module _ (text : List ℕ) (count : ℕ) (ws : List ℕ) (at w next : ℕ) (s : Span) (us : Trees) (h : Listed text ws at w next (tcons (atom (symbol s)) us)) (o o' : List ℕ) where
   -- What the list is written as.
-  abbrev Made : W → Plan → Type 0
+  abbrev Made : W → Result Plan Refusal → Type 0
   Made x r = PlannedList text count ws at w next (tcons (atom (symbol s)) us) h x o o' r
 
   -- The operands behind the name.
@@ -108,7 +111,7 @@ module _ (text : List ℕ) (count : ℕ) (ws : List ℕ) (at w next : ℕ) (s : 
   behind_run want u = record { first = at + 6; have = get_or ws (at + 1) 0 - 1; want = want; last = 0; plain = false; names = 0; fresh = 0; pair = 0; words = u }
 
   pub made-behind : (k : Kind) (n : ℕ) (hd : List ℕ) {u : ℕ} → kind_words count k n ≡ hd → length hd ≤ 9 → Put o w hd o' u
-      → Made (told count (node_form k n (ParseExpr.children text (tcons (atom (symbol s)) us)) h.scopes next)) (Go (behind_run n u))
+      → Made (told count (node_form k n (ParseExpr.children text (tcons (atom (symbol s)) us)) h.scopes next)) (Ok (Go (behind_run n u)))
   unfolding inner pick end_w repeated filled
   made-behind k n hd {u} kw l p = record {
     items = us;
@@ -141,7 +144,7 @@ module _ (text : List ℕ) (count : ℕ) where
 
   module _ (ws : List ℕ) (at w next : ℕ) (s : Span) (o o' : List ℕ) (x : W) (hd : List ℕ) (u : ℕ) where
     pub made-only : (us : Trees) (h : Listed text ws at w next (tcons (atom (symbol s)) us)) → x ≡ ahead hd (only_of us h.scopes next) → length hd ≤ 9 → Put o w hd o' u
-        → PlannedList text count ws at w next (tcons (atom (symbol s)) us) h x o o' (pick (ltb (get_or ws (at + 1) 0) 2) (Stop 8) (Go (only_run at u)))
+        → PlannedList text count ws at w next (tcons (atom (symbol s)) us) h x o o' (pick (ltb (get_or ws (at + 1) 0) 2) (Err Malformed) (Ok (Go (only_run at u))))
     unfolding pick end_w inner trees tree_words nesting operands_w filled
     made-only tnil h e l p = rw (e, lt-ltb (get_or ws (at + 1) 0) 2 (omega (arith, head-count s tnil h))) (refused refl)
     made-only (tcons t ts) h e l p =
@@ -190,12 +193,12 @@ module _ {text ws : List ℕ} {at w next : ℕ} where
   some-filled tnil h n = absurd (n (list_count h))
   some-filled (tcons t ts) h n = record { head = t; others = ts; listed = h }
 
-module _ (text : List ℕ) (count : ℕ) (ws : List ℕ) (at w next : ℕ) (o o' : List ℕ) (r : Plan) where
+module _ (text : List ℕ) (count : ℕ) (ws : List ℕ) (at w next : ℕ) (o o' : List ℕ) (r : Result Plan Refusal) where
   -- What a list is written as, by its items.
-  abbrev Read : (items : Trees) → Listed text ws at w next items → Plan → Type 0
+  abbrev Read : (items : Trees) → Listed text ws at w next items → Result Plan Refusal → Type 0
   Read items h p = PlannedList text count ws at w next items h (told count (ParseExpr.list_expr text (ParseExpr.children text items) h.scopes next)) o o' p
 
-  pub read_none : (items : Trees) (h : Listed text ws at w next items) → get_or ws (at + 1) 0 ≡ 0 → Read items h (Stop 8)
+  pub read_none : (items : Trees) (h : Listed text ws at w next items) → get_or ws (at + 1) 0 ≡ 0 → Read items h (Err Malformed)
   unfolding ParseExpr.list_expr child_at ParseExpr.child trees
   read_none tnil h n = refused refl
   read_none (tcons t ts) h n = absurd (omega (arith, list_count h))

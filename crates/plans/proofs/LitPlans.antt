@@ -2,11 +2,14 @@
 use Rattle.std.proofs.Common.{◌≡◌, ℕ, ◌+◌, ◌<◌, ◌≤◌, List, [], ◌∷◌, ◌++◌, length, get_or, sym, refl, ap, ◌∙◌, subst, arith, length-drop, eq-eqb, ne_eqb}
 use Rattle.reading.specs.Bytes.{Span, bytes_at}
 use Rattle.reading.specs.Number.{Wide, wide_of}
-use Rattle.lexing.specs.Quads.{as_wide}
+use Rattle.words.specs.Quads.{as_quad, as_wide}
+use Rattle.words.specs.Refusals.{refusal_of}
+use Rattle.forms.specs.FormNames.{as_bits}
 use Rattle.reading.specs.Tree.{symbol, quoted, integer, decimal, boolean, Tree, Trees, atom, list, tnil, tcons, trees, atom_words, tree_words}
-use Rattle.reading.specs.Answer.{Refusal, Ans, got, bad, and_then, or_bad, malformed, wrong_width, Res, ok, no}
-use Rattle.lexing.specs.declared.quad.Quad.{Quad}
-use Rattle.lexing.specs.declared.number.Word32.{Word32}
+use Rattle.reading.specs.Answer.{Refusal as Met, Ans, got, bad, and_then, or_bad, malformed, wrong_width, Res, ok, no}
+use Rattle.words.specs.declared.quad.Quad.{Quad}
+use Rattle.std.specs.Prelude.{Option, Some, None}
+use Rattle.std.specs.Option.{ok_or}
 use Rattle.grammar.specs.Scope.{Scope}
 use Rattle.grammar.specs.Item.{raise, words_of}
 use Rattle.grammar.specs.Expr.{k_bit_vec, Expr, leaf, exprs, expr_items, exprs_items, kind_items}
@@ -18,8 +21,11 @@ use Rattle.grammar.specs.Written.{told}
 use Rattle.sorts.specs.SortNames.{width_in}
 use Rattle.places.specs.Spot.{Spot}
 use Rattle.places.specs.Outcome.{Put}
-use Rattle.plans.specs.Plans.{Listed, PlannedList}
+use Rattle.plans.specs.Plans.{refused, Listed, PlannedList}
 use Rattle.plans.specs.declared.plan.Plan.TheVariants.{Leaf}
+use Rattle.words.specs.declared.refusal.Refusal.{Refusal}
+use Rattle.words.specs.declared.refusal.Refusal.TheVariants.{Malformed}
+use Rattle.std.specs.Prelude.{Ok, Err}
 use Rattle.grammar.proofs.TreeHead.{no-list, no_symbol}
 use Rattle.grammar.proofs.LitForm.{bits_long}
 use Rattle.places.proofs.Inside.{child-tree}
@@ -69,26 +75,38 @@ module _ (text : List ℕ) {ws : List ℕ} {at : ℕ} (p : Spot ws at) where
             let s = lead-spot width-second in
             rw (two-width, no_symbol s.rest s.tree refl (λ q. m (word0 s ∙ q))) refl
 
-        pub width-named : (r : Word32) {v : List ℕ} → get_or ws (at + 3 + k) 0 ≡ 16 → v ≡ bytes_at text (record { start = get_or ws (at + 3 + k + 1) 0; len = get_or ws (at + 3 + k + 2) 0 })
+        pub width-named : (r : Option ℕ) {v : List ℕ} → get_or ws (at + 3 + k) 0 ≡ 16 → v ≡ bytes_at text (record { start = get_or ws (at + 3 + k + 1) 0; len = get_or ws (at + 3 + k + 2) 0 })
             → or_bad malformed (width_in r) ≡ size_named v → or_bad malformed (width_in r) ≡ ParseExpr.width_of text p.tree
         unfolding ParseSort.size_of in_symbol in_atom symbol_in
         width-named r m b q = q ∙ rw (two-width, as_symbol (lead-spot width-second) m, b) refl
 
+-- A width that is asked for.
+module _ (r : Option ℕ) {x : Ans ℕ} (q : or_bad malformed (width_in r) ≡ x) where
+  pub width-got : {k : ℕ} → ok_or r Malformed ≡ Ok k → got k ≡ x
+  width-got {k} = go r q
+    where
+      go : (r : Option ℕ) → or_bad malformed (width_in r) ≡ x → ok_or r Malformed ≡ Ok k → got k ≡ x
+      go (Some n) q e = let z : n ≡ k = cc in rw (← z) q
+      go None q e = let z : ◌≡◌ {A = ℕ} 0 1 = cc in absurd (omega arith)
+
+  pub width-none : {e : Refusal} → ok_or r Malformed ≡ Err e → (bad malformed ≡ x) × (e ≡ Malformed)
+  width-none {e} = go r q
+    where
+      go : (r : Option ℕ) → or_bad malformed (width_in r) ≡ x → ok_or r Malformed ≡ Err e → (bad malformed ≡ x) × (e ≡ Malformed)
+      go (Some n) q p = let z : ◌≡◌ {A = ℕ} 0 1 = cc in absurd (omega arith)
+      go None q p = (q, cc)
+
 -- ---- the literal
 
 -- The bits, by what the code reads.
-bits_bad : (r : Refusal) (a : Ans ℕ) → bad r ≡ and_then a (λ v. got (wide_of v)) → a ≡ bad r
-bits_bad r (got v) e = let z : ◌≡◌ {A = ℕ} 0 1 = cc in absurd (omega arith)
-bits_bad r (bad q) e = let z : r ≡ q = cc in rw z refl
-
 record Value (w : Wide) (a : Ans ℕ) : Type 0 where
   number : ℕ
   is : a ≡ got number
   words : wide_of number ≡ w
 
-bits_got : (w : Wide) (a : Ans ℕ) → got w ≡ and_then a (λ v. got (wide_of v)) → Value w a
-bits_got w (got v) e = record { number = v; is = refl; words = cc }
-bits_got w (bad q) e = let z : ◌≡◌ {A = ℕ} 0 1 = cc in absurd (omega arith)
+bits_got : (g : Quad) (a : Ans ℕ) → Ok g ≡ as_bits (and_then a (λ v. got (wide_of v))) → Value (as_wide g) a
+bits_got g (got v) e = let z : g ≡ as_quad (wide_of v) = cc in record { number = v; is = refl; words = ap as_wide (sym z) }
+bits_got g (bad q) e = let z : ◌≡◌ {A = ℕ} 0 1 = cc in absurd (omega arith)
 
 module _ (text : List ℕ) (s : Span) (sc : List Scope) (n : ℕ) where
   -- What a literal with these items behind its name is.
@@ -110,7 +128,7 @@ module _ (text : List ℕ) (s : Span) (sc : List Scope) (n : ℕ) where
   lit-other (list us) ts rest h = refl
 
   module _ (x : Span) where
-    lit_unread : (ts : Trees) (r : Refusal) → bits_of (bytes_at text x) ≡ bad r → lit (tcons (atom (quoted x)) ts) ≡ no r
+    lit_unread : (ts : Trees) (r : Met) → bits_of (bytes_at text x) ≡ bad r → lit (tcons (atom (quoted x)) ts) ≡ no r
     unfolding ParseExpr.lit_form child_at ParseExpr.child atom_child in_atom quoted_in
     lit_unread ts r e = rw e refl
 
@@ -175,12 +193,16 @@ module _ {text ws : List ℕ} {at w next : ℕ} (s : Span) (us : Trees) (h : Lis
           subst (λ k. Leading ws k lit-first.others) a (lead-next lit-first n (omega (arith, head-count s us h)))
 
       module _ {v : List ℕ} (b : v ≡ bytes_at text span) where
-        pub lit_refused : (r : Refusal) → bad r ≡ and_then (bits_of v) (λ k. got (wide_of k)) → whole ≡ no r
-        lit_refused r e = ap (lit text s h.scopes next) items ∙ lit_unread text s h.scopes next span lit-first.others r (ap bits_of (sym b) ∙ bits_bad r (bits_of v) e)
+        pub lit_refused : (count : ℕ) {o o' : List ℕ} {r : Refusal} → Err r ≡ as_bits (and_then (bits_of v) (λ k. got (wide_of k))) → PlannedList text count ws at w next (tcons (atom (symbol s)) us) h (told count whole) o o' (Err r)
+        lit_refused count {o} {o'} {r} e = go (bits_of v) refl e
+          where
+            go : (a : Ans ℕ) → bits_of v ≡ a → Err r ≡ as_bits (and_then a (λ k. got (wide_of k))) → PlannedList text count ws at w next (tcons (atom (symbol s)) us) h (told count whole) o o' (Err r)
+            go (got k) f y = let z : ◌≡◌ {A = ℕ} 0 1 = cc in absurd (omega arith)
+            go (bad m) f y = rw (ap (lit text s h.scopes next) items ∙ lit_unread text s h.scopes next span lit-first.others m (ap bits_of (sym b) ∙ f)) (let z : r ≡ refusal_of m = cc in refused (ap Err z))
 
-        module _ {g : Quad} (e : got (as_wide g) ≡ and_then (bits_of v) (λ k. got (wide_of k))) where
+        module _ {g : Quad} (e : Ok g ≡ as_bits (and_then (bits_of v) (λ k. got (wide_of k)))) where
           value : Value (as_wide g) (bits_of v)
-          value = bits_got (as_wide g) (bits_of v) e
+          value = bits_got g (bits_of v) e
 
           read : bits_of (bytes_at text span) ≡ got value.number
           read = ap bits_of (sym b) ∙ value.is
@@ -204,7 +226,7 @@ module _ {text ws : List ℕ} {at w next : ℕ} (s : Span) (us : Trees) (h : Lis
                 ap (lit text s h.scopes next) all-items ∙ lit_uneven text s h.scopes next span read (lit-second l).tree (lit-second l).others (sym y) (λ z. d (omega (arith, digits_are)))
 
             pub made_lit : (count : ℕ) {k m u r : ℕ} {o o₁ o₂ : List ℕ} → got k ≡ ParseExpr.width_of text (lit-second l).tree → m ≡ k → length v ≡ 2 + m → Put o w (35 ∷ g.a ∷ g.b ∷ g.c ∷ g.d ∷ []) o₁ u → Put o₁ u (k ∷ []) o₂ r
-                → PlannedList text count ws at w next (tcons (atom (symbol s)) us) h (told count whole) o o₂ (Leaf r)
+                → PlannedList text count ws at w next (tcons (atom (symbol s)) us) h (told count whole) o o₂ (Ok (Leaf r))
             unfolding expr_items exprs_items kind_items exprs raise words_of
             made_lit count {k} {m} {u} {r} {o} {o₁} {o₂} y i d p t =
                 rw (ap (lit text s h.scopes next) all-items ∙ lit-whole text s h.scopes next span read (lit-second l).tree (lit-second l).others (sym y) (omega (arith, digits_are)), value.words)

@@ -20,7 +20,10 @@ use Rattle.plans.specs.Plans.{refused, Listed, PlannedList}
 use Rattle.forms.specs.FormNames.{IsOne, IsTwo, IsMany, FormIs}
 use Rattle.forms.specs.declared.keywords.Form.{Form as Code}
 use Rattle.plans.specs.declared.plan.Plan.{Plan}
-use Rattle.plans.specs.declared.plan.Plan.TheVariants.{Stop, Go}
+use Rattle.plans.specs.declared.plan.Plan.TheVariants.{Go}
+use Rattle.words.specs.declared.refusal.Refusal.{Refusal}
+use Rattle.words.specs.declared.refusal.Refusal.TheVariants.{Malformed}
+use Rattle.std.specs.Prelude.{Result, Ok, Err}
 use Rattle.grammar.proofs.AnswerHolds.{AllRows, IfThere, lookup-holds}
 use Rattle.grammar.proofs.FormsWritten.{children-count, ahead_nil, ctor-told}
 use Rattle.plans.proofs.ListPlans.{head-count, head-start, head-len, head-span, behind_run, made-behind, only_run, only_of, made-only}
@@ -70,21 +73,21 @@ module _ (text : List ℕ) (count : ℕ) (ws : List ℕ) (at w next : ℕ) (s : 
 
   module _ (o o' : List ℕ) where
     -- What is left to do of the list, which is to be written as x.
-    abbrev Made : W → Plan → Type 0
+    abbrev Made : W → Result Plan Refusal → Type 0
     Made x r = PlannedList text count ws at w next (tcons (atom (symbol s)) us) h x o o' r
 
     abbrev whole : W
     whole = told count (ParseExpr.parse_form text (ParseExpr.form_of text s) s items h.scopes next)
 
-    pub made_one : {a n u : ℕ} → IsOne (ParseExpr.form_of text s) a n → Put o w (a ∷ []) o' u → Made whole (Go (behind_run text count ws at w next s us h o o' n u))
+    pub made_one : {a n u : ℕ} → IsOne (ParseExpr.form_of text s) a n → Put o w (a ∷ []) o' u → Made whole (Ok (Go (behind_run text count ws at w next s us h o o' n u)))
     unfolding ParseExpr.parse_form raise words_of
     made_one {a} {n} i p = rw i.is (made-behind text count ws at w next s us h o o' i.kind n (a ∷ []) (ap (λ its. words_of (raise count its)) i.words) (omega arith) p)
 
-    pub made-two : {a b n u : ℕ} → IsTwo (ParseExpr.form_of text s) a b n → Put o w (a ∷ b ∷ []) o' u → Made whole (Go (behind_run text count ws at w next s us h o o' n u))
+    pub made-two : {a b n u : ℕ} → IsTwo (ParseExpr.form_of text s) a b n → Put o w (a ∷ b ∷ []) o' u → Made whole (Ok (Go (behind_run text count ws at w next s us h o o' n u)))
     unfolding ParseExpr.parse_form raise words_of
     made-two {a} {b} {n} i p = rw i.is (made-behind text count ws at w next s us h o o' i.kind n (a ∷ b ∷ []) (ap (λ its. words_of (raise count its)) i.words) (omega arith) p)
 
-    pub made-many : {a m u : ℕ} → IsMany (ParseExpr.form_of text s) a → m ≡ get_or ws (at + 1) 0 - 1 → Put o w (a ∷ (get_or ws (at + 1) 0 - 1) ∷ []) o' u → Made whole (Go (behind_run text count ws at w next s us h o o' m u))
+    pub made-many : {a m u : ℕ} → IsMany (ParseExpr.form_of text s) a → m ≡ get_or ws (at + 1) 0 - 1 → Put o w (a ∷ (get_or ws (at + 1) 0 - 1) ∷ []) o' u → Made whole (Ok (Go (behind_run text count ws at w next s us h o o' m u)))
     unfolding ParseExpr.parse_form raise words_of ParseExpr.child
     made-many {a} {m} {u} i e p =
         let k : length (ParseExpr.children text us) ≡ m = omega (arith, children-count text us, head-count s us h, e) in
@@ -96,7 +99,7 @@ module _ (text : List ℕ) (count : ℕ) (ws : List ℕ) (at w next : ℕ) (s : 
     only-plain tnil sc n = refl
     only-plain (tcons t ts) sc n = sym (ahead_nil _)
 
-    pub made-cast : {r : Plan} {u : ℕ} → ParseExpr.form_of text s ≡ cast → o' ≡ o → u ≡ w → r ≡ pick (ltb (get_or ws (at + 1) 0) 2) (Stop 8) (Go (only_run at u)) → Made whole r
+    pub made-cast : {r : Result Plan Refusal} {u : ℕ} → ParseExpr.form_of text s ≡ cast → o' ≡ o → u ≡ w → r ≡ pick (ltb (get_or ws (at + 1) 0) 2) (Err Malformed) (Ok (Go (only_run at u))) → Made whole r
     unfolding ParseExpr.parse_form laid
     made-cast f p e q = rw (q, f) (made-only text count ws at w next s o o' _ [] _ us h (only-plain us h.scopes next) (omega arith) (record { is = omega (arith, e); words = p }))
 
@@ -108,7 +111,7 @@ module _ (text : List ℕ) (count : ℕ) (ws : List ℕ) (at w next : ℕ) (s : 
     only-ctor tnil sc n = refl
     only-ctor (tcons t ts) sc n = ctor-told text count ctor ((ParseExpr.child text t).plainly sc n)
 
-    pub made-ctor : {r : Plan} {u : ℕ} → ParseExpr.form_of text s ≡ is_ctor → Put o w (50 ∷ (get_or ws (at + 4) 0 + 3) ∷ (get_or ws (at + 5) 0 - 3) ∷ []) o' u → r ≡ pick (ltb (get_or ws (at + 1) 0) 2) (Stop 8) (Go (only_run at u)) → Made whole r
+    pub made-ctor : {r : Result Plan Refusal} {u : ℕ} → ParseExpr.form_of text s ≡ is_ctor → Put o w (50 ∷ (get_or ws (at + 4) 0 + 3) ∷ (get_or ws (at + 5) 0 - 3) ∷ []) o' u → r ≡ pick (ltb (get_or ws (at + 1) 0) 2) (Err Malformed) (Ok (Go (only_run at u))) → Made whole r
     unfolding ParseExpr.parse_form
     made-ctor {u = u} f p q =
         rw (q, f)
@@ -116,21 +119,21 @@ module _ (text : List ℕ) (count : ℕ) (ws : List ℕ) (at w next : ℕ) (s : 
         (subst (λ k. Put o w (50 ∷ (k + 3) ∷ (s.len - 3) ∷ []) o' u) (head-start s us h) (subst (λ l. Put o w (50 ∷ (get_or ws (at + 4) 0 + 3) ∷ (l - 3) ∷ []) o' u) (head-len s us h) p)))
 
     -- A form of its own.
-    pub made_other : (r : Plan) (f : Form) → ParseExpr.form_of text s ≡ f → Made (told count (ParseExpr.parse_form text f s items h.scopes next)) r → Made whole r
+    pub made_other : (r : Result Plan Refusal) (f : Form) → ParseExpr.form_of text s ≡ f → Made (told count (ParseExpr.parse_form text f s items h.scopes next)) r → Made whole r
     made_other r f e p = rw e p
 
-    pub made-apply : ParseExpr.form_of text s ≡ apply → Made whole (Stop 8)
+    pub made-apply : ParseExpr.form_of text s ≡ apply → Made whole (Err Malformed)
     unfolding ParseExpr.parse_form ParseExpr.apply_form in_list child_at ParseExpr.child ParseExpr.atom_child
     made-apply e = rw e (refused refl)
 
     -- `(- a)` is Neg, with any other number of items it is Sub.
-    pub minus_neg : {u : ℕ} → get_or ws (at + 1) 0 ≡ 2 → Put o w (39 ∷ []) o' u → Made (told count (minus_form items h.scopes next)) (Go (behind_run text count ws at w next s us h o o' 1 u))
+    pub minus_neg : {u : ℕ} → get_or ws (at + 1) 0 ≡ 2 → Put o w (39 ∷ []) o' u → Made (told count (minus_form items h.scopes next)) (Ok (Go (behind_run text count ws at w next s us h o o' 1 u)))
     unfolding minus_form pick kind_items raise words_of trees
     minus_neg e p =
         rw (eq-eqb (length items) 2 (children-count text (tcons (atom (symbol s)) us) ∙ sym (head-count s us h) ∙ e))
         (made-behind text count ws at w next s us h o o' k_neg 1 (39 ∷ []) refl (omega arith) p)
 
-    pub minus_sub : {u : ℕ} → (get_or ws (at + 1) 0 ≡ 2 → ⊥) → Put o w (40 ∷ 1 ∷ []) o' u → Made (told count (minus_form items h.scopes next)) (Go (behind_run text count ws at w next s us h o o' 2 u))
+    pub minus_sub : {u : ℕ} → (get_or ws (at + 1) 0 ≡ 2 → ⊥) → Put o w (40 ∷ 1 ∷ []) o' u → Made (told count (minus_form items h.scopes next)) (Ok (Go (behind_run text count ws at w next s us h o o' 2 u)))
     unfolding minus_form pick kind_items raise words_of trees
     minus_sub e p =
         rw (ne_eqb (length items) 2 (λ q. e (head-count s us h ∙ sym (children-count text (tcons (atom (symbol s)) us)) ∙ q)))

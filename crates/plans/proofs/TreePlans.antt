@@ -14,16 +14,19 @@ use Rattle.places.specs.Spot.{Spot}
 use Rattle.scopes.specs.Scopes.{OpenScopes}
 use Rattle.places.specs.Outcome.{bound, Put}
 use Rattle.plans.specs.Plans.{Wrote, Parsed, wrote, refused, Here, Listed, SomeList, Plans, Planned, PlannedList, most}
-use Rattle.plans.specs.declared.progress.Progress.TheVariants.{Done, Refused}
+use Rattle.words.specs.declared.refusal.Refusal.{Refusal}
+use Rattle.words.specs.declared.refusal.Refusal.TheVariants.{DecimalRead}
+use Rattle.std.specs.Prelude.{Result, Ok, Err}
+use Rattle.plans.specs.Plans.{reached}
 use Rattle.plans.specs.declared.plan.Plan.{Plan}
-use Rattle.plans.specs.declared.plan.Plan.TheVariants.{Stop, Leaf}
+use Rattle.plans.specs.declared.plan.Plan.TheVariants.{Leaf}
 use Rattle.reading.proofs.TreeHead.{tree-two}
 use Rattle.places.proofs.Spots.{word, word0, spot-within}
 
 -- A leaf of few words.
-pub leaf-made : (t : Tree) {ws o o' : List ℕ} {w u next : ℕ} → Put o w ws o' u → u ≤ w + 6 → Parsed (ok ws next) w o o' (most w next t) (Done u next)
+pub leaf-made : (t : Tree) {ws o o' : List ℕ} {w u next : ℕ} → Put o w ws o' u → u ≤ w + 6 → Parsed (ok ws next) w o o' (most w next t) (reached u next)
 leaf-made t {ws} {o} {o'} {w} {u} {next} p l =
-    let y : Wrote ws next w o o' (most w next t) (Done u next) = record { is = ap (λ (k : ℕ). Done k next) p.is; words = p.words; room = omega (arith, p.is, tree-two t) } in
+    let y : Wrote ws next w o o' (most w next t) (reached u next) = record { is = ap (λ (k : ℕ). reached k next) p.is; words = p.words; room = omega (arith, p.is, tree-two t) } in
     wrote y
 
 module _ {ws : List ℕ} {at : ℕ} (p : Spot ws at) where
@@ -69,9 +72,9 @@ module _ (text : List ℕ) (ws : List ℕ) (at : ℕ) (es : List ℕ) (d w next 
   pub here-list : get_or ws at 0 ≡ 21 → SomeList text ws at w next
   here-list k = list_of h.spot.tree h.spot.rest h.spot.words h.shallow h.room (sym (word0 h.spot) ∙ k)
 
-  module _ (count : ℕ) (o o' : List ℕ) (r : Plan) where
+  module _ (count : ℕ) (o o' : List ℕ) (r : Result Plan Refusal) where
     -- What a tree is planned as.
-    abbrev PlanOf : Tree → Plan → Type 0
+    abbrev PlanOf : Tree → Result Plan Refusal → Type 0
     PlanOf t p = Plans text count ws at d next h.scopes (told count ((ParseExpr.child text t).plainly h.scopes next)) w o o' (most w next t) p
 
     plan-list : (t : Tree) (rest : List ℕ) → drop at ws ≡ tree_words t ++ rest → d + nesting t ≤ max_lists → most w next t ≤ bound → get_or (tree_words t ++ rest) 0 0 ≡ 21
@@ -93,7 +96,7 @@ module _ (text : List ℕ) (ws : List ℕ) (at : ℕ) (es : List ℕ) (d w next 
   module _ (count : ℕ) (o o' : List ℕ) (u : ℕ) where
     -- What an atom is planned as, by what the code reads at its place.
     abbrev LeafOf : Tree → Type 0
-    LeafOf t = Parsed (told count ((ParseExpr.child text t).plainly h.scopes next)) w o o' (most w next t) (Done u next)
+    LeafOf t = Parsed (told count ((ParseExpr.child text t).plainly h.scopes next)) w o o' (most w next t) (reached u next)
 
     at_one : (t : Tree) (rest : List ℕ) → drop at ws ≡ tree_words t ++ rest → (i : ℕ) → get_or ws (at + i) 0 ≡ get_or (tree_words t ++ rest) i 0
     at_one t rest e i = word {ws = ws} {at = at} (record { tree = t; rest = rest; words = e }) i
@@ -108,7 +111,7 @@ module _ (text : List ℕ) (ws : List ℕ) (at : ℕ) (es : List ℕ) (d w next 
     plan-symbol (atom (boolean x)) rest e k p l = absurd (omega arith)
     plan-symbol (list ts) rest e k p l = absurd (omega arith)
 
-    pub planned-symbol : get_or ws at 0 ≡ 16 → Put o w (expr_words count (Scope.symbol_expr text (record { start = get_or ws (at + 1) 0; len = get_or ws (at + 2) 0 }) h.scopes)) o' u → u ≤ w + 3 → Planned text count ws at es d w next h o o' (Leaf u)
+    pub planned-symbol : get_or ws at 0 ≡ 16 → Put o w (expr_words count (Scope.symbol_expr text (record { start = get_or ws (at + 1) 0; len = get_or ws (at + 2) 0 }) h.scopes)) o' u → u ≤ w + 3 → Planned text count ws at es d w next h o o' (Ok (Leaf u))
     planned-symbol k p l = plan-symbol h.spot.tree h.spot.rest h.spot.words (sym (word0 h.spot) ∙ k) p l
 
     plan-integer : (t : Tree) (rest : List ℕ) → drop at ws ≡ tree_words t ++ rest → get_or (tree_words t ++ rest) 0 0 ≡ 18
@@ -123,7 +126,7 @@ module _ (text : List ℕ) (ws : List ℕ) (at : ℕ) (es : List ℕ) (d w next 
     plan-integer (list ts) rest e k p l = absurd (omega arith)
 
     pub planned-integer : get_or ws at 0 ≡ 18 → Put o w (expr_words count (numeral (record { a = get_or ws (at + 1) 0; b = get_or ws (at + 2) 0; c = get_or ws (at + 3) 0; d = get_or ws (at + 4) 0 }))) o' u → u ≤ w + 6
-        → Planned text count ws at es d w next h o o' (Leaf u)
+        → Planned text count ws at es d w next h o o' (Ok (Leaf u))
     planned-integer k p l = plan-integer h.spot.tree h.spot.rest h.spot.words (sym (word0 h.spot) ∙ k) p l
 
     plan-boolean : (t : Tree) (rest : List ℕ) → drop at ws ≡ tree_words t ++ rest → get_or (tree_words t ++ rest) 0 0 ≡ 20 → Put o w (33 ∷ get_or ws (at + 1) 0 ∷ []) o' u → LeafOf t
@@ -135,7 +138,7 @@ module _ (text : List ℕ) (ws : List ℕ) (at : ℕ) (es : List ℕ) (d w next 
     plan-boolean (atom (boolean x)) rest e k p = leaf-made (atom (boolean x)) (rw (sym (at_one (atom (boolean x)) rest e 1)) p) (omega (arith, p.is))
     plan-boolean (list ts) rest e k p = absurd (omega arith)
 
-    pub planned-boolean : get_or ws at 0 ≡ 20 → Put o w (33 ∷ get_or ws (at + 1) 0 ∷ []) o' u → Planned text count ws at es d w next h o o' (Leaf u)
+    pub planned-boolean : get_or ws at 0 ≡ 20 → Put o w (33 ∷ get_or ws (at + 1) 0 ∷ []) o' u → Planned text count ws at es d w next h o o' (Ok (Leaf u))
     planned-boolean k p = plan-boolean h.spot.tree h.spot.rest h.spot.words (sym (word0 h.spot) ∙ k) p
 
     plan-quoted : (t : Tree) (rest : List ℕ) → drop at ws ≡ tree_words t ++ rest → get_or (tree_words t ++ rest) 0 0 ≡ 17 → Put o w (34 ∷ get_or ws (at + 1) 0 ∷ get_or ws (at + 2) 0 ∷ []) o' u → LeafOf t
@@ -147,13 +150,13 @@ module _ (text : List ℕ) (ws : List ℕ) (at : ℕ) (es : List ℕ) (d w next 
     plan-quoted (atom (boolean x)) rest e k p = absurd (omega arith)
     plan-quoted (list ts) rest e k p = absurd (omega arith)
 
-    pub planned-quoted : get_or ws at 0 ≡ 17 → Put o w (34 ∷ get_or ws (at + 1) 0 ∷ get_or ws (at + 2) 0 ∷ []) o' u → Planned text count ws at es d w next h o o' (Leaf u)
+    pub planned-quoted : get_or ws at 0 ≡ 17 → Put o w (34 ∷ get_or ws (at + 1) 0 ∷ get_or ws (at + 2) 0 ∷ []) o' u → Planned text count ws at es d w next h o o' (Ok (Leaf u))
     planned-quoted k p = plan-quoted h.spot.tree h.spot.rest h.spot.words (sym (word0 h.spot) ∙ k) p
 
   module _ (count : ℕ) (o o' : List ℕ) where
     -- What is none of the others is a decimal.
     plan-decimal : (t : Tree) (rest : List ℕ) {k : ℕ} → k ≡ get_or (tree_words t ++ rest) 0 0 → (k ≡ 21 → ⊥) → (k ≡ 16 → ⊥) → (k ≡ 18 → ⊥) → (k ≡ 20 → ⊥) → (k ≡ 17 → ⊥)
-        → Parsed (told count ((ParseExpr.child text t).plainly h.scopes next)) w o o' (most w next t) (Refused 9)
+        → Parsed (told count ((ParseExpr.child text t).plainly h.scopes next)) w o o' (most w next t) (Err DecimalRead)
     unfolding tree_words atom_words ParseExpr.child ParseExpr.atom_child ParseExpr.atom_expr
     plan-decimal (atom (symbol x)) rest e a b c d f = absurd (b e)
     plan-decimal (atom (quoted x)) rest e a b c d f = absurd (f e)
@@ -162,5 +165,5 @@ module _ (text : List ℕ) (ws : List ℕ) (at : ℕ) (es : List ℕ) (d w next 
     plan-decimal (atom (boolean x)) rest e a b c d f = absurd (d e)
     plan-decimal (list ts) rest e a b c d f = absurd (a e)
 
-    pub planned-decimal : (get_or ws at 0 ≡ 21 → ⊥) → (get_or ws at 0 ≡ 16 → ⊥) → (get_or ws at 0 ≡ 18 → ⊥) → (get_or ws at 0 ≡ 20 → ⊥) → (get_or ws at 0 ≡ 17 → ⊥) → Planned text count ws at es d w next h o o' (Stop 9)
+    pub planned-decimal : (get_or ws at 0 ≡ 21 → ⊥) → (get_or ws at 0 ≡ 16 → ⊥) → (get_or ws at 0 ≡ 18 → ⊥) → (get_or ws at 0 ≡ 20 → ⊥) → (get_or ws at 0 ≡ 17 → ⊥) → Planned text count ws at es d w next h o o' (Err DecimalRead)
     planned-decimal a b c d f = plan-decimal h.spot.tree h.spot.rest (word0 h.spot) a b c d f

@@ -1,9 +1,9 @@
 -- What the parser of expressions asks of a call and leaves behind it: a plan, operands, an expression.
-use Rattle.std.specs.Prelude.{◌≡◌, ℕ, ◌+◌, ◌*◌, ◌<◌, ◌≤◌, true, false, List, [], ◌∷◌, ◌++◌, length, drop}
+use Rattle.std.specs.Prelude.{◌≡◌, ℕ, ◌+◌, ◌*◌, ◌<◌, ◌≤◌, true, false, List, [], ◌∷◌, ◌++◌, length, drop, Result, Ok, Err}
 use Rattle.reading.specs.Limits.{max_bytes, max_lists}
 use Rattle.reading.specs.Bytes.{Span}
 use Rattle.reading.specs.Tree.{symbol, Tree, Trees, atom, list, tcons, trees, tree_words, trees_words, nesting, nestings}
-use Rattle.reading.specs.Answer.{Refusal, number, ok, no}
+use Rattle.reading.specs.Answer.{Refusal as Met, ok, no}
 use Rattle.grammar.specs.Scope.{Scope}
 use Rattle.grammar.specs.ParseExpr.{child}
 use Rattle.grammar.specs.Written.{W, told, after, operands_w, end_w, Last, no_last, seen_last, plain_last, bound_last}
@@ -12,26 +12,31 @@ use Rattle.scopes.specs.Scopes.{Pairs, Opened, inner, slots}
 use Rattle.writing.specs.Laid.{laid}
 use Rattle.places.specs.Outcome.{bound}
 use Rattle.plans.specs.Late.{filled}
+use Rattle.words.specs.declared.refusal.Refusal.{Refusal}
+use Rattle.words.specs.Refusals.{refusal_of}
 use Rattle.plans.specs.declared.progress.Progress.{Progress}
-use Rattle.plans.specs.declared.progress.Progress.TheVariants.{Done, Refused}
 use Rattle.plans.specs.declared.plan.Plan.{Plan}
-use Rattle.plans.specs.declared.plan.Plan.TheVariants.{Stop, Leaf, Go}
+use Rattle.plans.specs.declared.plan.Plan.TheVariants.{Leaf, Go}
 use Rattle.plans.specs.declared.plan.Run.{Run}
 
 -- A tree of so many words is written in at most 16 times as many, and takes at most as many numbers.
 abbrev pub factor : ℕ
 factor = 16
 
+-- So far the words have come, and this number is next.
+abbrev pub reached : ℕ → ℕ → Result Progress Refusal
+reached w m = Ok (record { words = w; next = m })
+
 -- The words are laid from w on, the next number is m, and both stay within b.
-pub record Wrote (ws : List ℕ) (m w : ℕ) (o o' : List ℕ) (b : ℕ) (r : Progress) : Type 0 where
-  pub is : r ≡ Done (w + length ws) m
+pub record Wrote (ws : List ℕ) (m w : ℕ) (o o' : List ℕ) (b : ℕ) (r : Result Progress Refusal) : Type 0 where
+  pub is : r ≡ reached (w + length ws) m
   pub words : o' ≡ laid o w ws
   pub room : w + length ws + m ≤ b
 
 -- What a call did: it wrote the words; or it was refused, and the output is free.
-pub data Parsed : W → ℕ → List ℕ → List ℕ → ℕ → Progress → Type 0 where
-  wrote : {ws : List ℕ} {m w : ℕ} {o o' : List ℕ} {b : ℕ} {r : Progress} → Wrote ws m w o o' b r → Parsed (ok ws m) w o o' b r
-  refused : {e : Refusal} {w : ℕ} {o o' : List ℕ} {b : ℕ} {r : Progress} → r ≡ Refused (number e) → Parsed (no e) w o o' b r
+pub data Parsed : W → ℕ → List ℕ → List ℕ → ℕ → Result Progress Refusal → Type 0 where
+  wrote : {ws : List ℕ} {m w : ℕ} {o o' : List ℕ} {b : ℕ} {r : Result Progress Refusal} → Wrote ws m w o o' b r → Parsed (ok ws m) w o o' b r
+  refused : {e : Met} {w : ℕ} {o o' : List ℕ} {b : ℕ} {r : Result Progress Refusal} → r ≡ Err (refusal_of e) → Parsed (no e) w o o' b r
 
 -- The most that the words of a tree, and its numbers, come to.
 abbrev pub most : ℕ → ℕ → Tree → ℕ
@@ -140,23 +145,23 @@ pub record Running (text : List ℕ) (count : ℕ) (ws : List ℕ) (at depth nex
   pub shallow : depth + 1 + nestings items ≤ max_lists
   pub end_shallow : depth + 1 + end_nesting final ≤ max_lists
   pub room : r.words + (next + r.fresh) + factor * length (trees_words items) + factor * end_size final ≤ b
-  pub goes : (o'' : List ℕ) (q : Progress) (m : ℕ)
+  pub goes : (o'' : List ℕ) (q : Result Progress Refusal) (m : ℕ)
       → Counts (operands_w text count items r.want (inner r.names bind.names next sc) (next + r.fresh)) m
       → Parsed (after (operands_w text count items r.want (inner r.names bind.names next sc) (next + r.fresh))
       (λ n. end_w text count final (inner r.names bind.names next sc) bind.names n)) r.words (filled r.pair (w + 1) (count + m) o') o'' b q
       → Parsed x w o o'' b q
 
 -- What a plan says of x: it is refused, it is written, or what is left to do.
-abbrev pub Plans : (text : List ℕ) (count : ℕ) (ws : List ℕ) (at depth next : ℕ) (sc : List Scope) (x : W) (w : ℕ) (o o' : List ℕ) (b : ℕ) → Plan → Type 0
-Plans text count ws at depth next sc x w o o' b (Stop e) = Parsed x w o o' b (Refused e)
-Plans text count ws at depth next sc x w o o' b (Leaf u) = Parsed x w o o' b (Done u next)
-Plans text count ws at depth next sc x w o o' b (Go r) = Running text count ws at depth next sc x w o o' b r
+abbrev pub Plans : (text : List ℕ) (count : ℕ) (ws : List ℕ) (at depth next : ℕ) (sc : List Scope) (x : W) (w : ℕ) (o o' : List ℕ) (b : ℕ) → Result Plan Refusal → Type 0
+Plans text count ws at depth next sc x w o o' b (Err e) = Parsed x w o o' b (Err e)
+Plans text count ws at depth next sc x w o o' b (Ok (Leaf u)) = Parsed x w o o' b (reached u next)
+Plans text count ws at depth next sc x w o o' b (Ok (Go r)) = Running text count ws at depth next sc x w o o' b r
 
 -- The plan of a tree.
-abbrev pub Planned : (text : List ℕ) (count : ℕ) (ws : List ℕ) (at : ℕ) (es : List ℕ) (d w next : ℕ) (h : Here text ws at es d w next) (o o' : List ℕ) → Plan → Type 0
+abbrev pub Planned : (text : List ℕ) (count : ℕ) (ws : List ℕ) (at : ℕ) (es : List ℕ) (d w next : ℕ) (h : Here text ws at es d w next) (o o' : List ℕ) → Result Plan Refusal → Type 0
 Planned text count ws at es d w next h o o' r =
     Plans text count ws at d next h.scopes (told count ((child text h.spot.tree).plainly h.scopes next)) w o o' (most w next h.spot.tree) r
 
 -- The plan of a list, which is to be written as x.
-abbrev pub PlannedList : (text : List ℕ) (count : ℕ) (ws : List ℕ) (at w next : ℕ) (items : Trees) (h : Listed text ws at w next items) (x : W) (o o' : List ℕ) → Plan → Type 0
+abbrev pub PlannedList : (text : List ℕ) (count : ℕ) (ws : List ℕ) (at w next : ℕ) (items : Trees) (h : Listed text ws at w next items) (x : W) (o o' : List ℕ) → Result Plan Refusal → Type 0
 PlannedList text count ws at w next items h x o o' r = Plans text count ws at h.depth next h.scopes x w o o' (most w next (list items)) r

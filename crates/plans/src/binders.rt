@@ -9,8 +9,8 @@ ghost use Rattle.plans.specs.BinderWords.{BinderRow, binders_words};
 use places::expr_words::put2;
 use places::place::words_at;
 use places::sort_at::sort_at;
-use words::Answer;
 use words::number::{high, low};
+use words::refusal::Refusal;
 use words::tree_kinds::{LIST, SYMBOL};
 
 // Whether a tree is a pair of a name and a sort, and nothing more; the sort is not read yet.
@@ -18,10 +18,7 @@ pub fn is_pair(tree: &[u32], at: usize) -> bool
     requires { Spot tree.now at }
     ensures { (p : Spot tree.now at) → result ≡ is_got (name_of p.tree) }
 {
-    if tree[at] != LIST {
-        return false;
-    }
-    if tree[at + 1] != 2 {
+    if tree[at] != LIST || tree[at + 1] != 2 {
         return false;
     }
     tree[at + 3] == SYMBOL
@@ -36,30 +33,21 @@ pub fn binder_words(
     from: u64,
     out: &mut [u32],
     w: usize,
-) -> Answer
+) -> Result<usize, Refusal>
     requires { BinderRow tree.now at n w }
     ensures { (h : BinderRow tree.now at n w) (count next : ℕ) → from ≡ (count + next) % 2 ^ 64 → OutcomeAt (binders_words count next) (binders text.now h.items) w out.old out.new result }
 {
-    let mut i: usize = 0;
     let mut p = at;
     let mut k = from;
     let mut v = w;
-    while i < n {
+    for _i in 0..n {
         if !is_pair(tree, p) {
-            return Answer::Refused(8);
+            return Err(Refusal::Malformed);
         }
         let u = put2(out, v, low(k), high(k));
-        match sort_at(text, tree, p + 6, out, u) {
-            Answer::Refused(e) => {
-                return Answer::Refused(e);
-            }
-            Answer::Done(x) => {
-                p += words_at(tree, p);
-                k = std::num::wrapping_add_u64(k, 1);
-                v = x;
-                i += 1;
-            }
-        }
+        v = sort_at(text, tree, p + 6, out, u)?;
+        p += words_at(tree, p);
+        k = k.wrapping_add(1);
     }
-    Answer::Done(v)
+    Ok(v)
 }

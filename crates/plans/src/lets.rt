@@ -8,34 +8,39 @@ ghost use Rattle.plans.specs.Plans.{Listed, Headed, PlannedList};
 
 use crate::plan::{Plan, Run};
 use places::expr_words::put1;
-use places::place::{Node, node_at, through, words_at};
+use places::place::{list_at, through, words_at};
 use words::expr_kinds::LET_FRESH;
+use words::refusal::Refusal;
 use words::tree_kinds::SYMBOL;
 
 // `(let (name value) body)`: the value, and behind it the body, where the name is bound. The number is not known yet: its two words are left
 // free. A missing body is refused when it is reached.
-pub fn let_plan(text: &[u8], tree: &[u32], at: usize, next: u64, out: &mut [u32], w: usize) -> Plan
+pub fn let_plan(
+    text: &[u8],
+    tree: &[u32],
+    at: usize,
+    next: u64,
+    out: &mut [u32],
+    w: usize,
+) -> Result<Plan, Refusal>
     requires { Headed text.now tree.now at w next }
     ensures { (s : Span) (us : Trees) (h : Listed text.now tree.now at w next (tcons (atom (symbol s)) us)) (count : ℕ) → PlannedList text.now count tree.now at w next (tcons (atom (symbol s)) us) h (told count (let_form (children text.now (tcons (atom (symbol s)) us)) h.scopes next)) out.old out.new result }
 {
     let n = tree[at + 1];
     if n < 2 {
-        return Plan::Stop(8);
+        return Err(Refusal::Malformed);
     }
     let pair = through(text, tree, at + 6);
-    let Node::List(m, first) = node_at(tree, pair) else {
-        return Plan::Stop(8);
+    let Some(list) = list_at(tree, pair) else {
+        return Err(Refusal::Malformed);
     };
-    if m < 2 {
-        return Plan::Stop(8);
-    }
-    if tree[first] != SYMBOL {
-        return Plan::Stop(8);
+    if list.items < 2 || tree[list.first] != SYMBOL {
+        return Err(Refusal::Malformed);
     }
     let v = put1(out, w, LET_FRESH) + 2;
     if n < 3 {
-        return Plan::Go(Run {
-            first: first + 3,
+        return Ok(Plan::Go(Run {
+            first: list.first + 3,
             have: 1,
             want: 2,
             last: 0,
@@ -44,10 +49,10 @@ pub fn let_plan(text: &[u8], tree: &[u32], at: usize, next: u64, out: &mut [u32]
             fresh: 0,
             pair: 0,
             words: v,
-        });
+        }));
     }
-    Plan::Go(Run {
-        first: first + 3,
+    Ok(Plan::Go(Run {
+        first: list.first + 3,
         have: 1,
         want: 1,
         last: at + 6 + words_at(tree, at + 6),
@@ -56,5 +61,5 @@ pub fn let_plan(text: &[u8], tree: &[u32], at: usize, next: u64, out: &mut [u32]
         fresh: 0, // and its numbers come first
         pair: pair,
         words: v,
-    })
+    }))
 }

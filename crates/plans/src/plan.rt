@@ -2,10 +2,12 @@
 ghost use Rattle.plans.specs.Plans.{Here, Planned};
 
 use crate::lists::list_plan;
-use lexing::quad::Quad;
-use places::expr_words::{VarName, put_name, put_numeral, put2};
+use places::expr_words::{put_name, put_numeral, put2};
 use scopes::variable::variable;
 use words::expr_kinds::{BOOLEAN, STRING};
+use words::quad::Quad;
+use words::refusal::Refusal;
+use words::span::Span;
 use words::tree_kinds;
 
 // Operands that are left to read: where the first is, how many there are, how many are wanted; where one more stands behind them and
@@ -24,10 +26,9 @@ pub struct Run {
     pub words: usize,
 }
 
-// A refusal; an expression without operands, and the place behind its words; or operands.
+// An expression without operands, and the place behind its words; or operands.
 #[derive(Clone, Copy)]
 pub enum Plan {
-    Stop(u32),
     Leaf(usize),
     Go(Run),
 }
@@ -43,33 +44,36 @@ pub fn planned(
     next: u64,
     out: &mut [u32],
     w: usize,
-) -> Plan
+) -> Result<Plan, Refusal>
     requires { Here text.now tree.now at scopes.now depth w next }
     ensures { (h : Here text.now tree.now at scopes.now depth w next) → Planned text.now count tree.now at scopes.now depth w next h out.old out.new result }
 {
-    let kind = tree[at];
-    if kind == tree_kinds::LIST {
-        return list_plan(text, tree, at, count, next, out, w);
+    match tree[at] {
+        tree_kinds::LIST => list_plan(text, tree, at, count, next, out, w),
+        tree_kinds::SYMBOL => {
+            let name = Span {
+                start: tree[at + 1],
+                len: tree[at + 2],
+            };
+            Ok(Plan::Leaf(variable(text, tree, name, scopes, depth, count, out, w)))
+        }
+        tree_kinds::INTEGER => {
+            let q = Quad {
+                a: tree[at + 1],
+                b: tree[at + 2],
+                c: tree[at + 3],
+                d: tree[at + 4],
+            };
+            Ok(Plan::Leaf(put_numeral(out, w, q)))
+        }
+        tree_kinds::BOOLEAN => Ok(Plan::Leaf(put2(out, w, BOOLEAN, tree[at + 1]))),
+        tree_kinds::QUOTED => {
+            let name = Span {
+                start: tree[at + 1],
+                len: tree[at + 2],
+            };
+            Ok(Plan::Leaf(put_name(out, w, STRING, name)))
+        }
+        _ => Err(Refusal::DecimalRead),
     }
-    if kind == tree_kinds::SYMBOL {
-        let name = VarName(tree[at + 1], tree[at + 2]);
-        return Plan::Leaf(variable(text, tree, name, scopes, depth, count, out, w));
-    }
-    if kind == tree_kinds::INTEGER {
-        let q = Quad {
-            a: tree[at + 1],
-            b: tree[at + 2],
-            c: tree[at + 3],
-            d: tree[at + 4],
-        };
-        return Plan::Leaf(put_numeral(out, w, q));
-    }
-    if kind == tree_kinds::BOOLEAN {
-        return Plan::Leaf(put2(out, w, BOOLEAN, tree[at + 1]));
-    }
-    if kind == tree_kinds::QUOTED {
-        let name = VarName(tree[at + 1], tree[at + 2]);
-        return Plan::Leaf(put_name(out, w, STRING, name));
-    }
-    Plan::Stop(9)
 }

@@ -1,8 +1,8 @@
 // How far the output and the fresh numbers have come.
 
-// The place behind the words written and the next fresh number, or a refusal.
+// The place behind the words written, and the next fresh number.
 #[derive(Clone, Copy)]
-pub enum Progress {
-    Done(usize, u64),
-    Refused(u32),
+pub struct Progress {
+    pub words: usize,
+    pub next: u64,
 }

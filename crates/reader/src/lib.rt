@@ -14,7 +14,9 @@ ghost use Rattle.replies.specs.Calls.{one_call, all_call, sort_call, expr_call, 
 ghost use Rattle.replies.specs.Sessions.{Promised};
 ghost use Rattle.reader.specs.Replied.{replied};
 
-use replies::{Said, count_after, counted, read, sized};
+use replies::{count_after, counted, sized};
+use words::refusal::Refusal;
+use words::report::Report;
 
 // The next fresh number.
 #[derive(Clone, Copy)]
@@ -26,7 +28,7 @@ pub struct Reader {
 #[derive(Clone, Copy)]
 pub struct Answer {
     pub reader: Reader,
-    pub said: Said,
+    pub said: Result<Report, Refusal>,
 }
 
 impl Reader {
@@ -44,7 +46,7 @@ impl Reader {
         ensures { Promised (one_call text.now out.old) self.next (replied result [] [] out.new) }
     {
         Answer {
-            said: read(text::read_one(text, out)),
+            said: text::read_one(text, out),
             reader: self,
         }
     }
@@ -54,7 +56,7 @@ impl Reader {
         ensures { Promised (all_call text.now out.old) self.next (replied result [] [] out.new) }
     {
         Answer {
-            said: read(text::read_all(text, out)),
+            said: text::read_all(text, out),
             reader: self,
         }
     }

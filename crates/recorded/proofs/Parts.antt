@@ -1,5 +1,5 @@
 -- Laws of the parts of a field.
-use Prim.Native.Nat.{ℕ, suc, ◌+◌, ◌*◌, ◌≤◌, ◌<◌}
+use Prim.Native.Nat.{ℕ, suc, ◌+◌, ◌*◌, ◌≤◌, ◌<◌, min}
 use mathlib.Core.Bool.{Bool, true, false}
 use mathlib.Core.Path.{◌≡◌, refl, sym, ap, ◌∙◌}
 use mathlib.Core.List.{List, [], ◌∷◌, ◌++◌}
@@ -8,15 +8,16 @@ use native.Mathlib.Omega.{arith}
 use borrow.Author.Tests.{leb-true, leb-false}
 use lib.Dec.{leb, ltb}
 use lib.ListN.{length, get_or, drop, drop_of_length-le}
-use lib.Seq.{drop-cons, drop-drop, get_or-drop}
+use lib.Seq.{sets, drop-cons, drop-drop, get_or-drop}
 use Rattle.reading.specs.Pick.{pick}
 use Rattle.reading.proofs.Picks.{pick_lt, pick_ge, pick_eq, pick_ne, pick-holds}
-use Rattle.recorded.specs.Numbers.{digit, decimal, hexadecimal}
+use Rattle.reading.specs.Answer.{over}
+use Rattle.recorded.specs.Numbers.{most, digit, decimal, hexadecimal}
 use Rattle.recorded.specs.Fields.{ends, up_to, end_from}
 use Rattle.recorded.specs.Spelled.{parts_behind, times, bytes_once, word_once, again, spelled}
 use Rattle.recorded.proofs.Digits.{digit-zero}
-use Rattle.recorded.proofs.Storing.{again-nothing}
-use Rattle.recorded.proofs.Places.{ends-zero, ends-small, byte_inside}
+use Rattle.recorded.proofs.Storing.{again-nothing, Left, left-none, left-more, stored-over}
+use Rattle.recorded.proofs.Places.{ends-zero, ends-small}
 
 -- The next part, where `.` or `,` ends the first one.
 parts_more : (s : List ℕ) → ends (get_or s (up_to 2 s) 0) ≡ 2 → parts_behind s ≡ drop (suc (up_to 2 s)) s ∷ parts_behind (drop (suc (up_to 2 s)) s)
@@ -57,6 +58,17 @@ module _ (once : List ℕ → List ℕ) (s : List ℕ) (i : ℕ) {end : ℕ} (e 
   pub spelled-last : (ends (get_or s end 0) ≡ 2 → ⊥) → spelled once (drop i s ∷ parts_behind (drop i s)) ≡ again (times (drop i s)) (once (drop i s)) ++ []
   unfolding spelled
   spelled-last h = ap (λ (ps : List (List ℕ)). again (times (drop i s)) (once (drop i s)) ++ spelled once ps) (parts_last (drop i s) (λ z. h (ap ends (sym first-end) ∙ z)))
+
+-- A part is stored of what a field spells: the last one, or one that others follow.
+module _ (once : List ℕ → List ℕ) (s : List ℕ) (i : ℕ) {end : ℕ} (e : end ≡ end_from 2 s i) {l₀ all l l' : List ℕ} {n n' b : ℕ}
+    (v : Left l₀ 0 all l n (spelled once (drop i s ∷ parts_behind (drop i s)))) (m : length l₀ ≤ most)
+    (f : n' ≡ min most (n + length (again (times (drop i s)) (once (drop i s))))) (g : l' ≡ sets l n (again (times (drop i s)) (once (drop i s)))) (h : b ≡ ends (get_or s end 0)) where
+  pub part-last : (b ≡ 2 → ⊥) → (n' ≡ min most (length all)) × (l' ≡ over all l₀)
+  part-last k = stored-over all l₀ (left-none (left-more v (again (times (drop i s)) (once (drop i s))) [] (spelled-last once s i e (λ z. k (h ∙ z))) m g f) refl (omega (arith, f)))
+
+  pub part-more : b ≡ 2 → (n' ≤ most) × Left l₀ 0 all l' n' (spelled once (drop (end + 1) s ∷ parts_behind (drop (end + 1) s)))
+  part-more k =
+      (omega (arith, f), left-more v (again (times (drop i s)) (once (drop i s))) (spelled once (drop (end + 1) s ∷ parts_behind (drop (end + 1) s))) (spelled-more once s i e (sym h ∙ k)) m g f)
 
 -- How often a part is meant, by the byte behind its digits.
 module _ (s : List ℕ) (i : ℕ) {end : ℕ} (e : end ≡ end_from 1 s i) where
@@ -131,8 +143,3 @@ module _ (s : List ℕ) (i : ℕ) where
 
   pub part-some : digit (get_or s i 0) < 16 → {w t : ℕ} → w ≡ hexadecimal (drop i s) → t ≡ times (drop i s) → again (times (drop i s)) (word_once (drop i s)) ≡ again t (w ∷ [])
   part-some h {w} {t} e k = let o : word_once (drop i s) ≡ w ∷ [] = word_some h e in cc
-
--- A digit stands inside the text.
-pub low-inside : (s : List ℕ) (i : ℕ) {d : ℕ} → d ≡ digit (get_or s i 0) → d < 16 → i < length s
-low-inside s i {d} e h =
-    byte_inside s i {b = get_or s i 0} refl (λ z. let q : d ≡ 16 = e ∙ ap digit z ∙ digit-zero in omega arith)

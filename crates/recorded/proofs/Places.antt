@@ -8,10 +8,10 @@ use lib.Dec.{eqb, ltb}
 use lib.ListN.{length, get_or, drop, drop_of_length-le, get_or-eq_default}
 use lib.Seq.{drop-cons}
 use Rattle.reading.specs.Pick.{pick}
-use Rattle.reading.proofs.Picks.{pick_le, pick_gt, pick_lt, pick_ge, pick-holds}
+use Rattle.reading.proofs.Picks.{pick_le, pick_gt, pick-holds}
 use Rattle.recorded.specs.Numbers.{digit, decimal}
 use Rattle.recorded.specs.declared.line.Line.{Line}
-use Rattle.recorded.specs.Fields.{ends, up_to, end_from, next_field, field, number_in}
+use Rattle.recorded.specs.Fields.{ends, up_to, next_field, field, number_in}
 
 -- Behind a text nothing but digits ends.
 pub ends-zero : ends 0 ≡ 1
@@ -47,16 +47,6 @@ ends-inside s i e = go (λ h. omega (arith, e, ap ends (get_or-eq_default s 0 {n
   where
     go : (length s ≤ i → ⊥) → i < length s
     go h = omega arith
-
--- Where a field ends, inside the text or with it.
-module _ (s : List ℕ) (at : ℕ) {end : ℕ} (e : end ≡ end_from 3 s at) where
-  pub next-inside : end < length s → end + 1 ≡ next_field s at
-  unfolding next_field
-  next-inside h = rw e (pick_lt _ (rw e at h) refl)
-
-  pub next-end : length s ≤ end → end ≡ next_field s at
-  unfolding next_field
-  next-end h = rw e (pick_ge _ (rw e at h) refl)
 
 -- A byte that is not 0 stands inside the text.
 pub byte_inside : (s : List ℕ) (i : ℕ) {b : ℕ} → get_or s i 0 ≡ b → (b ≡ 0 → ⊥) → i < length s

@@ -99,10 +99,10 @@ module _ (n times w : ℕ) {l₀ l : List ℕ} {i : ℕ} (v : Left l₀ n (again
       left-more v (w ∷ []) (again (n + times - (i + 1)) (w ∷ [])) (again-next (w ∷ []) (n + times - i) (n + times - (i + 1)) (omega arith)) m refl (omega (arith, v.kept))
 
   -- The end of the slice, or of the words, is reached.
-  pub word_end : {end : ℕ} → end ≡ min most (n + times) → length l ≤ i → (end ≡ min most (n + length (again times (w ∷ [])))) × (l ≡ sets l₀ n (again times (w ∷ [])))
+  word_end : {end : ℕ} → end ≡ min most (n + times) → length l ≤ i → (end ≡ min most (n + length (again times (w ∷ [])))) × (l ≡ sets l₀ n (again times (w ∷ [])))
   word_end {end} e h = (omega (arith, e, again-length w times), sym (sets-out (again (n + times - i) (w ∷ [])) l i h) ∙ v.stores)
 
-  pub word-last : {end : ℕ} → end ≡ min most (n + times) → length l₀ ≤ most → end ≤ i → (end ≡ min most (n + length (again times (w ∷ [])))) × (l ≡ sets l₀ n (again times (w ∷ [])))
+  word-last : {end : ℕ} → end ≡ min most (n + times) → length l₀ ≤ most → end ≤ i → (end ≡ min most (n + length (again times (w ∷ [])))) × (l ≡ sets l₀ n (again times (w ∷ [])))
   word-last {end} e m h = (omega (arith, e, again-length w times), go (leb (n + times) i) refl)
     where
       go : (t : Bool) → leb (n + times) i ≡ t → l ≡ sets l₀ n (again times (w ∷ []))
@@ -112,3 +112,11 @@ module _ (n times w : ℕ) {l₀ l : List ℕ} {i : ℕ} (v : Left l₀ n (again
       go false q =
           let k : i < n + times = leb-false (n + times) i q in
           sym (sets-out (again (n + times - i) (w ∷ [])) l i (omega (arith, v.kept, e))) ∙ v.stores
+
+  -- The one or the other.
+  pub word_done : {end : ℕ} → end ≡ min most (n + times) → length l₀ ≤ most → min end (length l₀) ≤ i → (end ≡ min most (n + length (again times (w ∷ [])))) × (l ≡ sets l₀ n (again times (w ∷ [])))
+  word_done {end} e m h = go (leb end i) refl
+    where
+      go : (t : Bool) → leb end i ≡ t → (end ≡ min most (n + length (again times (w ∷ [])))) × (l ≡ sets l₀ n (again times (w ∷ [])))
+      go true q = word-last e m (leb-true end i q)
+      go false q = word_end e (omega (arith, leb-false end i q, v.kept, h))

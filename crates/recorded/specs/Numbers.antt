@@ -1,10 +1,15 @@
 -- Numbers in the text of the recorded answers.
-use Rattle.std.specs.Prelude.{ℕ, ◌+◌, ◌-◌, ◌*◌, ◌^◌, min, List, [], ◌∷◌, ltb}
+use Rattle.std.specs.Prelude.{ℕ, ◌+◌, ◌-◌, ◌*◌, ◌^◌, ◌<◌, ◌≡◌, min, List, [], ◌∷◌, ltb, Option, Some, None}
 use Rattle.reading.specs.Pick.{pick}
 
 -- The value of a digit, with small letters from ten on, and 16 for any other byte.
 unfoldable pub digit : ℕ → ℕ
 digit b = pick (ltb b 48) 16 (pick (ltb b 58) (b - 48) (pick (ltb b 97) 16 (pick (ltb b 103) (b - 87) 16)))
+
+-- The value of a digit, as the code has it: none of any other byte.
+abbrev pub DigitIs : ℕ → Option ℕ → Type 0
+DigitIs d (Some n) = (n ≡ d) × (d < 16)
+DigitIs d None = d ≡ 16
 
 -- The number that the digits in front of a text give, behind the number v. It ends before a byte that is no digit of the base.
 unfoldable pub number_from : ℕ → ℕ → List ℕ → ℕ

@@ -7,25 +7,16 @@ ghost use Rattle.recorded.specs.Spelled.{times as timesOf, bytes_once, word_once
 
 use crate::numbers::{byte_at, decimal, digit, end_from, ends, hexadecimal};
 
-// A sum, or the largest number where it is larger.
-fn plus(a: usize, b: usize) -> usize
-    ensures { result ≡ min most (a + b) }
-{
-    if usize::MAX - a < b {
-        return usize::MAX;
-    }
-    a + b
-}
-
 // How often the part at a place is meant.
 fn times(lines: &[u8], at: usize) -> usize
     ensures { result ≡ timesOf (drop at lines.now) }
 {
     let end = end_from(1, lines, at);
     if byte_at(lines, end) == b'*' {
-        return decimal(lines, end + 1) as usize;
+        decimal(lines, end + 1) as usize
+    } else {
+        1
     }
-    1
 }
 
 // Puts the bytes that the field at a place spells into the text, and says how many there are.
@@ -34,6 +25,7 @@ pub fn put_bytes(lines: &[u8], at: usize, text: &mut [u8]) -> usize
 {
     let mut i = at;
     let mut n: usize = 0;
+    // A cursor and not a `for`: each part says where it ends.
     loop {
         n = repeat_bytes(lines, i, times(lines, i), text, n);
         let end = end_from(2, lines, i);
@@ -49,10 +41,8 @@ fn repeat_bytes(lines: &[u8], at: usize, times: usize, text: &mut [u8], n: usize
     ensures { (result ≡ min most (n + length (again times (bytes_once (drop at lines.now))))) × (text.new ≡ sets text.old n (again times (bytes_once (drop at lines.now)))) }
 {
     let mut len = n;
-    let mut k: usize = 0;
-    while k < times {
+    for _ in 0..times {
         len = copy_bytes(lines, at, text, len);
-        k += 1;
     }
     len
 }
@@ -63,17 +53,16 @@ fn copy_bytes(lines: &[u8], at: usize, text: &mut [u8], n: usize) -> usize
 {
     let mut i = at;
     let mut len = n;
+    // A cursor and not a `for`: two digits are a byte.
     while i < lines.len() {
-        let high = digit(lines[i]);
-        if 15 < high {
+        let Some(high) = digit(lines[i]) else {
             return len;
-        }
-        let low = digit(byte_at(lines, i + 1));
-        if 15 < low {
+        };
+        let Some(low) = digit(byte_at(lines, i + 1)) else {
             return len;
-        }
+        };
         put_byte(text, len, 16 * high + low);
-        len = plus(len, 1);
+        len = len.saturating_add(1);
         i += 2;
     }
     len
@@ -95,6 +84,7 @@ pub fn put_words(lines: &[u8], at: usize, words: &mut [u32]) -> usize
 {
     let mut i = at;
     let mut n: usize = 0;
+    // A cursor and not a `for`: each part says where it ends.
     loop {
         n = put_part(lines, i, words, n);
         let end = end_from(2, lines, i);
@@ -109,7 +99,7 @@ pub fn put_words(lines: &[u8], at: usize, words: &mut [u32]) -> usize
 fn put_part(lines: &[u8], at: usize, words: &mut [u32], n: usize) -> usize
     ensures { (result ≡ min most (n + length (again (timesOf (drop at lines.now)) (word_once (drop at lines.now))))) × (words.new ≡ sets words.old n (again (timesOf (drop at lines.now)) (word_once (drop at lines.now)))) }
 {
-    if 15 < digit(byte_at(lines, at)) {
+    if digit(byte_at(lines, at)).is_none() {
         return n;
     }
     repeat_word(hexadecimal(lines, at), times(lines, at), words, n)
@@ -119,14 +109,9 @@ fn put_part(lines: &[u8], at: usize, words: &mut [u32], n: usize) -> usize
 fn repeat_word(word: u32, times: usize, words: &mut [u32], n: usize) -> usize
     ensures { (result ≡ min most (n + length (again times (word ∷ [])))) × (words.new ≡ sets words.old n (again times (word ∷ []))) }
 {
-    let end = plus(n, times);
-    let mut i = n;
-    while i < end {
-        if words.len() <= i {
-            return end;
-        }
+    let end = n.saturating_add(times);
+    for i in n..end.min(words.len()) {
         words[i] = word;
-        i += 1;
     }
     end
 }

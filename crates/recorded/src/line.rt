@@ -7,6 +7,7 @@ use crate::numbers::{byte_at, decimal, next_field};
 // OP is R read one, A read all, S sort, E expression, B bind, L solution, F flatten. START is the reader's count before the call, TREE,
 // DRAFT and OUT the lengths of the slices, REFUSAL its number or 0, A and B what is reported, COUNT the reader's count afterwards.
 // `input`, `words` and `next` are places: of INPUT, of WORDS and of the next line.
+// OP is a byte and no enum: any byte may stand there, and the definitions tell letters by their numbers.
 #[derive(Clone, Copy)]
 pub struct Line {
     pub op: u8,
@@ -43,12 +44,12 @@ pub fn line_at(lines: &[u8], at: usize) -> Line
         tree: decimal(lines, tree) as usize,
         draft: decimal(lines, draft) as usize,
         out: decimal(lines, out) as usize,
-        input: input,
+        input,
         refusal: decimal(lines, refusal),
         a: decimal(lines, a),
         b: decimal(lines, b),
         count: decimal(lines, count),
-        words: words,
+        words,
         next: next_field(lines, words),
     }
 }

@@ -1,35 +1,28 @@
 // Bytes and numbers in the recorded lines, and the places where fields begin.
 ghost use Rattle.std.specs.Prelude.{◌≡◌, get_or, drop};
-ghost use Rattle.recorded.specs.Numbers.{digit as digitOf, decimal as decimalOf, hexadecimal as hexadecimalOf};
+ghost use Rattle.recorded.specs.Numbers.{DigitIs, digit as digitOf, decimal as decimalOf, hexadecimal as hexadecimalOf};
 ghost use Rattle.recorded.specs.Fields.{ends as endsOf, end_from, next_field};
 
-// The byte at a place, 0 behind the end.
+// The byte at a place, 0 behind the end, as the definitions have it.
 pub fn byte_at(lines: &[u8], at: usize) -> u8
     ensures { result ≡ get_or lines.now at 0 }
 {
-    if at < lines.len() {
-        return lines[at];
+    match lines.get(at) {
+        Some(&b) => b,
+        None => 0,
     }
-    0
 }
 
-// The value of a digit, 16 for another byte.
-pub fn digit(b: u8) -> u32
-    ensures { result ≡ digitOf b }
+// The value of a digit.
+#[tactic(auto, unfolding(crate::specs::Numbers::digit, reading::specs::Pick::pick))]
+pub fn digit(b: u8) -> Option<u32>
+    ensures { DigitIs (digitOf b) result }
 {
-    if b < 48 {
-        return 16;
+    match b {
+        b'0'..=b'9' => Some(u32::from(b - b'0')),
+        b'a'..=b'f' => Some(u32::from(b - b'a') + 10),
+        _ => None,
     }
-    if b < 58 {
-        return (b - 48) as u32;
-    }
-    if b < 97 {
-        return 16;
-    }
-    if b < 103 {
-        return (b - 87) as u32;
-    }
-    16
 }
 
 // The decimal number that begins at a place; u64::MAX for a larger one.
@@ -37,20 +30,11 @@ pub fn decimal(lines: &[u8], at: usize) -> u64
     ensures { result ≡ decimalOf (drop at lines.now) }
 {
     let mut value: u64 = 0;
-    let mut i = at;
-    while i < lines.len() {
-        let d = digit(lines[i]) as u64;
-        if 9 < d {
-            return value;
+    for i in at..lines.len() {
+        match digit(lines[i]) {
+            Some(d) if d < 10 => value = value.saturating_mul(10).saturating_add(u64::from(d)),
+            _ => return value,
         }
-        if 1844674407370955161 < value {
-            return u64::MAX;
-        }
-        if u64::MAX - value * 10 < d {
-            return u64::MAX;
-        }
-        value = value * 10 + d;
-        i += 1;
     }
     value
 }
@@ -60,58 +44,42 @@ pub fn hexadecimal(lines: &[u8], at: usize) -> u32
     ensures { result ≡ hexadecimalOf (drop at lines.now) }
 {
     let mut value: u32 = 0;
-    let mut i = at;
-    while i < lines.len() {
-        let d = digit(lines[i]);
-        if 15 < d {
+    for i in at..lines.len() {
+        let Some(d) = digit(lines[i]) else {
             return value;
-        }
-        if 0xFFF_FFFF < value {
-            return u32::MAX;
-        }
-        value = value * 16 + d;
-        i += 1;
+        };
+        value = value.saturating_mul(16).saturating_add(d);
     }
     value
 }
 
-// What a byte ends: 3 a field, 2 a part, 1 the digits, 0 nothing.
+// What a byte ends: 3 a field, 2 a part, 1 the digits, 0 nothing. Numbers and no enum, since the definitions order them so.
+#[tactic(auto, using(crate::proofs::Digits::digit_some, crate::proofs::Digits::digit_none), unfolding(crate::specs::Fields::ends, reading::specs::Pick::pick))]
 pub fn ends(b: u8) -> u32
     ensures { result ≡ endsOf b }
 {
-    if b == b' ' {
-        return 3;
+    match b {
+        b' ' | b'\n' => 3,
+        b'.' | b',' => 2,
+        _ if digit(b).is_some() => 0,
+        _ => 1,
     }
-    if b == b'\n' {
-        return 3;
-    }
-    if b == b'.' {
-        return 2;
-    }
-    if b == b',' {
-        return 2;
-    }
-    if digit(b) < 16 {
-        return 0;
-    }
-    1
 }
 
 // The first place from `at` on whose byte ends so much, or the end.
 pub fn end_from(k: u32, lines: &[u8], at: usize) -> usize
     ensures { result ≡ end_from k lines.now at }
 {
-    let mut i = at;
-    while i < lines.len() {
+    for i in at..lines.len() {
         if k <= ends(lines[i]) {
             return i;
         }
-        i += 1;
     }
-    i
+    at.max(lines.len())
 }
 
 // The place behind the next space or line end.
+#[tactic(auto, unfolding(crate::specs::Fields::next_field, reading::specs::Pick::pick))]
 pub fn next_field(lines: &[u8], at: usize) -> usize
     ensures { result ≡ next_field lines.now at }
 {

@@ -1,5 +1,5 @@
 -- Laws of calls, and of the lines that record them.
-use Prim.Native.Nat.{ℕ, ◌+◌, ◌≤◌, ◌<◌, min}
+use Prim.Native.Nat.{ℕ, ◌≤◌, ◌<◌, min}
 use mathlib.Core.Bool.{Bool, true, false, ◌&&◌}
 use mathlib.Core.Path.{◌≡◌, refl, sym, ap, ◌∙◌}
 use mathlib.Core.List.{List, [], ◌++◌}
@@ -12,13 +12,13 @@ use Rattle.reading.specs.Answer.{zeros, over}
 use Rattle.reading.proofs.Picks.{pick_true, pick-false, pick_eq, pick_ne, pick-holds}
 use Rattle.reading.proofs.Bytes.{same_refl}
 use Rattle.reading.proofs.Over.{over-length, over-fits}
-use Rattle.words.specs.declared.Answer.{Answer as FlatAnswer}
+use Rattle.words.specs.Answered.{Answered, heard}
 use Rattle.flattening.specs.Operations.{flatten_final, flatten_out}
 use Rattle.flatten.specs.Answers.{flatten_answer}
 use Rattle.session.specs.Session.{Call, outcome}
-use Rattle.replies.specs.declared.Said.{Said}
+use Rattle.reading.specs.Answer.{Said}
 use Rattle.reader.specs.declared.Answer.{Answer}
-use Rattle.replies.specs.Calls.{one_call, all_call, sort_call, expr_call, bind_call, solution_call, as_said}
+use Rattle.replies.specs.Calls.{one_call, all_call, sort_call, expr_call, bind_call, solution_call}
 use Rattle.replies.specs.Sessions.{Promised}
 use Rattle.reader.specs.Replied.{replied}
 use Rattle.recorded.specs.declared.line.Line.{Line}
@@ -75,7 +75,7 @@ differs {op} {k} m e f z = eqb-false k m f (sym e ∙ z)
 ran : {op c : ℕ} {call given : Call} {a : Answer} {t d tree draft out : List ℕ} → given ≡ call → Promised call c (replied a t d out) → is_clear op tree draft ≡ true → Ran op given c a tree draft out
 ran {c = c} e p k =
     record {
-      said = p.said ∙ ap (λ (x : Call). as_said (outcome x c).said) (sym e);
+      said = p.said ∙ ap (λ (x : Call). (outcome x c).said) (sym e);
       count = p.count ∙ ap (λ (x : Call). (outcome x c).count) (sym e);
       output = p.output ∙ ap (λ (x : Call). (outcome x c).out) (sym e);
       clear = k;
@@ -127,20 +127,20 @@ module _ (line : Line) (words text tree draft out : List ℕ) {c : ℕ} {a : Ans
   pub asked-count : {n : ℕ} → n ≡ a.reader.next → n ≡ (outcome (lent line text tree draft out) c).count
   asked-count e = e ∙ r.count ∙ ap (λ (x : Call). (outcome x c).count) (call_equal line.op text et ed eo)
 
-  verdict : {reply : Reply} {b : Bool} → b ≡ is_recorded line words reply o' → reply ≡ reply_to a.said a.reader.next → b ≡ is_outcome line words (outcome (lent line text tree draft out) c)
+  verdict : {reply : Reply} {b : Bool} → b ≡ is_recorded line words reply o' → reply ≡ reply_to (heard a.said) a.reader.next → b ≡ is_outcome line words (outcome (lent line text tree draft out) c)
   unfolding is_outcome
   verdict {reply} {b} e f =
       e
       ∙ ap (λ (x : Reply). is_recorded line words x o') f
       ∙ ap (λ (x : Said). is_recorded line words (reply_to x a.reader.next) o') r.said
-      ∙ ap (λ (x : ℕ). is_recorded line words (reply_to (as_said (outcome (call_of line.op text t d o) c).said) x) o') r.count
-      ∙ ap (λ (x : List ℕ). is_recorded line words (reply_to (as_said (outcome (call_of line.op text t d o) c).said) (outcome (call_of line.op text t d o) c).count) x) r.output
+      ∙ ap (λ (x : ℕ). is_recorded line words (reply_to ((outcome (call_of line.op text t d o) c).said) x) o') r.count
+      ∙ ap (λ (x : List ℕ). is_recorded line words (reply_to ((outcome (call_of line.op text t d o) c).said) (outcome (call_of line.op text t d o) c).count) x) r.output
       ∙ ap (λ (x : Call). is_outcome line words (outcome x c)) (call_equal line.op text et ed eo)
 
-  pub asked-no : {reply : Reply} {b : Bool} → b ≡ is_recorded line words reply o' → reply ≡ reply_to a.said a.reader.next → b ≡ false → false ≡ is_outcome line words (outcome (lent line text tree draft out) c)
+  pub asked-no : {reply : Reply} {b : Bool} → b ≡ is_recorded line words reply o' → reply ≡ reply_to (heard a.said) a.reader.next → b ≡ false → false ≡ is_outcome line words (outcome (lent line text tree draft out) c)
   asked-no e f n = sym n ∙ verdict e f
 
-  pub asked-yes : {reply : Reply} {b same : Bool} → b ≡ is_recorded line words reply o' → reply ≡ reply_to a.said a.reader.next → b ≡ true → same ≡ is_clear line.op t' d' → same ≡ is_outcome line words (outcome (lent line text tree draft out) c)
+  pub asked-yes : {reply : Reply} {b same : Bool} → b ≡ is_recorded line words reply o' → reply ≡ reply_to (heard a.said) a.reader.next → b ≡ true → same ≡ is_clear line.op t' d' → same ≡ is_outcome line words (outcome (lent line text tree draft out) c)
   asked-yes e f n k = k ∙ r.clear ∙ sym n ∙ verdict e f
 
 -- Words that were spelled into a slice with room for them.
@@ -265,6 +265,6 @@ module _ (lines : List ℕ) (line : Line) where
   step_call o v ea ed ef e k = stepped v ea ed ef (pick_ne _ o (e ∙ ap (is_same lines line) k))
 
 -- Flattening into an output that was filled.
-pub flat-verdict : (line : Line) (words given out : List ℕ) {o o' : List ℕ} {reply : Reply} {answer : FlatAnswer} {b : Bool} → o ≡ filled out → answer ≡ flatten_answer (flatten_final given o) → o' ≡ flatten_out given o → reply ≡ flat_reply answer → b ≡ is_recorded line words reply o' → b ≡ is_flattened line words given (filled out)
+pub flat-verdict : (line : Line) (words given out : List ℕ) {o o' : List ℕ} {reply : Reply} {answer : Answered ℕ} {b : Bool} → o ≡ filled out → answer ≡ flatten_answer (flatten_final given o) → o' ≡ flatten_out given o → reply ≡ flat_reply answer → b ≡ is_recorded line words reply o' → b ≡ is_flattened line words given (filled out)
 unfolding is_flattened
 flat-verdict line words given out e a f r k = k ∙ rw (r, a, f, e) refl

@@ -1,15 +1,14 @@
 -- What a call answers, and when its outcome is the recorded one.
 use Rattle.std.specs.Prelude.{ℕ, Bool, true, ◌&&◌, ◌≡◌, List, eqb, leb, length, drop}
 use Rattle.reading.specs.Pick.{pick}
-use Rattle.words.specs.declared.Answer.TheVariants.{Done as flatDone, Refused as flatRefused}
-use Rattle.words.specs.declared.Answer.{Answer as FlatAnswer}
+use Rattle.words.specs.Answered.{Answered, told, refused as told_refused, heard}
 use Rattle.flattening.specs.Operations.{flatten_final, flatten_out}
 use Rattle.flatten.specs.Answers.{flatten_answer}
 use Rattle.session.specs.Session.{Call, Outcome, outcome}
-use Rattle.replies.specs.declared.Said.{Said}
-use Rattle.replies.specs.declared.Said.TheVariants.{Accepted, Refused}
+use Rattle.reading.specs.Answer.{Said}
+use Rattle.reading.specs.Answer.{accepted, refused}
 use Rattle.reader.specs.declared.Answer.{Answer}
-use Rattle.replies.specs.Calls.{one_call, all_call, sort_call, expr_call, bind_call, solution_call, as_said}
+use Rattle.replies.specs.Calls.{one_call, all_call, sort_call, expr_call, bind_call, solution_call}
 use Rattle.recorded.specs.declared.line.Line.{Line}
 use Rattle.compared.specs.declared.Reply.{Reply}
 use Rattle.recorded.specs.Spelled.{bytes_in, words_in}
@@ -17,13 +16,13 @@ use Rattle.compared.specs.Recorded.{patterns, is_recorded, is_clear}
 
 -- The numbers of what a reader says, at the count of the reader that comes back. After a refusal nothing is reported.
 abbrev pub reply_to : Said → ℕ → Reply
-reply_to (Accepted a b) c = record { refusal = 0; a = a; b = b; count = c }
-reply_to (Refused r) c = record { refusal = r; a = 0; b = 0; count = c }
+reply_to (accepted a b) c = record { refusal = 0; a = a; b = b; count = c }
+reply_to (refused r) c = record { refusal = r; a = 0; b = 0; count = c }
 
 -- The numbers of what flattening says: how many words it wrote. It takes no reader.
-abbrev pub flat_reply : FlatAnswer → Reply
-flat_reply (flatDone n) = record { refusal = 0; a = n; b = 0; count = 0 }
-flat_reply (flatRefused r) = record { refusal = r; a = 0; b = 0; count = 0 }
+abbrev pub flat_reply : Answered ℕ → Reply
+flat_reply (told n) = record { refusal = 0; a = n; b = 0; count = 0 }
+flat_reply (told_refused r) = record { refusal = r; a = 0; b = 0; count = 0 }
 
 -- The call of an operation on a text, with slices of these words: `R` read one, `A` read all, `S` sort, `E` expression, `B` bind, else solution.
 unfoldable pub call_of : ℕ → List ℕ → List ℕ → List ℕ → List ℕ → Call
@@ -36,14 +35,14 @@ call_of op text tree draft out =
 
 -- What holds after such a call on a reader at the count c: answer and output are its outcome, and the working slices are zero.
 pub record Ran (op : ℕ) (call : Call) (c : ℕ) (answer : Answer) (tree draft out : List ℕ) : Type 0 where
-  pub said : answer.said ≡ as_said (outcome call c).said
+  pub said : heard answer.said ≡ (outcome call c).said
   pub count : answer.reader.next ≡ (outcome call c).count
   pub output : out ≡ (outcome call c).out
   pub clear : is_clear op tree draft ≡ true
 
 -- The outcome of a call is the recorded one.
 unfoldable pub is_outcome : Line → List ℕ → Outcome → Bool
-is_outcome line words o = is_recorded line words (reply_to (as_said o.said) o.count) o.out
+is_outcome line words o = is_recorded line words (reply_to (o.said) o.count) o.out
 
 -- The outcome of a line's call on a text, at the count c. The slices are as long as the line says.
 unfoldable pub outcome_on : Line → List ℕ → ℕ → Outcome

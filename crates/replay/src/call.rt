@@ -2,6 +2,7 @@
 ghost use Rattle.std.specs.Prelude.{◌≡◌};
 ghost use Rattle.compared.specs.Recorded.{is_clear, filled};
 ghost use Rattle.session.specs.Session.{outcome};
+ghost use Rattle.words.specs.Answered.{heard};
 ghost use Rattle.replay.specs.Called.{reply_to, call_of, Ran, is_outcome, is_same_on, count_on, is_same, count_after};
 
 use compared::{Reply, fill, is_recorded, is_zero};
@@ -28,7 +29,7 @@ pub fn text_line(lines: &[u8], line: Line, reader: reader::Reader) -> Done
     let n = put_bytes(lines, line.input, &mut text);
     if TEXT < n {
         return Done {
-            reader: reader,
+            reader,
             same: false,
         };
     }
@@ -44,27 +45,9 @@ fn lend(lines: &[u8], line: Line, reader: reader::Reader, text: &[u8]) -> Done
     let mut out = [0u32; WORDS];
     let mut words = [0u32; WORDS];
     let n = put_words(lines, line.words, &mut words);
-    if WORDS < n {
+    if WORDS < n || WORDS < line.tree || WORDS < line.draft || WORDS < line.out {
         return Done {
-            reader: reader,
-            same: false,
-        };
-    }
-    if WORDS < line.tree {
-        return Done {
-            reader: reader,
-            same: false,
-        };
-    }
-    if WORDS < line.draft {
-        return Done {
-            reader: reader,
-            same: false,
-        };
-    }
-    if WORDS < line.out {
-        return Done {
-            reader: reader,
+            reader,
             same: false,
         };
     }
@@ -96,36 +79,22 @@ fn asked(
     fill(draft);
     fill(out);
     let answer = run(line.op, reader, text, tree, draft, out);
-    let returned = answer.reader;
-    if !is_recorded(line, words, reply(answer), out) {
-        return Done {
-            reader: returned,
-            same: false,
-        };
-    }
     Done {
-        reader: returned,
-        same: is_clear(line.op, tree, draft),
+        reader: answer.reader,
+        same: is_recorded(line, words, reply(answer), out) && is_clear(line.op, tree, draft),
     }
 }
 
 // Whether the working slices that the operation was lent are zero.
+#[tactic(auto, unfolding(compared::specs::Recorded::is_clear, reading::specs::Pick::pick))]
 fn is_clear(op: u8, tree: &[u32], draft: &[u32]) -> bool
     ensures { result ≡ is_clear op tree.now draft.now }
 {
-    if op == b'R' {
-        return true;
+    match op {
+        b'R' | b'A' => true,
+        b'L' => is_zero(tree) && is_zero(draft),
+        _ => is_zero(tree),
     }
-    if op == b'A' {
-        return true;
-    }
-    if !is_zero(tree) {
-        return false;
-    }
-    if op == b'L' {
-        return is_zero(draft);
-    }
-    true
 }
 
 // Makes the call.
@@ -151,23 +120,20 @@ fn run(
 
 // The numbers of the answer.
 fn reply(answer: reader::Answer) -> Reply
-    ensures { result ≡ reply_to answer.said answer.reader.next }
+    ensures { result ≡ reply_to (heard answer.said) answer.reader.next }
 {
-    let reader = answer.reader;
-    let count = reader.next;
-    let said = answer.said;
-    match said {
-        replies::Said::Accepted(a, b) => Reply {
+    match answer.said {
+        Ok(report) => Reply {
             refusal: 0,
-            a: a as u64,
-            b: b as u64,
-            count: count,
+            a: report.first as u64,
+            b: report.second as u64,
+            count: answer.reader.next,
         },
-        replies::Said::Refused(r) => Reply {
-            refusal: r as u64,
+        Err(refusal) => Reply {
+            refusal: u32::from(refusal) as u64,
             a: 0,
             b: 0,
-            count: count,
+            count: answer.reader.next,
         },
     }
 }

@@ -66,6 +66,7 @@ fn replay(lines: &[u8]) -> State
         differing: 0,
         first: 0,
     };
+    // A cursor and not a `for`: each line says where the next begins.
     while at < lines.len() {
         let line = line_at(lines, at);
         state = step(lines, line, state);

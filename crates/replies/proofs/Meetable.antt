@@ -3,14 +3,13 @@ use Prim.Native.Nat.{ℕ}
 use mathlib.Core.Path.{◌≡◌, refl, ap}
 use mathlib.Core.List.{List, [], ◌∷◌, map}
 use Rattle.session.specs.Session.{Call, outcome}
-use Rattle.replies.specs.Calls.{as_said}
 use Rattle.replies.specs.Sessions.{Reply, Turn, Session}
 use Rattle.replies.specs.Sessions.{Promised}
 
 -- The reply of a call at the count c.
 abbrev pub reply_to : Call → ℕ → Reply
 reply_to call c =
-    record { said = as_said (outcome call c).said; next = (outcome call c).count; tree = (outcome call c).tree; draft = (outcome call c).draft; out = (outcome call c).out }
+    record { said = (outcome call c).said; next = (outcome call c).count; tree = (outcome call c).tree; draft = (outcome call c).draft; out = (outcome call c).out }
 
 pub promised : (call : Call) (c : ℕ) → Promised call c (reply_to call c)
 promised call c = record { said = refl; count = refl; working = refl; body = refl; output = refl }

@@ -14,7 +14,6 @@ use Rattle.grammar.proofs.AnswerHolds.{Post}
 use Rattle.session.specs.Session.{Call, Term, term_items, draft_items, term_words, made, room_for, final, Outcome, outcome}
 use Rattle.session.proofs.Made.{Fine, make-fine}
 use Rattle.session.proofs.Calls.{when_refused, when_accepted, decides_long}
-use Rattle.replies.specs.Calls.{as_said}
 use Rattle.replies.specs.Sessions.{Reply}
 use Rattle.replies.specs.Sessions.{Promised}
 use Rattle.replies.specs.Demand3.{Refuses, Accepts}
@@ -43,7 +42,7 @@ module _ {call : Call} {c : ℕ} {reply : Reply} (p : Promised call c reply) whe
   refuses-by r e =
       let q = when_refused call c r e in
       record {
-        said = part (λ o. as_said o.said) p.said q;
+        said = part (λ o. o.said) p.said q;
         next = part (λ o. o.count) p.count q;
         tree = part (λ o. o.tree) p.working q;
         draft = part (λ o. o.draft) p.body q;
@@ -55,7 +54,7 @@ module _ {call : Call} {c : ℕ} {reply : Reply} (p : Promised call c reply) whe
       let q = when_accepted call c m n (decides_long call c m n e h s) in
       record {
         op = (fine call m n e).kind;
-        said = part (λ o. as_said o.said) p.said q;
+        said = part (λ o. o.said) p.said q;
         next = part (λ o. o.count) p.count q;
         tree = part (λ o. o.tree) p.working q;
         draft = part (λ o. o.draft) p.body q;

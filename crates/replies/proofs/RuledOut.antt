@@ -18,7 +18,7 @@ use Rattle.grammar.proofs.RuledOut.{unraised}
 use Rattle.session.specs.Session.{Call, Term, term_items, term_words}
 use Rattle.replies.specs.Sessions.{Reply}
 use Rattle.replies.specs.Demand3.{BothRefuse, BothAccept, Later, Alike, early, later}
-use Rattle.replies.specs.declared.Said.TheVariants.{Accepted, Refused}
+use Rattle.reading.specs.Answer.{accepted, refused}
 use Rattle.replies.proofs.Saying.{refused-same, apart, not-refused}
 
 -- Lists of the same length in front of others that make the same list.
@@ -27,7 +27,7 @@ heads-same xs ys r s l e = sym (take_at xs r (length xs) refl) ∙ ap (take (len
 
 module _ {old new : Call} {c : ℕ} {ro rn : Reply} where
   -- An old reader that refuses what a new one accepts says 13.
-  pub only_13 : Alike old new c ro rn → {r a b : ℕ} → ro.said ≡ Refused r → rn.said ≡ Accepted a b → r ≡ numbers_spent
+  pub only_13 : Alike old new c ro rn → {r a b : ℕ} → ro.said ≡ refused r → rn.said ≡ accepted a b → r ≡ numbers_spent
   only_13 (early k e) o q = absurd (apart (sym q ∙ e.both.1.said))
   only_13 (later m n l) {r} {a} {b} o q = go (ltb max_number (c + n)) refl
     where
@@ -40,7 +40,7 @@ module _ {old new : Call} {c : ℕ} {ro rn : Reply} where
       go false t = both (l.otherwise (ltb-false max_number (c + n) t))
 
   -- Two refusals have the same number, or the old one is 13.
-  pub same_number : Alike old new c ro rn → {r s : ℕ} → ro.said ≡ Refused r → rn.said ≡ Refused s → (r ≡ s) ⊎ (r ≡ numbers_spent)
+  pub same_number : Alike old new c ro rn → {r s : ℕ} → ro.said ≡ refused r → rn.said ≡ refused s → (r ≡ s) ⊎ (r ≡ numbers_spent)
   same_number (early k e) o q = inl (refused-same (sym o ∙ e.both.0.said) ∙ refused-same (sym e.both.1.said ∙ q))
   same_number (later m n l) {r} {s} o q = go (ltb max_number (c + n)) refl
     where
@@ -53,7 +53,7 @@ module _ {old new : Call} {c : ℕ} {ro rn : Reply} where
       go false t = both (l.otherwise (ltb-false max_number (c + n) t))
 
   -- Where the old reader accepts, both do, with one term.
-  accepted-both : (m : Term) (n : ℕ) → Later old new c m n ro rn → {a b : ℕ} → ro.said ≡ Accepted a b → BothAccept old new c m n ro rn × (c + n ≤ max_number)
+  accepted-both : (m : Term) (n : ℕ) → Later old new c m n ro rn → {a b : ℕ} → ro.said ≡ accepted a b → BothAccept old new c m n ro rn × (c + n ≤ max_number)
   accepted-both m n l {a} {b} o = go (ltb max_number (c + n)) refl
     where
       both : BothRefuse old new c (number no_room) ro rn ⊎ BothAccept old new c m n ro rn → BothAccept old new c m n ro rn
@@ -65,13 +65,13 @@ module _ {old new : Call} {c : ℕ} {ro rn : Reply} where
       go false t = let h : c + n ≤ max_number = ltb-false max_number (c + n) t in (both (l.otherwise h), h)
 
   -- The old reader's count goes on by as much as the new one's.
-  pub same_growth : Alike old new c ro rn → {a b : ℕ} → ro.said ≡ Accepted a b → ro.next ≡ c + rn.next
+  pub same_growth : Alike old new c ro rn → {a b : ℕ} → ro.said ≡ accepted a b → ro.next ≡ c + rn.next
   same_growth (early k e) o = absurd (apart (sym o ∙ e.both.0.said))
   same_growth (later m n l) o = let x = (accepted-both m n l o).0 in omega (arith, x.0.next, x.1.next)
 
   -- An answer whose numbers are not raised is not alike: an old reader, at a count that is not 0, does not write a new one's words where
   -- these bind a number.
-  pub not-raised : Alike old new c ro rn → {a b : ℕ} → ro.said ≡ Accepted a b → 0 < c → 0 < rn.next → old.out ≡ new.out → ro.out ≡ rn.out → ⊥
+  pub not-raised : Alike old new c ro rn → {a b : ℕ} → ro.said ≡ accepted a b → 0 < c → 0 < rn.next → old.out ≡ new.out → ro.out ≡ rn.out → ⊥
   not-raised (early k e) o h i s w = apart (sym o ∙ e.both.0.said)
   not-raised (later m n l) o h i s w =
       let x = accepted-both m n l o in

@@ -20,10 +20,9 @@ use Rattle.grammar.proofs.Raise.{raise_zero}
 use Rattle.flattening.specs.Uncurry.{flattened}
 use Rattle.flattening.proofs.SolutionBack.{SolutionBack, FlatBack, flat_back}
 use Rattle.session.specs.Session.{Term, a_solution, term_items, draft_items, term_words, report, make, room_for, final, outcome}
-use Rattle.replies.specs.declared.Said.{Said}
-use Rattle.replies.specs.declared.Said.TheVariants.{Accepted, Refused}
-use Rattle.replies.specs.Calls.{as_said, solution_call}
-use Rattle.replies.proofs.Saying.{said-accepted, said-refused}
+use Rattle.reading.specs.Answer.{Said}
+use Rattle.reading.specs.Answer.{accepted, refused}
+use Rattle.replies.specs.Calls.{solution_call}
 
 -- A solution after flattening, whose words are read back and fit.
 record Fits (text : List ℕ) (room : ℕ) (m : Term) : Type 0 where
@@ -122,21 +121,21 @@ when_refused text room (accepts m n) d r e = absurd (not-said d.before (e ∙ ap
 -- What the code is told of its call: the reader's count, what is said, and the words of the output.
 pub record ToldSolution (text tree draft out : List ℕ) (count : ℕ) (said : Said) (words : List ℕ) : Type 0 where
   pub new : count ≡ 0
-  pub says : said ≡ as_said (outcome (solution_call text tree draft out) count).said
+  pub says : said ≡ (outcome (solution_call text tree draft out) count).said
   pub leaves : words ≡ (outcome (solution_call text tree draft out) count).out
 
 module _ {text tree draft out : List ℕ} {count : ℕ} {said : Said} {words : List ℕ} (t : ToldSolution text tree draft out count said words) where
   -- The call is accepted.
-  pub solved : {k j : ℕ} → said ≡ Accepted k j → Solved text (final (solution_call text tree draft out) 0) (length out) k words
+  pub solved : {k j : ℕ} → said ≡ accepted k j → Solved text (final (solution_call text tree draft out) 0) (length out) k words
   unfolding outcome
   solved {k} {j} e =
-      let a : accepted k j ≡ (outcome (solution_call text tree draft out) count).said = said-accepted _ (sym e ∙ t.says) in
+      let a : accepted k j ≡ (outcome (solution_call text tree draft out) count).said = sym e ∙ t.says in
       let l = t.leaves in
       when_accepted text out words (final (solution_call text tree draft out) 0) (decided text tree draft out) k j (rw t.new at a) (rw t.new at l)
 
   -- The call is refused.
-  pub not-solved : {r : ℕ} → said ≡ Refused r → final (solution_call text tree draft out) 0 ≡ refuses r
+  pub not-solved : {r : ℕ} → said ≡ refused r → final (solution_call text tree draft out) 0 ≡ refuses r
   unfolding outcome
   not-solved {r} e =
-      let a : refused r ≡ (outcome (solution_call text tree draft out) count).said = said-refused _ (sym e ∙ t.says) in
+      let a : refused r ≡ (outcome (solution_call text tree draft out) count).said = sym e ∙ t.says in
       when_refused text (length out) (final (solution_call text tree draft out) 0) (decided text tree draft out) r (rw t.new at a)

@@ -19,7 +19,7 @@ use Rattle.session.proofs.Calls.{made-same, final-same, decides_early, decides_s
 use Rattle.replies.specs.Sessions.{Reply, Turn, Session, last_count}
 use Rattle.replies.specs.Sessions.{Promised}
 use Rattle.replies.specs.Demand3.{BothRefuse, BothAccept, Answered, AllAnswered, bound_in, Early, Later, Alike, early, later, Demand3}
-use Rattle.replies.specs.declared.Said.TheVariants.{Refused}
+use Rattle.reading.specs.Answer.{refused}
 use Rattle.replies.proofs.Replying.{fine, refuses-by, accepts-by}
 use Rattle.replies.proofs.Saying.{refused-same, not-refused}
 
@@ -64,7 +64,7 @@ module _ {old new : Call} {c : ℕ} {ro rn : Reply} (g : Agree old new) (h : c �
           scoped = f.exact.1 c;
         }
       where
-        go : ro.said ≡ Refused numbers_spent → BothRefuse old new c (number no_room) ro rn ⊎ BothAccept old new c m n ro rn → ⊥
+        go : ro.said ≡ refused numbers_spent → BothRefuse old new c (number no_room) ro rn ⊎ BothAccept old new c m n ro rn → ⊥
         go q (inl x) = let z : number no_room ≡ numbers_spent = refused-same (sym x.0.said ∙ q) in omega arith
         go q (inr x) = not-refused m (sym x.0.said ∙ q)
 
@@ -76,7 +76,7 @@ module _ {old new : Call} {c : ℕ} {ro rn : Reply} (g : Agree old new) (h : c �
       go (ok m n) e = later m n (is_later m n e)
 
   -- In read and sort no number is bound, so that an old reader refuses what a new one does.
-  read_or_sort_lem : reads_or_sorts new.op ≡ true → (r : ℕ) → rn.said ≡ Refused r → BothRefuse old new c r ro rn
+  read_or_sort_lem : reads_or_sorts new.op ≡ true → (r : ℕ) → rn.said ≡ refused r → BothRefuse old new c r ro rn
   read_or_sort_lem rs r q = go (made new) refl
     where
       same : {k : ℕ} → BothRefuse old new c k ro rn → BothRefuse old new c r ro rn

@@ -1,9 +1,6 @@
--- The calls that the methods stand for, and what is said, as the code answers it.
+-- The calls that the methods stand for.
 use Rattle.std.specs.Prelude.{ℕ, List, []}
-use Rattle.reading.specs.Answer as answer
 use Rattle.session.specs.Session.{Call, read_one, read_all, sort, expression, bind, solution}
-use Rattle.replies.specs.declared.Said.{Said}
-use Rattle.replies.specs.declared.Said.TheVariants.{Accepted, Refused}
 
 -- Each call with its text and the words of the slices that it is lent; a slice that it does not take is empty.
 abbrev pub one_call : List ℕ → List ℕ → Call
@@ -23,8 +20,3 @@ bind_call text tree out = record { op = bind; text = text; tree = tree; draft = 
 
 abbrev pub solution_call : List ℕ → List ℕ → List ℕ → List ℕ → Call
 solution_call text tree draft out = record { op = solution; text = text; tree = tree; draft = draft; out = out }
-
--- The two numbers that are reported, or the refusal's number.
-abbrev pub as_said : answer.Said → Said
-as_said (answer.accepted a b) = Accepted a b
-as_said (answer.refused n) = Refused n

@@ -7,14 +7,13 @@ use Rattle.grammar.specs.Item.{words_of, bound}
 use Rattle.grammar.specs.Numbers.{Exactly}
 use Rattle.session.specs.Session.{Call, Term, term_items, term_words, report, bound_by}
 use Rattle.session.specs.Compared.{op_of, reads_or_sorts, ScopedTerm, ScopedFinal, Agree, SameText, LongEnough}
-use Rattle.replies.specs.Calls.{as_said}
 use Rattle.replies.specs.Sessions.{Reply, Turn, last_count}
 use Rattle.replies.specs.Sessions.{Promised}
-use Rattle.replies.specs.declared.Said.TheVariants.{Refused}
+use Rattle.reading.specs.Answer.{refused}
 
 -- A reply that refuses with the number r: the reader as it came in, and zeros throughout every lent slice.
 pub record Refuses (call : Call) (c r : ℕ) (reply : Reply) : Type 0 where
-  pub said : reply.said ≡ Refused r
+  pub said : reply.said ≡ refused r
   pub next : reply.next ≡ c
   pub tree : reply.tree ≡ zeros call.tree
   pub draft : reply.draft ≡ zeros call.draft
@@ -24,7 +23,7 @@ pub record Refuses (call : Call) (c r : ℕ) (reply : Reply) : Type 0 where
 -- term's words, each fresh number raised by c, stand whole from the start of the output on, and no later word is changed.
 pub record Accepts (call : Call) (c : ℕ) (m : Term) (n : ℕ) (reply : Reply) : Type 0 where
   pub op : op_of m ≡ call.op
-  pub said : reply.said ≡ as_said (report m)
+  pub said : reply.said ≡ report m
   pub next : reply.next ≡ c + n
   pub tree : reply.tree ≡ zeros call.tree
   pub draft : reply.draft ≡ zeros call.draft
@@ -71,7 +70,7 @@ pub record Later (old new : Call) (c : ℕ) (m : Term) (n : ℕ) (ro rn : Reply)
   pub binds : Exactly 0 (bound (term_items m)) n
   -- "The old reader answers 13 exactly when c + n exceeds 2^64 - 1."
   pub spent : max_number < c + n → Refuses old c numbers_spent ro
-  pub not_spent : c + n ≤ max_number → ro.said ≡ Refused numbers_spent → ⊥
+  pub not_spent : c + n ≤ max_number → ro.said ≡ refused numbers_spent → ⊥
   -- "Otherwise both give the same 7, or both accept, with the same words and reported numbers but each fresh number raised by c; the old
   -- one's count becomes c + n"
   pub otherwise : c + n ≤ max_number → BothRefuse old new c (number no_room) ro rn ⊎ BothAccept old new c m n ro rn
@@ -99,4 +98,4 @@ pub record Demand3 (opened : ℕ) (turns : List Turn) : Type 0 where
       → Alike old new (last_count opened turns) ro rn
   -- ".. or any in read or sort, both readers give it"
   pub read_or_sort : (old new : Call) (ro rn : Reply) → Agree old new → Promised old (last_count opened turns) ro → Promised new 0 rn
-      → reads_or_sorts new.op ≡ true → (r : ℕ) → rn.said ≡ Refused r → BothRefuse old new (last_count opened turns) r ro rn
+      → reads_or_sorts new.op ≡ true → (r : ℕ) → rn.said ≡ refused r → BothRefuse old new (last_count opened turns) r ro rn

@@ -1,29 +1,29 @@
 -- What is said, and the count afterwards, by what the operation answered.
-use Rattle.std.specs.Prelude.{ℕ}
-use Rattle.text.specs.declared.Answer as text
-use Rattle.text.specs.declared.Answer.TheVariants as read
-use Rattle.words.specs.declared.Answer as sorts
-use Rattle.words.specs.declared.Answer.TheVariants as parsed
+use Rattle.std.specs.Prelude.{ℕ, Result, Ok, Err}
+use Rattle.reading.specs.Answer.{Said}
+use Rattle.words.specs.declared.refusal.Refusal.{Refusal}
+use Rattle.words.specs.declared.report.Report.{Report}
+use Rattle.words.specs.Answered.{heard}
 use Rattle.parse.specs.declared.Counted.{Counted}
-use Rattle.parse.specs.declared.Counted.TheVariants as counted
-use Rattle.replies.specs.declared.Said.{Said}
-use Rattle.replies.specs.declared.Said.TheVariants.{Accepted, Refused}
 
--- Read one and read all.
-abbrev pub read_said : text.Answer → Said
-read_said (read.Accepted a b) = Accepted a b
-read_said (read.Refused r) = Refused r
+-- What is counted, the words of a sort or the bytes of SMT-LIB, reports how many there are. An error is passed on, whatever it is.
+abbrev pub size_report : {E : Type 0} → Result ℕ E → Result Report E
+size_report (Ok n) = Ok (record { first = n; second = 0 })
+size_report (Err e) = Err e
 
--- A sort, whose words are counted.
-abbrev pub size_said : sorts.Answer → Said
-size_said (parsed.Done w) = Accepted w 0
-size_said (parsed.Refused r) = Refused r
+-- What takes fresh numbers reports how many words it has.
+abbrev pub counted_report : {E : Type 0} → Result Counted E → Result Report E
+counted_report (Ok made) = Ok (record { first = made.words; second = 0 })
+counted_report (Err e) = Err e
 
--- What takes fresh numbers.
-abbrev pub counted_said : Counted → Said
-counted_said (counted.Done w n) = Accepted w 0
-counted_said (counted.Refused r) = Refused r
+-- What is said of them.
+abbrev pub size_said : Result ℕ Refusal → Said
+size_said d = heard (size_report d)
 
-abbrev pub count_after : Counted → ℕ → ℕ
-count_after (counted.Done w n) c = n
-count_after (counted.Refused r) c = c
+abbrev pub counted_said : Result Counted Refusal → Said
+counted_said d = heard (counted_report d)
+
+-- The count afterwards.
+abbrev pub count_after : {E : Type 0} → Result Counted E → ℕ → ℕ
+count_after (Ok made) c = made.count
+count_after (Err e) c = c

@@ -1,8 +1,7 @@
 -- What a method promises of its reply; and a session: calls on one reader, each on the reader that the last one returned.
 use Rattle.std.specs.Prelude.{ℕ, ◌≡◌, List, [], ◌∷◌}
 use Rattle.session.specs.Session.{Call, outcome}
-use Rattle.replies.specs.Calls.{as_said}
-use Rattle.replies.specs.declared.Said.{Said}
+use Rattle.reading.specs.Answer.{Said}
 
 -- What a caller sees of a call: what is said, the count of the reader that comes back, and the words of the slices.
 pub record Reply : Type 0 where
@@ -14,7 +13,7 @@ pub record Reply : Type 0 where
 
 -- The contract of every method, for a call on a reader at the count c: the reply is the outcome of the call.
 pub record Promised (call : Call) (c : ℕ) (r : Reply) : Type 0 where
-  pub said : r.said ≡ as_said (outcome call c).said
+  pub said : r.said ≡ (outcome call c).said
   pub count : r.next ≡ (outcome call c).count
   pub working : r.tree ≡ (outcome call c).tree
   pub body : r.draft ≡ (outcome call c).draft

@@ -4,53 +4,43 @@
 #![tactic(auto)]
 
 ghost use Rattle.std.specs.Prelude.{◌≡◌};
-ghost use Rattle.replies.specs.Heard.{read_said, size_said, counted_said, count_after};
+ghost use Rattle.replies.specs.Heard.{size_report, counted_report, count_after};
 
 use parse::Counted;
+use words::report::Report;
 
-// The two numbers that an accepted call reports, or the number of the refusal.
-#[derive(Clone, Copy)]
-pub enum Said {
-    Accepted(usize, usize),
-    Refused(u32),
-}
-
-// Read one says how many words there are and the byte behind them, read all how many expressions and words: the two numbers as they are.
-pub fn read(answer: text::Answer) -> Said
-    ensures { result ≡ read_said answer }
+// A number by itself, with a 0 behind it.
+fn alone(size: usize) -> Report
+    ensures { result ≡ record { first = size; second = 0 } }
 {
-    match answer {
-        text::Answer::Accepted(a, b) => Said::Accepted(a, b),
-        text::Answer::Refused(r) => Said::Refused(r),
+    Report {
+        first: size,
+        second: 0,
     }
 }
 
-// A sort, and an expression that is flattened, says how many words it has, and 0.
-pub fn sized(answer: words::Answer) -> Said
-    ensures { result ≡ size_said answer }
+// What is counted says how many there are, and 0: a sort's words, those of an expression that is flattened, the bytes of SMT-LIB.
+pub fn sized<E: Copy>(answer: Result<usize, E>) -> Result<Report, E>
+    ensures { result ≡ size_report answer }
 {
-    match answer {
-        words::Answer::Done(size) => Said::Accepted(size, 0),
-        words::Answer::Refused(why) => Said::Refused(why),
-    }
+    let size = answer?;
+    Ok(alone(size))
 }
 
 // What takes fresh numbers says how many words it has, and 0.
-pub fn counted(answer: Counted) -> Said
-    ensures { result ≡ counted_said answer }
+pub fn counted<E: Copy>(answer: Result<Counted, E>) -> Result<Report, E>
+    ensures { result ≡ counted_report answer }
 {
-    match answer {
-        Counted::Done(words, _) => Said::Accepted(words, 0),
-        Counted::Refused(number) => Said::Refused(number),
-    }
+    let made = answer?;
+    Ok(alone(made.words))
 }
 
 // The reader's count afterwards, where it was at the start: raised by the numbers that the answer binds, or as it came after a refusal.
-pub fn count_after(answer: Counted, start: u64) -> u64
+pub fn count_after<E: Copy>(answer: Result<Counted, E>, start: u64) -> u64
     ensures { result ≡ count_after answer start }
 {
     match answer {
-        Counted::Done(_, after) => after,
-        Counted::Refused(_) => start,
+        Ok(made) => made.count,
+        Err(_) => start,
     }
 }

@@ -1,12 +1,14 @@
 -- The names of scopes: walks over the pairs of a list of binders, and searches in the open scopes.
 use Rattle.std.proofs.Common.{◌≡◌, ℕ, zero, suc, ◌+◌, ◌-◌, ◌*◌, ◌%◌, ◌^◌, ◌<◌, ◌≤◌, Bool, true, false, ltb, List, [], ◌∷◌, ◌++◌, length, get_or, drop, sym, refl, ap, ◌∙◌, append_assoc, add-zero, arith, drop-drop, drop_at, ltb-false, ltb-true, le-ltb, lt-ltb}
+use Rattle.std.specs.Option.{is_some}
+use mathlib.Core.Bool.{true≢false}
 use Rattle.reading.specs.Pick.{pick}
 use Rattle.reading.specs.Bytes.{Span, nothing, just}
 use Rattle.reading.specs.Tree.{Tree, Trees, atom_words, symbol, atom, list, tnil, tcons, trees, tree_words, trees_words}
 use Rattle.grammar.specs.Scope.{Scope, same_name, number_among, number_in, is_among, repeated}
 use Rattle.places.specs.Spot.{Spot}
-use Rattle.scopes.specs.Scopes.{Named, none, more, Pairs, IsScope, Opened, OpenScopes, place_among, Meant}
-use Rattle.scopes.specs.declared.entries.Found.TheVariants.{At, Nothing}
+use Rattle.scopes.specs.Scopes.{Named, none, more, Pairs, IsScope, Opened, OpenScopes, place_among, PlacedAt, Meant}
+use Rattle.std.specs.Prelude.{Option, Some, None}
 use Rattle.places.proofs.Spots.{word, word0, spot-within, list-size}
 
 -- The span of the name of a pair.
@@ -70,7 +72,7 @@ module _ (text ws : List ℕ) (at n : ℕ) (h : Pairs ws at n) (s : Span) where
   }
 
   module _ (i p : ℕ) (x : Walk text ws at n h s i p) where
-    pub walk_end : n ≤ i → i ≡ place_among text s h.names
+    pub walk_end : n ≤ i → n ≤ place_among text s h.names
     unfolding place_among pick
     walk_end e = omega (arith, x.place, ap (place_among text s) (nil_names x.left.names (omega (arith, x.left.many))))
       where
@@ -82,11 +84,11 @@ module _ (text ws : List ℕ) (at n : ℕ) (h : Pairs ws at n) (s : Span) where
       pub walk_pair : PairAt ws p (n - i) x.left.names
       walk_pair = first-pair x.left (omega arith)
 
-      pub walk-hit : same_name text s (span_at ws p) ≡ true → i ≡ place_among text s h.names
+      pub walk-hit : same_name text s (span_at ws p) ≡ true → (i ≡ place_among text s h.names) × (i < n)
       unfolding place_among pick
       walk-hit e =
           let z : place_among text s x.left.names ≡ 0 = ap (place_among text s) walk_pair.is ∙ rw e refl in
-          omega (arith, x.place)
+          (omega (arith, x.place), l)
 
       pub walk_more : same_name text s (span_at ws p) ≡ false → (q : ℕ) → q ≡ p + (get_or ws (p + 2) 0 + 3) → Walk text ws at n h s (i + 1) q
       unfolding place_among pick
@@ -159,15 +161,17 @@ module _ (text ws : List ℕ) (names : List Span) (n : ℕ) where
         abbrev pub left-rest : Pairs ws q (n - (i + 1))
         left-rest = record { names = left-pair.left.names; pairs = left-pair.left.pairs; rest = left-pair.left.rest; words = rw is left-pair.left.words; named = left-pair.left.named; many = left-many }
 
-        pub left-hit : {r : ℕ} → r ≡ place_among text (span_at ws p) left-pair.left.names → r < n - (i + 1) → true ≡ repeated text names
+        pub left-hit : (r : Option ℕ) → PlacedAt (place_among text (span_at ws p) left-pair.left.names) (n - (i + 1)) r → is_some r ≡ true → true ≡ repeated text names
         unfolding repeated pick
-        left-hit {r} e h =
+        left-hit None e h = absurd (true≢false (sym h))
+        left-hit (Some r) e h =
             let z : is_among text (span_at ws p) left-pair.left.names ≡ true = is_in text (span_at ws p) left-pair.left.names ∙ lt-ltb (place_among text (span_at ws p) left-pair.left.names) (length left-pair.left.names) (omega (arith, left-many)) in
             sym (x.same ∙ ap (repeated text) left-pair.is ∙ rw z refl)
 
-        pub left-more : {r : ℕ} → r ≡ place_among text (span_at ws p) left-pair.left.names → n - (i + 1) ≤ r → Left text ws names n (i + 1) q
+        pub left-more : (r : Option ℕ) → PlacedAt (place_among text (span_at ws p) left-pair.left.names) (n - (i + 1)) r → is_some r ≡ false → Left text ws names n (i + 1) q
         unfolding repeated pick
-        left-more {r} e h =
+        left-more (Some r) e h = absurd (true≢false h)
+        left-more None e h =
             let z : is_among text (span_at ws p) left-pair.left.names ≡ false = is_in text (span_at ws p) left-pair.left.names ∙ le-ltb (place_among text (span_at ws p) left-pair.left.names) (length left-pair.left.names) (omega (arith, left-many)) in
             record { left = left-rest; same = x.same ∙ ap (repeated text) left-pair.is ∙ rw z refl; within = omega arith }
 
@@ -222,11 +226,11 @@ module _ (text ws es : List ℕ) (depth : ℕ) (h : OpenScopes ws es depth) (nam
   search_start = record { scopes = h.scopes; holds = h.holds; same = refl; within = h.within }
 
   module _ (d : ℕ) (x : Search text ws es depth h name d) where
-    pub search_end : (count : ℕ) → d ≤ 0 → Meant count (number_in text name h.scopes) Nothing
+    pub search_end : (count : ℕ) → d ≤ 0 → Meant count (number_in text name h.scopes) None
     unfolding number_in
     search_end count e = rw x.same (go d x.scopes (omega arith) x.holds)
       where
-        go : (k : ℕ) (fs : List Scope) → k ≡ 0 → Opened ws es k fs → Meant count (number_in text name fs) Nothing
+        go : (k : ℕ) (fs : List Scope) → k ≡ 0 → Opened ws es k fs → Meant count (number_in text name fs) None
         go zero [] e o = refl
         go zero (f ∷ fs) e o = absurd o
         go (suc k) [] e o = absurd o
@@ -239,29 +243,32 @@ module _ (text ws es : List ℕ) (depth : ℕ) (h : OpenScopes ws es depth) (nam
       pub search_pairs : {a n : ℕ} → a ≡ get_or es (3 * (d - 1)) 0 → n ≡ get_or es (3 * (d - 1) + 1) 0 → Pairs ws a n
       search_pairs e f = rw (e, f) search_top.entry.place
 
-      module _ {r a n : ℕ} (e : a ≡ get_or es (3 * (d - 1)) 0) (f : n ≡ get_or es (3 * (d - 1) + 1) 0) (k : ((p : Pairs ws a n) → r ≡ place_among text name p.names)) where
-        search_place : r ≡ place_among text name search_top.scope.names
-        search_place = go a n e f k ∙ ap (place_among text name) (sym search_top.entry.names)
+      module _ (r : Option ℕ) {a n : ℕ} (e : a ≡ get_or es (3 * (d - 1)) 0) (f : n ≡ get_or es (3 * (d - 1) + 1) 0) (k : ((p : Pairs ws a n) → PlacedAt (place_among text name p.names) n r)) where
+        search_place : PlacedAt (place_among text name search_top.scope.names) n r
+        search_place = rw search_top.entry.names (go a n e f k)
           where
-            go : (a n : ℕ) → a ≡ get_or es (3 * (d - 1)) 0 → n ≡ get_or es (3 * (d - 1) + 1) 0 → ((p : Pairs ws a n) → r ≡ place_among text name p.names) → r ≡ place_among text name search_top.entry.place.names
-            go a n e f k = (rw (e, f) at k) search_top.entry.place
+            go : (a n : ℕ) → a ≡ get_or es (3 * (d - 1)) 0 → n ≡ get_or es (3 * (d - 1) + 1) 0 → ((p : Pairs ws a n) → PlacedAt (place_among text name p.names) n r) → PlacedAt (place_among text name search_top.entry.place.names) n r
+            go a n e f k = rw f ((rw (e, f) at k) search_top.entry.place)
 
         search_many : n ≡ length search_top.scope.names
         search_many = f ∙ search_top.entry.place.many ∙ ap length (sym search_top.entry.names)
 
-        pub search_hit : (count : ℕ) {j : ℕ} → r < n → j ≡ (count + (get_or es (3 * (d - 1) + 2) 0 + r)) % 2 ^ 64 → Meant count (number_in text name h.scopes) (At j)
+        pub search_hit : (count : ℕ) {i j : ℕ} → r ≡ Some i → j ≡ (count + (get_or es (3 * (d - 1) + 2) 0 + i)) % 2 ^ 64 → Meant count (number_in text name h.scopes) (Some j)
         unfolding number_in
         search_hit count u p =
-            rw (x.same, search_top.is, number-hit text name search_top.scope.names search_top.scope.first (omega (arith, search_place, search_many))) (ap At (p ∙ rw (search_top.entry.first, search_place) refl))
+            let q = rw u at search_place in
+            rw (x.same, search_top.is, number-hit text name search_top.scope.names search_top.scope.first (omega (arith, q.0, q.1, search_many))) (ap Some (p ∙ rw (search_top.entry.first, q.0) refl))
 
-        pub search_more : n ≤ r → Search text ws es depth h name (d - 1)
+        pub search_more : r ≡ None → Search text ws es depth h name (d - 1)
         unfolding number_in
-        search_more u = record {
-          scopes = search_top.below;
-          holds = search_top.holds;
-          same = x.same ∙ ap (number_in text name) search_top.is ∙ rw (number-miss text name search_top.scope.names search_top.scope.first (omega (arith, search_place, search_many))) refl;
-          within = omega (arith, x.within);
-        }
+        search_more u =
+            let q = rw u at search_place in
+            record {
+              scopes = search_top.below;
+              holds = search_top.holds;
+              same = x.same ∙ ap (number_in text name) search_top.is ∙ rw (number-miss text name search_top.scope.names search_top.scope.first (omega (arith, q, search_many))) refl;
+              within = omega (arith, x.within);
+            }
 
 -- a sum that wraps in two steps
 pub wraps : (count a b k x i : ℕ) → i ≡ b → k ≡ (a + i) % 2 ^ 64 → x ≡ (count + k) % 2 ^ 64 → x ≡ (count + (a + b)) % 2 ^ 64

@@ -1,13 +1,11 @@
 -- The code's open scopes, of parameters, exists and let alike: entries of a slice, each the place of its first pair in the tree, how many
 -- pairs there are, and its first fresh number.
-use Rattle.std.specs.Prelude.{◌≡◌, ℕ, zero, suc, ◌+◌, ◌*◌, ◌%◌, ◌^◌, ◌<◌, ◌≤◌, List, [], ◌∷◌, ◌++◌, length, drop, ◌==◌, slice_index, slice_set}
+use Rattle.std.specs.Prelude.{◌≡◌, ℕ, zero, suc, ◌+◌, ◌*◌, ◌%◌, ◌^◌, ◌<◌, ◌≤◌, List, [], ◌∷◌, ◌++◌, length, drop, ◌==◌, slice_index, slice_set, Option, Some, None}
 use Rattle.reading.specs.Limits.{max_lists}
 use Rattle.reading.specs.Pick.{pick}
 use Rattle.reading.specs.Bytes.{Span, Maybe, nothing, just}
 use Rattle.reading.specs.Tree.{Trees, symbol, atom, list, tnil, tcons, trees_words}
 use Rattle.grammar.specs.Scope.{Scope, same_name}
-use Rattle.scopes.specs.declared.entries.Found.{Found}
-use Rattle.scopes.specs.declared.entries.Found.TheVariants.{At, Nothing}
 
 -- Trees that are lists beginning with a name, as `(name sort)` and the `(name value)` of a let do, and the names.
 pub data Named : Trees → List Span → Type 0 where
@@ -67,7 +65,12 @@ unfoldable pub place_among : List ℕ → Span → List Span → ℕ
 place_among text s [] = 0
 place_among text s (x ∷ xs) = pick (same_name text s x) 0 (suc (place_among text s xs))
 
+-- What is found of the first place of a name among n names, at place p: that place, or none where there is no such name.
+abbrev pub PlacedAt : ℕ → ℕ → Option ℕ → Type 0
+PlacedAt p n (Some i) = (i ≡ p) × (i < n)
+PlacedAt p n None = n ≤ p
+
 -- The fresh number that a name means, raised by the count.
-abbrev pub Meant : ℕ → Maybe ℕ → Found → Type 0
-Meant count nothing r = r ≡ Nothing
-Meant count (just k) r = r ≡ At ((count + k) % 2 ^ 64)
+abbrev pub Meant : ℕ → Maybe ℕ → Option ℕ → Type 0
+Meant count nothing r = r ≡ None
+Meant count (just k) r = r ≡ Some ((count + k) % 2 ^ 64)

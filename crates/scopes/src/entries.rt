@@ -1,13 +1,12 @@
 // Open scopes: entries in a slice that is lent down with a depth. Entries at or above the depth are dead, so nothing is restored.
 ghost use Rattle.std.specs.Prelude.{◌≡◌, ◌+◌, ◌*◌, ◌≤◌, length};
-ghost use Rattle.reading.specs.Bytes.{Span};
+ghost use Rattle.words.specs.Spans.{as_span};
 ghost use Rattle.grammar.specs.Scope.{same_name, number_in, repeated};
-ghost use Rattle.scopes.specs.Scopes.{pushed, deeper, Pairs, place_among, OpenScopes, Meant};
+ghost use Rattle.scopes.specs.Scopes.{pushed, deeper, Pairs, PlacedAt, place_among, OpenScopes, Meant};
 
 use lexing::byte::same;
 use words::limits::MAX_LISTS;
-use words::number::{length_to_long, long_to_length, word_to_length};
-use words::span::bytes_at;
+use words::span::Span;
 
 // Room for as many entries as lists can stand inside one another.
 pub const SLOTS: usize = 3 * MAX_LISTS;
@@ -21,41 +20,36 @@ pub fn opened(scopes: &mut [u64], depth: usize, pairs: usize, n: u64, first: u64
     if pairs == 0 {
         return depth;
     }
-    scopes[3 * depth] = length_to_long(pairs);
+    scopes[3 * depth] = pairs as u64;
     scopes[3 * depth + 1] = n;
     scopes[3 * depth + 2] = first;
     depth + 1
 }
 
-// The number that a name means, or none.
-#[derive(Clone, Copy)]
-pub enum Found {
-    At(u64),
-    Nothing,
-}
-
 // Whether two names of the text are the same.
-fn same_name(text: &[u8], start: u32, len: u32, other: u32, many: u32) -> bool
-    ensures { result ≡ same_name text.now (record { start = start; len = len }) (record { start = other; len = many }) }
+fn same_name(text: &[u8], name: Span, other: Span) -> bool
+    ensures { result ≡ same_name text.now (as_span name) (as_span other) }
 {
-    same(bytes_at(text, start, len), bytes_at(text, other, many))
+    same(name.bytes(text), other.bytes(text))
 }
 
-// The first place of a name among the names of a scope, or how many there are.
-fn place_among(text: &[u8], tree: &[u32], at: usize, n: usize, start: u32, len: u32) -> usize
+// The first place of a name among the names of a scope.
+fn place_among(text: &[u8], tree: &[u32], at: usize, n: usize, name: Span) -> Option<usize>
     requires { Pairs tree.now at n }
-    ensures { (h : Pairs tree.now at n) → result ≡ place_among text.now (record { start = start; len = len }) h.names }
+    ensures { (h : Pairs tree.now at n) → PlacedAt (place_among text.now (as_span name) h.names) n result }
 {
-    let mut i: usize = 0;
     let mut p = at;
-    while i < n {
-        if same_name(text, start, len, tree[p + 4], tree[p + 5]) {
-            return i;
+    for i in 0..n {
+        let other = Span {
+            start: tree[p + 4],
+            len: tree[p + 5],
+        };
+        if same_name(text, name, other) {
+            return Some(i);
         }
-        p += word_to_length(tree[p + 2]) + 3;
-        i += 1;
+        p += tree[p + 2] as usize + 3;
     }
-    i
+    None
 }
 
 // The number that a name means in the open scopes, innermost first, raised by the count.
@@ -65,24 +59,20 @@ pub fn find(
     scopes: &[u64],
     depth: usize,
     count: u64,
-    start: u32,
-    len: u32,
-) -> Found
+    name: Span,
+) -> Option<u64>
     requires { OpenScopes tree.now scopes.now depth }
-    ensures { (h : OpenScopes tree.now scopes.now depth) → Meant count (number_in text.now (record { start = start; len = len }) h.scopes) result }
+    ensures { (h : OpenScopes tree.now scopes.now depth) → Meant count (number_in text.now (as_span name) h.scopes) result }
 {
-    let mut d = depth;
-    while 0 < d {
-        d -= 1;
-        let at = long_to_length(scopes[3 * d]);
-        let n = long_to_length(scopes[3 * d + 1]);
-        let i = place_among(text, tree, at, n, start, len);
-        if i < n {
-            let k = std::num::wrapping_add_u64(scopes[3 * d + 2], length_to_long(i));
-            return Found::At(std::num::wrapping_add_u64(count, k));
+    for d in (0..depth).rev() {
+        let at = scopes[3 * d] as usize;
+        let n = scopes[3 * d + 1] as usize;
+        if let Some(i) = place_among(text, tree, at, n, name) {
+            let k = scopes[3 * d + 2].wrapping_add(i as u64);
+            return Some(count.wrapping_add(k));
         }
     }
-    Found::Nothing
+    None
 }
 
 // Whether a name of some pairs stands there twice.
@@ -91,13 +81,13 @@ pub fn twice(text: &[u8], tree: &[u32], at: usize, n: usize) -> bool
     ensures { (b : Pairs tree.now at n) → result ≡ repeated text.now b.names }
 {
     let mut p = at;
-    let mut i: usize = 0;
-    while i < n {
-        let s = tree[p + 4];
-        let l = tree[p + 5];
-        p += word_to_length(tree[p + 2]) + 3;
-        i += 1;
-        if place_among(text, tree, p, n - i, s, l) < n - i {
+    for i in 0..n {
+        let name = Span {
+            start: tree[p + 4],
+            len: tree[p + 5],
+        };
+        p += tree[p + 2] as usize + 3;
+        if place_among(text, tree, p, n - (i + 1), name).is_some() {
             return true;
         }
     }

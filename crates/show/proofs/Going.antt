@@ -15,7 +15,7 @@ use Rattle.grammar.specs.Expr.{Binder, expr_items, Solution}
 use Rattle.judging.specs.Judge.{reads, sort_at, binders_at, expr_deep}
 use Rattle.judging.specs.Spelled.{Spelled}
 use Rattle.judging.specs.Ends.{end_of}
-use Rattle.judging.specs.declared.End.TheVariants as end
+use Rattle.words.specs.Answered.{told, refused}
 use Rattle.judging.proofs.Spell.{Low, spelled-inside}
 use Rattle.judging.proofs.SpellExpr.{expr-spelled}
 use Rattle.flattening.specs.Operations.{no_text}
@@ -53,8 +53,8 @@ first-line : {words : List ℕ} (o : List ℕ) {out : List ℕ} {at : ℕ} → L
 first-line o low p a = refusal-shows o 0 (omega (arith, p.fits, parts-length low p.parts)) a
 
 -- Before the first parameter.
-pub going_starts : (words o : List ℕ) {out : List ℕ} {at : ℕ} → Low words → has_room (words_text words) (length o) ≡ true → answering at out ≡ shown (just (refusal_text 0)) o → Going words out out 1 (get_or words 0 0) at
-going_starts words o {out} {at} low e a =
+pub going_starts : (words o : List ℕ) {out : List ℕ} {at left : ℕ} → left ≡ get_or words 0 0 → Low words → has_room (words_text words) (length o) ≡ true → answering at out ≡ shown (just (refusal_text 0)) o → Going words out out 1 left at
+going_starts words o {out} {at} c low e a =
     let p = placed words (length o) e in
     let f = first-line o low p a in
     let n : length o ≡ length out = sym (ap length f.1 ∙ over-length (refusal_text 0) o) in
@@ -66,7 +66,7 @@ going_starts words o {out} {at} low e a =
       kept = refl;
       binders = p.solution.params;
       behind = p.parts.behind;
-      read = p.parts.binders;
+      read = rw c p.parts.binders;
       body = p.parts.body;
       text = ap (λ (k : ℕ). sets out k (lines_of p.solution)) f.0;
     }
@@ -77,12 +77,12 @@ module _ {words out₀ out : List ℕ} {from left at : ℕ} (g : Going words out
   next some = next-read words g.low from left g.inside some g.read
 
   -- Its sort is not refused.
-  pub not-refused : {P : Type 0} → 0 < left → {r : ℕ} → end.No r ≡ end_of (sort_at no_text words (from + 2)) → P
-  not-refused some {r} e = let z : end.No r ≡ end.At (next some).to = e ∙ ap end_of (next some).sort in let y : ◌≡◌ {A = ℕ} 0 1 = cc in absurd (omega arith)
+  pub not-refused : {P : Type 0} → 0 < left → {r : ℕ} → refused r ≡ end_of (sort_at no_text words (from + 2)) → P
+  not-refused some {r} e = let z : refused r ≡ told (next some).to = e ∙ ap end_of (next some).sort in let y : ◌≡◌ {A = ℕ} 0 1 = cc in absurd (omega arith)
 
-  module _ (some : 0 < left) {to : ℕ} (e : end.At to ≡ end_of (sort_at no_text words (from + 2))) where
+  module _ (some : 0 < left) {to : ℕ} (e : told to ≡ end_of (sort_at no_text words (from + 2))) where
     same_place : (next some).to ≡ to
-    same_place = let z : end.At to ≡ end.At (next some).to = e ∙ ap end_of (next some).sort in cc
+    same_place = let z : told to ≡ told (next some).to = e ∙ ap end_of (next some).sort in cc
 
     spelled : Spelled words from to (param_words (next some).binder)
     spelled = rw same_place at (next some).spelled
@@ -93,9 +93,10 @@ module _ {words out₀ out : List ℕ} {from left at : ℕ} (g : Going words out
         (omega (arith, spelled.ends), spelled-inside spelled, omega (arith, spelled.ends, spelled-inside spelled, g.reached, g.kept, g.place.fits, parts-length g.low g.place.parts, g.place.parts.some))
 
     -- Behind its line.
-    pub going_more : {out' : List ℕ} {at' : ℕ} → at' ≡ at + 9 * (to - from) → out' ≡ sets out at (line (between words from to)) → Going words out₀ out' to (left - 1) at'
+    pub going_more : {out' : List ℕ} {at' left' : ℕ} → left ≡ left' + 1 → at' ≡ at + 9 * (to - from) → out' ≡ sets out at (line (between words from to)) → Going words out₀ out' to left' at'
     unfolding param_lines
-    going_more {out'} {at'} p o =
+    going_more {out'} {at'} {left'} c p o =
+        let one : left - 1 ≡ left' = omega (arith, c) in
         let x = next some in
         let b : List ℕ = param_words x.binder in
         let body : List ℕ = line (words_of (expr_items g.place.solution.body)) in
@@ -111,7 +112,7 @@ module _ {words out₀ out : List ℕ} {from left at : ℕ} (g : Going words out
           kept = ap length o ∙ length-sets out at (line (between words from to)) ∙ g.kept;
           binders = x.others;
           behind = g.behind;
-          read = rw same_place at x.then;
+          read = rw (same_place, one) at x.then;
           body = g.body;
           text = rw (m, q) (sets_append (line b) rest out at) ∙ ap (sets out at) (sym w) ∙ g.text;
         }

@@ -15,7 +15,11 @@ use Rattle.grammar.proofs.Lengths.{size-solution}
 use Rattle.judging.specs.Judge.{Judged, reads, fails, binders_at, judge_solution}
 use Rattle.judging.specs.Spelled.{Spelled}
 use Rattle.judging.specs.Ends.{end_of}
-use Rattle.judging.specs.declared.End.TheVariants as end
+use Rattle.std.specs.Prelude.{Result, Ok, Err}
+use Rattle.std.specs.Result.{is_ok}
+use Rattle.words.specs.Answered.{answered, told, refused}
+use Rattle.words.specs.Refusals.{number_of}
+use Rattle.words.specs.declared.refusal.Refusal.{Refusal}
 use Rattle.judge.proofs.ReadExpr.{ends_at, ends-no}
 use Rattle.judging.proofs.Spell.{Low, post_reads, spelled_none}
 use Rattle.judging.proofs.SpellSort.{binders-behind}
@@ -47,18 +51,27 @@ placed words room e = go (judge_solution no_text words) refl e
     go (reads s n) h q = record { solution = s; text = ap text_of h; parts = parts_of no_text words h; fits = leb-true (length (solution_text s)) room q }
     go (fails r) h q = absurd (false≢true q)
 
+-- A result by what `is_ok` says of it.
+pub ok-at : (x : Result ℕ Refusal) → true ≡ is_ok x → (n : ℕ) × (answered x ≡ told n)
+ok-at (Ok n) e = (n, refl)
+ok-at (Err r) e = absurd (false≢true (sym e))
+
+pub err-at : (x : Result ℕ Refusal) → false ≡ is_ok x → (r : ℕ) × (answered x ≡ refused r)
+err-at (Ok n) e = absurd (false≢true e)
+err-at (Err r) e = (number_of r, refl)
+
 -- What the answers of the code say of the text.
 module _ (words : List ℕ) (room : ℕ) where
   -- A refusal has no text.
-  pub fits-no : {r : ℕ} → end.No r ≡ end_of (judge_solution no_text words) → false ≡ has_room (words_text words) room
+  pub fits-no : {r : ℕ} → refused r ≡ end_of (judge_solution no_text words) → false ≡ has_room (words_text words) room
   unfolding words_text
   fits-no e = ap (λ (j : Judged Solution). has_room (text_of j) room) (sym (ends-no (judge_solution no_text words) e))
 
   -- A solution has words, and its text is as long as they say.
-  pub fits-some : {n : ℕ} → end.At n ≡ end_of (judge_solution no_text words) → 1 ≤ length words
+  pub fits-some : {n : ℕ} → told n ≡ end_of (judge_solution no_text words) → 1 ≤ length words
   fits-some e = (parts_of no_text words (ends_at (judge_solution no_text words) e).1).some
 
-  pub fits_all : {n : ℕ} {t : Bool} → Low words → end.At n ≡ end_of (judge_solution no_text words) → t ≡ leb (3 + 9 * (length words - 1)) room → t ≡ has_room (words_text words) room
+  pub fits_all : {n : ℕ} {t : Bool} → Low words → told n ≡ end_of (judge_solution no_text words) → t ≡ leb (3 + 9 * (length words - 1)) room → t ≡ has_room (words_text words) room
   unfolding words_text
   fits_all {n} low e q =
       let j = ends_at (judge_solution no_text words) e in

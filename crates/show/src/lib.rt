@@ -10,7 +10,6 @@ ghost use Rattle.show.specs.Lines.{line as line_of, refusal_text};
 ghost use Rattle.show.specs.Shown.{words_text, has_room, shown};
 
 use judge::expr_words::{NO_TEXT, solution as solution_end};
-use judging::End;
 use sortwords::sort_end;
 use writing::{clear, digit};
 
@@ -18,13 +17,10 @@ use writing::{clear, digit};
 fn separator(next: usize, to: usize) -> u8
     ensures { result ≡ pick (eqb next to) 10 32 }
 {
-    if next == to {
-        return 10;
-    }
-    32
+    if next == to { b'\n' } else { b' ' }
 }
 
-// A word and what stands behind it.
+// A word and what stands behind it. No loop: each digit stands here as in the definition of the eight.
 fn word(w: u32, sep: u8, out: &mut [u8], at: usize)
     requires { at + 9 ≤ length out.old }
     ensures { out.new ≡ sets out.old at (eight_digits w ++ (sep ∷ [])) }
@@ -45,11 +41,9 @@ fn line(words: &[u32], from: usize, to: usize, out: &mut [u8], at: usize) -> usi
     requires { (from ≤ to) × (to ≤ length words.now) × (at + 9 * (to - from) ≤ length out.old) }
     ensures { (result ≡ at + 9 * (to - from)) × (out.new ≡ sets out.old at (line_of (take (to - from) (drop from words.now)))) }
 {
-    let mut i = from;
     let mut a = at;
-    while i < to {
+    for i in from..to {
         word(words[i], separator(i + 1, to), out, a);
-        i += 1;
         a += 9;
     }
     a
@@ -75,23 +69,14 @@ fn long_enough(words: usize, room: usize) -> bool
     requires { 1 ≤ words }
     ensures { result ≡ leb (3 + 9 * (words - 1)) room }
 {
-    if room < 3 {
-        return false;
-    }
-    if (room - 3) / 9 < words - 1 {
-        return false;
-    }
-    true
+    3 <= room && words - 1 <= (room - 3) / 9
 }
 
 // The words are judged to be a solution, and there is room for its text.
 fn fits(words: &[u32], room: usize) -> bool
     ensures { result ≡ has_room (words_text words.now) room }
 {
-    match solution_end(words, NO_TEXT) {
-        End::At(_) => long_enough(words.len(), room),
-        End::No(_) => false,
-    }
+    solution_end(words, NO_TEXT).is_ok() && long_enough(words.len(), room)
 }
 
 // The text of the solution that these words are, in an output with room for it; answers its length.
@@ -101,19 +86,13 @@ fn lines(words: &[u32], out: &mut [u8]) -> usize
 {
     let mut at = refusal(0, out);
     let mut from = 1;
-    let mut left = words[0];
-    while 0 < left {
-        match sort_end(words, from + 2, NO_TEXT) {
-            End::At(to) => {
-                at = line(words, from, to, out, at);
-                from = to;
-            }
-            // Never, since the words are a solution.
-            End::No(_) => {
-                return at;
-            }
-        }
-        left -= 1;
+    for _ in 0..words[0] {
+        // Never refused, since the words are a solution.
+        let Ok(to) = sort_end(words, from + 2, NO_TEXT) else {
+            return at;
+        };
+        at = line(words, from, to, out, at);
+        from = to;
     }
     line(words, from, words.len(), out, at)
 }

@@ -19,7 +19,8 @@ use Rattle.judging.proofs.SpellKind.{binders-count}
 use Rattle.nodes.proofs.ExistsAt.{exists-binders, header-inside, exists-told}
 use Rattle.writing.specs.Digits.{decimal}
 use Rattle.smt.specs.Writer.{fits_width}
-use Rattle.smtnames.specs.declared.answers.Written.{Written}
+use Rattle.std.specs.Prelude.{Result}
+use Rattle.words.specs.declared.refusal.Refusal.{Refusal}
 use Rattle.smtnames.specs.Pieces.{joined, vars_text}
 use Rattle.smtfronts.specs.Fronts.{bits_text, exists_text, front_text, node_text, Numbered}
 use Rattle.smtnames.specs.Written.{TellsPiece}
@@ -37,7 +38,7 @@ module _ (v : Wide) (width : ℕ) {t : Bool} (e : t ≡ fits_width v width) wher
   bits_taken h = pick_yes _ e (not-false t h) refl
 
 -- What is told of a node is told of the kind that was looked for.
-pub node_as : (text : List ℕ) (n : ℕ) {node m : Node} {l l' : List ℕ} {place : ℕ} {r : Written} → node ≡ m → TellsPiece (node_text text m n) l place l' r → TellsPiece (node_text text node n) l place l' r
+pub node_as : (text : List ℕ) (n : ℕ) {node m : Node} {l l' : List ℕ} {place : ℕ} {r : Result ℕ Refusal} → node ≡ m → TellsPiece (node_text text m n) l place l' r → TellsPiece (node_text text node n) l place l' r
 node_as text n e t = tells_as (ap (λ (x : Node). node_text text x n) e) t
 
 -- Operators and relations have numbers in their tables.
@@ -63,7 +64,7 @@ module _ (limit : ℕ) (ws text : List ℕ) (at n : ℕ) (bs : List Binder) {m :
   exists-some h = exists-filled text bs λ z. h (sym (binders-count limit ws at n e) ∙ z)
 
 -- The front of a kind that was read.
-module _ (limit : ℕ) (ws text : List ℕ) (at : ℕ) (k : Kind) {n a : ℕ} (e : header limit ws at ≡ reads (operands_of k n) a) {node : Node} (f : node ≡ node_of k) {l l' : List ℕ} {place : ℕ} {r : Written} where
+module _ (limit : ℕ) (ws text : List ℕ) (at : ℕ) (k : Kind) {n a : ℕ} (e : header limit ws at ≡ reads (operands_of k n) a) {node : Node} (f : node ≡ node_of k) {l l' : List ℕ} {place : ℕ} {r : Result ℕ Refusal} where
   pub front-never : length ws ≤ at → TellsPiece (front_text text k n) l place l' r
   front-never h = absurd (omega (arith, h, header-inside limit ws at e))
 

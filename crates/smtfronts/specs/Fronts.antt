@@ -5,6 +5,8 @@ use Rattle.reading.specs.Bytes.{ascii}
 use Rattle.reading.specs.Number.{Wide, value_of}
 use Rattle.reading.specs.Answer.{Ans, got, bad, and_then, unwritable}
 use Rattle.grammar.specs.Expr.{Binder, Kind}
+use Rattle.words.specs.Quads.{as_wide}
+use Rattle.words.specs.Spans.{as_span}
 use Rattle.nodes.specs.declared.kind.Node.{Node}
 use Rattle.nodes.specs.declared.kind.Node.TheVariants as told
 use Rattle.writing.specs.Digits.{decimal}
@@ -59,12 +61,12 @@ let_fresh_text k = ascii "(let ((" ++ (fresh_text k ++ (32 ∷ []))
 
 -- In front of the operands by what the code is told of a kind; the binders of an exists are not told.
 abbrev pub node_text : List ℕ → Node → ℕ → Ans (List ℕ)
-node_text text (told.Num a b c d) n = got (decimal (value_of (record { a = a; b = b; c = c; d = d })))
+node_text text (told.Num q) n = got (decimal (value_of (as_wide q)))
 node_text text (told.Bool b) n = got (bool_text b)
-node_text text (told.Str start len) n = string_text text (record { start = start; len = len })
-node_text text (told.BitVec a b c d width) n = bits_text (record { a = a; b = b; c = c; d = d }) width
+node_text text (told.Str s) n = string_text text (as_span s)
+node_text text (told.BitVec q width) n = bits_text (as_wide q) width
 node_text text (told.Fresh k) n = got (fresh_text k)
-node_text text (told.Named start len) n = name_text text 110 (record { start = start; len = len })
+node_text text (told.Named s) n = name_text text 110 (as_span s)
 node_text text told.Neg n = got (ascii "(- ")
 node_text text (told.Bin op) n = got (operator_text (spelled_at operators op))
 node_text text told.If n = got (ascii "(ite ")
@@ -74,21 +76,21 @@ node_text text told.Not n = got (ascii "(not ")
 node_text text told.Imp n = got (ascii "(=> ")
 node_text text told.Iff n = got (ascii "(= ")
 node_text text (told.Atom r) n = got (operator_text (spelled_at relations r))
-node_text text (told.Let start len) n = joined (got (ascii "(let ((")) (joined (name_text text 110 (record { start = start; len = len })) (got (ascii " ")))
+node_text text (told.Let s) n = joined (got (ascii "(let ((")) (joined (name_text text 110 (as_span s)) (got (ascii " ")))
 node_text text (told.Theory k) n = bad unwritable
-node_text text (told.IsCtor start len) n = joined (got (ascii "((_ is ")) (joined (name_text text 110 (record { start = start; len = len })) (got (ascii ") ")))
+node_text text (told.IsCtor s) n = joined (got (ascii "((_ is ")) (joined (name_text text 110 (as_span s)) (got (ascii ") ")))
 node_text text (told.Exists m) n = bad unwritable
 node_text text (told.LetFresh k) n = got (let_fresh_text k)
 node_text text told.Other n = bad unwritable
 
 -- Operators and relations have numbers in their tables.
 abbrev pub Numbered : Node → Type 0
-Numbered (told.Num a b c d) = Unit {0}
+Numbered (told.Num q) = Unit {0}
 Numbered (told.Bool b) = Unit {0}
-Numbered (told.Str start len) = Unit {0}
-Numbered (told.BitVec a b c d width) = Unit {0}
+Numbered (told.Str s) = Unit {0}
+Numbered (told.BitVec q width) = Unit {0}
 Numbered (told.Fresh k) = Unit {0}
-Numbered (told.Named start len) = Unit {0}
+Numbered (told.Named s) = Unit {0}
 Numbered told.Neg = Unit {0}
 Numbered (told.Bin op) = op < 5
 Numbered told.If = Unit {0}
@@ -98,9 +100,9 @@ Numbered told.Not = Unit {0}
 Numbered told.Imp = Unit {0}
 Numbered told.Iff = Unit {0}
 Numbered (told.Atom r) = r < 6
-Numbered (told.Let start len) = Unit {0}
+Numbered (told.Let s) = Unit {0}
 Numbered (told.Theory k) = Unit {0}
-Numbered (told.IsCtor start len) = Unit {0}
+Numbered (told.IsCtor s) = Unit {0}
 Numbered (told.Exists m) = Unit {0}
 Numbered (told.LetFresh k) = Unit {0}
 Numbered told.Other = Unit {0}
@@ -112,12 +114,12 @@ exists_text text (b ∷ bs) = joined (got (ascii "(exists ")) (joined (vars_text
 
 -- The head of an application with arguments, behind a parenthesis and before a space.
 abbrev pub callee_text : List ℕ → Node → Ans (List ℕ)
-callee_text text (told.Num a b c d) = bad unwritable
+callee_text text (told.Num q) = bad unwritable
 callee_text text (told.Bool b) = bad unwritable
-callee_text text (told.Str start len) = bad unwritable
-callee_text text (told.BitVec a b c d width) = bad unwritable
+callee_text text (told.Str s) = bad unwritable
+callee_text text (told.BitVec q width) = bad unwritable
 callee_text text (told.Fresh k) = got (fresh_text k)
-callee_text text (told.Named start len) = name_text text 110 (record { start = start; len = len })
+callee_text text (told.Named s) = name_text text 110 (as_span s)
 callee_text text told.Neg = bad unwritable
 callee_text text (told.Bin op) = bad unwritable
 callee_text text told.If = bad unwritable
@@ -127,9 +129,9 @@ callee_text text told.Not = bad unwritable
 callee_text text told.Imp = bad unwritable
 callee_text text told.Iff = bad unwritable
 callee_text text (told.Atom r) = bad unwritable
-callee_text text (told.Let start len) = bad unwritable
+callee_text text (told.Let s) = bad unwritable
 callee_text text (told.Theory k) = function_text k
-callee_text text (told.IsCtor start len) = bad unwritable
+callee_text text (told.IsCtor s) = bad unwritable
 callee_text text (told.Exists m) = bad unwritable
 callee_text text (told.LetFresh k) = bad unwritable
 callee_text text told.Other = bad unwritable

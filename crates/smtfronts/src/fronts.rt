@@ -4,29 +4,29 @@ ghost use Rattle.grammar.specs.Expr.{Binder, Kind};
 ghost use Rattle.judging.specs.Judge.{reads, operands_of, binders_at, header};
 ghost use Rattle.nodes.specs.Node.{node_of};
 ghost use Rattle.nodes.specs.declared.kind.Node.TheVariants as told;
-ghost use Rattle.writing.specs.Quads.{as_wide};
+ghost use Rattle.words.specs.Quads.{as_wide};
 ghost use Rattle.writing.specs.Wrote.{WroteBytes};
 ghost use Rattle.smtfronts.specs.Fronts.{front_text, bits_text, exists_text, let_fresh_text, Numbered, node_text};
 ghost use Rattle.smtnames.specs.Written.{TellsPiece};
 
 use nodes::kind::Node;
 use smtbools::{boolean, folded};
-use smtnames::answers::{Walked, Written};
 use smtnames::names::{fresh, name, string};
 use smtoperators::{operator, relation};
 use smtvars::vars::vars;
 use smtwidth::fits;
-use writing::{Quad, byte, bytes, decimal, decimal_word};
+use words::quad::Quad;
+use words::refusal::Refusal;
+use words::span::Span;
+use writing::{byte, bytes, decimal, decimal_word};
 
 // A let of a name, up to its value.
-fn let_front(text: &[u8], start: u32, len: u32, out: &mut [u8], place: usize) -> Written
-    ensures { TellsPiece (node_text text.now (told.Let start len) 2) out.old place out.new result }
+fn let_front(text: &[u8], span: Span, out: &mut [u8], place: usize) -> Result<usize, Refusal>
+    ensures { TellsPiece (node_text text.now (told.Let span) 2) out.old place out.new result }
 {
     let a = bytes(b"(let ((", out, place);
-    match name(110, text, start, len, out, a) {
-        Written::To(p) => Written::To(byte(out, p, 32)),
-        Written::No(r) => Written::No(r),
-    }
+    let b = name(b'n', text, span, out, a)?;
+    Ok(byte(out, b, b' '))
 }
 
 // A let of a fresh variable, up to its value.
@@ -35,76 +35,62 @@ fn fresh_let_front(k: u64, out: &mut [u8], place: usize) -> usize
 {
     let a = bytes(b"(let ((", out, place);
     let b = fresh(k, out, a);
-    byte(out, b, 32)
+    byte(out, b, b' ')
 }
 
 // A constructor test, up to its operand.
-fn test_front(text: &[u8], start: u32, len: u32, out: &mut [u8], place: usize) -> Written
-    ensures { TellsPiece (node_text text.now (told.IsCtor start len) 1) out.old place out.new result }
+fn test_front(text: &[u8], span: Span, out: &mut [u8], place: usize) -> Result<usize, Refusal>
+    ensures { TellsPiece (node_text text.now (told.IsCtor span) 1) out.old place out.new result }
 {
     let a = bytes(b"((_ is ", out, place);
-    match name(110, text, start, len, out, a) {
-        Written::To(p) => Written::To(bytes(b") ", out, p)),
-        Written::No(r) => Written::No(r),
-    }
+    let b = name(b'n', text, span, out, a)?;
+    Ok(bytes(b") ", out, b))
 }
 
 // A value of a width.
-fn bits(q: Quad, width: u32, out: &mut [u8], place: usize) -> Written
+fn bits(q: Quad, width: u32, out: &mut [u8], place: usize) -> Result<usize, Refusal>
     ensures { TellsPiece (bits_text (as_wide q) width) out.old place out.new result }
 {
     if !fits(q, width) {
-        return Written::No(15);
+        return Err(Refusal::Unwritable);
     }
     let a = bytes(b"(_ bv", out, place);
     let b = decimal(q, out, a);
-    let c = byte(out, b, 32);
+    let c = byte(out, b, b' ');
     let d = decimal_word(width, out, c);
-    Written::To(byte(out, d, 41))
+    Ok(byte(out, d, b')'))
 }
 
 // In front of so many operands, of every kind but an exists.
-fn plain_front(node: Node, n: u32, text: &[u8], out: &mut [u8], place: usize) -> Written
+fn plain_front(
+    node: Node,
+    n: u32,
+    text: &[u8],
+    out: &mut [u8],
+    place: usize,
+) -> Result<usize, Refusal>
     ensures { Numbered node → TellsPiece (node_text text.now node n) out.old place out.new result }
 {
     match node {
-        Node::Num(a, b, c, d) => {
-            let q = Quad {
-                a: a,
-                b: b,
-                c: c,
-                d: d,
-            };
-            Written::To(decimal(q, out, place))
-        }
-        Node::Bool(b) => Written::To(boolean(b, out, place)),
-        Node::Str(start, len) => string(text, start, len, out, place),
-        Node::BitVec(a, b, c, d, width) => {
-            let q = Quad {
-                a: a,
-                b: b,
-                c: c,
-                d: d,
-            };
-            bits(q, width, out, place)
-        }
-        Node::Fresh(k) => Written::To(fresh(k, out, place)),
-        Node::Named(start, len) => name(110, text, start, len, out, place),
-        Node::Neg => Written::To(bytes(b"(- ", out, place)),
-        Node::Bin(op) => Written::To(operator(op, out, place)),
-        Node::If => Written::To(bytes(b"(ite ", out, place)),
-        Node::And => Written::To(folded(b"true", b"and", n, out, place)),
-        Node::Or => Written::To(folded(b"false", b"or", n, out, place)),
-        Node::Not => Written::To(bytes(b"(not ", out, place)),
-        Node::Imp => Written::To(bytes(b"(=> ", out, place)),
-        Node::Iff => Written::To(bytes(b"(= ", out, place)),
-        Node::Atom(r) => Written::To(relation(r, out, place)),
-        Node::Let(start, len) => let_front(text, start, len, out, place),
-        Node::Theory(_) => Written::No(15),
-        Node::IsCtor(start, len) => test_front(text, start, len, out, place),
-        Node::Exists(_) => Written::No(15),
-        Node::LetFresh(k) => Written::To(fresh_let_front(k, out, place)),
-        Node::Other => Written::No(15),
+        Node::Num(q) => Ok(decimal(q, out, place)),
+        Node::Bool(b) => Ok(boolean(b, out, place)),
+        Node::Str(span) => string(text, span, out, place),
+        Node::BitVec(q, width) => bits(q, width, out, place),
+        Node::Fresh(k) => Ok(fresh(k, out, place)),
+        Node::Named(span) => name(b'n', text, span, out, place),
+        Node::Neg => Ok(bytes(b"(- ", out, place)),
+        Node::Bin(op) => Ok(operator(op, out, place)),
+        Node::If => Ok(bytes(b"(ite ", out, place)),
+        Node::And => Ok(folded(b"true", b"and", n, out, place)),
+        Node::Or => Ok(folded(b"false", b"or", n, out, place)),
+        Node::Not => Ok(bytes(b"(not ", out, place)),
+        Node::Imp => Ok(bytes(b"(=> ", out, place)),
+        Node::Iff => Ok(bytes(b"(= ", out, place)),
+        Node::Atom(r) => Ok(relation(r, out, place)),
+        Node::Let(span) => let_front(text, span, out, place),
+        Node::IsCtor(span) => test_front(text, span, out, place),
+        Node::LetFresh(k) => Ok(fresh_let_front(k, out, place)),
+        Node::Theory(_) | Node::Exists(_) | Node::Other => Err(Refusal::Unwritable),
     }
 }
 
@@ -116,17 +102,15 @@ fn exists_front(
     text: &[u8],
     out: &mut [u8],
     place: usize,
-) -> Written
+) -> Result<usize, Refusal>
     ensures { (limit : ℕ) (bs : List Binder) (m : ℕ) → binders_at limit n words.now at ≡ reads bs m → TellsPiece (exists_text text.now bs) out.old place out.new result }
 {
     if n == 0 {
-        return Written::To(place);
+        return Ok(place);
     }
     let a = bytes(b"(exists ", out, place);
-    match vars(words, at, n, text, out, a) {
-        Walked::At(_, p) => Written::To(byte(out, p, 32)),
-        Walked::No(r) => Written::No(r),
-    }
+    let told = vars(words, at, n, text, out, a)?;
+    Ok(byte(out, told.place, b' '))
 }
 
 // In front of the operands of the expression at a place, which was judged.
@@ -138,13 +122,13 @@ pub fn front(
     text: &[u8],
     out: &mut [u8],
     place: usize,
-) -> Written
+) -> Result<usize, Refusal>
     ensures { (limit : ℕ) (k : Kind) (a : ℕ) → header limit words.now at ≡ reads (operands_of k n) a → node ≡ node_of k → TellsPiece (front_text text.now k n) out.old place out.new result }
 {
     match node {
         Node::Exists(m) => {
             if words.len() <= at {
-                return Written::No(14);
+                return Err(Refusal::NotWords);
             }
             exists_front(words, at + 2, m, text, out, place)
         }

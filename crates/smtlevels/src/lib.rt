@@ -18,12 +18,10 @@ pub fn standing(bases: &[u64; MAX_LISTS], known: usize, left: u64) -> usize
     ensures few { result ≤ known }
     ensures lists { result ≡ standing bases.now left known }
 {
-    let mut k = known;
-    while 0 < k {
-        if bases[k - 1] != left {
-            return k;
+    for k in (0..known).rev() {
+        if bases[k] != left {
+            return k + 1;
         }
-        k -= 1;
     }
     0
 }
@@ -37,11 +35,7 @@ fn halved(bases: &mut [u64; MAX_LISTS], known: usize) -> usize
     if known < MAX_LISTS {
         return known;
     }
-    let mut i: usize = 0;
-    while i < HALF {
-        bases[i] = bases[i + HALF];
-        i += 1;
-    }
+    bases.copy_within(HALF.., 0);
     HALF
 }
 

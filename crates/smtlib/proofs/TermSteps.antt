@@ -8,16 +8,22 @@ use lib.Dec.{eqb}
 use lib.ListN.{length}
 use borrow.Author.Tests.{eq-eqb, ne_eqb}
 use Rattle.reading.specs.Bytes.{Maybe}
-use Rattle.reading.specs.Answer.{Refusal, number, Ans, got, bad, and_then}
+use Rattle.reading.specs.Answer.{Refusal as Met, Ans, got, bad, and_then}
 use Rattle.reading.proofs.Placed.{at-word}
 use Rattle.grammar.specs.Sort.{Sort}
 use Rattle.grammar.specs.Expr.{Kind, Expr, Exprs, node, app, enil, econs, exprs}
 use Rattle.grammar.specs.Shape.{HasOperands}
 use Rattle.judging.specs.Judge.{Judged, reads, fails, Plan, operands_of, arguments_of, several, sort_if, header, expr_deep}
-use Rattle.judging.specs.Ends.{end_of, behind_of}
+use Rattle.judging.specs.Ends.{end_of}
+use Rattle.judging.proofs.PlaceBehind.{behind-read}
 use Rattle.heads.specs.Heads.{head_of as headerOf}
 use Rattle.nodes.specs.Node.{node_of, nodes_at, node_at}
-use Rattle.judging.specs.declared.End.{End}
+use Rattle.std.specs.Prelude.{Result, Ok, Err}
+use Rattle.std.specs.Result.{result_unwrap_or}
+use Rattle.words.specs.declared.refusal.Refusal.{Refusal}
+use Rattle.words.specs.declared.walked.Walked.{Walked}
+use Rattle.words.specs.Refusals.{refusal_of}
+use Rattle.words.specs.Answered.{answered, told as telling, refused}
 use Rattle.heads.specs.declared.Header.TheVariants as head
 use Rattle.nodes.specs.declared.kind.Node.{Node}
 use Rattle.nodes.specs.declared.kind.Node.TheVariants as told
@@ -36,10 +42,6 @@ use Rattle.smtlib.specs.Terms.{term_text, seamed}
 use Rattle.smtseams.specs.Seams.{seam_of, gap_of, close_text, node_lets, node_closes}
 use Rattle.smtfronts.specs.Fronts.{front_of, front_text, form_lets, form_closes, callee_text}
 use Rattle.smtnames.specs.Written.{tells, keeps, TellsPiece, TellsPart}
-use Rattle.smtnames.specs.declared.answers.Written.{Written}
-use Rattle.smtnames.specs.declared.answers.Written.TheVariants as written
-use Rattle.smtnames.specs.declared.answers.Walked.{Walked}
-use Rattle.smtnames.specs.declared.answers.Walked.TheVariants as walked
 use Rattle.smtnames.proofs.Joined.{joined-none, joined_end, joined-got}
 use Rattle.smtnames.proofs.Tells.{Put, put, Gone, gone, piece_put, piece_gone, part-put, part_end, part-gone}
 use Rattle.smtfronts.proofs.FrontsSeams.{node-lets, node-closes, node-callee}
@@ -49,12 +51,8 @@ use Rattle.smtlib.proofs.TermTexts.{node-bad, node_operand, node-got, app-none, 
 pub put_is : {x : Ans (List ℕ)} {l l' : List ℕ} {place p : ℕ} → Put x l place l' p → (xs : List ℕ) × (x ≡ got xs) × WroteBytes l place xs l' p
 put_is (put {xs = xs} w) = (xs, refl, w)
 
-pub gone-is : {x : Ans (List ℕ)} {l l' : List ℕ} {k : ℕ} → Gone x l l' k → (r : Refusal) × (x ≡ bad r) × (k ≡ number r) × (length l' ≡ length l)
+pub gone-is : {x : Ans (List ℕ)} {l l' : List ℕ} {k : Refusal} → Gone x l l' k → (r : Met) × (x ≡ bad r) × (k ≡ refusal_of r) × (length l' ≡ length l)
 gone-is (gone {e = r} h e) = (r, refl, e, h)
-
--- The place behind what was read.
-behind-read : {A : Type 0} (x : Judged A) (at : ℕ) {a : A} {n r : ℕ} {e : End} → e ≡ end_of x → r ≡ behind_of e at → x ≡ reads a n → r ≡ n
-behind-read x at q p s = p ∙ rw (q, s) refl
 
 -- None, or a first one.
 no-exprs : (es : Exprs) → exprs es ≡ 0 → es ≡ enil
@@ -73,13 +71,13 @@ unfolding joined
 framed_got a b (got ys) e = (ys, refl, cc)
 framed_got a b (bad r) e = let z : ◌≡◌ {A = ℕ} 0 1 = cc in absurd (omega arith)
 
-framed_bad : (a b : List ℕ) (x : Ans (List ℕ)) {r : Refusal} → joined (got a) (joined x (got b)) ≡ bad r → x ≡ bad r
+framed_bad : (a b : List ℕ) (x : Ans (List ℕ)) {r : Met} → joined (got a) (joined x (got b)) ≡ bad r → x ≡ bad r
 unfolding joined
 framed_bad a b (got ys) e = let z : ◌≡◌ {A = ℕ} 0 1 = cc in absurd (omega arith)
 framed_bad a b (bad s) e = cc
 
 -- A refusal behind bytes.
-bad-behind : (a b : List ℕ) (r : Refusal) (y : Ans (List ℕ)) → joined (got a) (joined (got b) (joined (bad r) y)) ≡ bad r
+bad-behind : (a b : List ℕ) (r : Met) (y : Ans (List ℕ)) → joined (got a) (joined (got b) (joined (bad r) y)) ≡ bad r
 unfolding joined
 bad-behind a b r y = refl
 
@@ -104,26 +102,26 @@ app-told limit ws low at e = told_at ws at 38 (omega arith) (at-word (arguments-
 
 module _ (text ws l : List ℕ) (at place : ℕ) where
   -- There is no room, or no header: nothing was read.
-  pub term-no-room : (room : ℕ) {l' : List ℕ} {r : Walked} → room ≡ 0 → (e : Expr) (n : ℕ) → expr_deep (length text) room ws at ≡ reads e n → TellsPart n (term_text text e) l place l' r
+  pub term-no-room : (room : ℕ) {l' : List ℕ} {r : Result Walked Refusal} → room ≡ 0 → (e : Expr) (n : ℕ) → expr_deep (length text) room ws at ≡ reads e n → TellsPart n (term_text text e) l place l' r
   term-no-room room z e n q = read-no-room (length text) ws at room z q
 
-  pub term-no-header : (room : ℕ) {k : ℕ} {l' : List ℕ} {r : Walked} → (room ≡ 0 → ⊥) → head.No k ≡ headerOf (header (length text) ws at) → (e : Expr) (n : ℕ) → expr_deep (length text) room ws at ≡ reads e n → TellsPart n (term_text text e) l place l' r
+  pub term-no-header : (room : ℕ) {k : ℕ} {l' : List ℕ} {r : Result Walked Refusal} → (room ≡ 0 → ⊥) → refused k ≡ headerOf (header (length text) ws at) → (e : Expr) (n : ℕ) → expr_deep (length text) room ws at ≡ reads e n → TellsPart n (term_text text e) l place l' r
   term-no-header room z h e n q = read-no-header (length text) ws at room z (head-no (header (length text) ws at) h) q
 
   -- A kind and its operands.
-  module _ (room : ℕ) {a n : ℕ} (z : room ≡ 0 → ⊥) (h : head.Operands a n ≡ headerOf (header (length text) ws at)) {known : Node} (knows : known ≡ node_at ws at)
-      {l₁ : List ℕ} {w : Written} (front : (lim : ℕ) (k : Kind) (b : ℕ) → header lim ws at ≡ reads (operands_of k n) b → known ≡ node_of k → TellsPiece (front_text text k n) l place l₁ w) where
+  module _ (room : ℕ) {a n : ℕ} (z : room ≡ 0 → ⊥) (h : telling (head.Operands a n) ≡ headerOf (header (length text) ws at)) {known : Node} (knows : known ≡ node_at ws at)
+      {l₁ : List ℕ} {w : Result ℕ Refusal} (front : (lim : ℕ) (k : Kind) (b : ℕ) → header lim ws at ≡ reads (operands_of k n) b → known ≡ node_of k → TellsPiece (front_text text k n) l place l₁ w) where
     -- The front is refused.
-    pub front-gone : {r : ℕ} → w ≡ written.No r → (e : Expr) (m : ℕ) → expr_deep (length text) room ws at ≡ reads e m → TellsPart m (term_text text e) l place l₁ (walked.No r)
+    pub front-gone : {r : Refusal} → w ≡ Err r → (e : Expr) (m : ℕ) → expr_deep (length text) room ws at ≡ reads e m → TellsPart m (term_text text e) l place l₁ (Err r)
     front-gone {r} g e m q =
         let k : Kind = (kind-of (header (length text) ws at) h).0 in
         let x : header (length text) ws at ≡ reads (operands_of k n) a = (kind-of (header (length text) ws at) h).1 in
         read-operands (length text) ws at room z x q λ es s t.
         let f = gone-is (piece_gone (front (length text) k a x (knows ∙ node-told (length text) ws at x)) g) in
-        rw (t, node-bad text k es n f.1) (keeps f.3 (ap walked.No f.2))
+        rw (t, node-bad text k es n f.1) (keeps f.3 (ap Err f.2))
 
     -- The front is written, and then the operands.
-    module _ {p : ℕ} (wrote : w ≡ written.To p) {b : Bool} (lets : b ≡ node_lets known) {l₂ : List ℕ} {v : Walked}
+    module _ {p : ℕ} (wrote : w ≡ Ok p) {b : Bool} (lets : b ≡ node_lets known) {l₂ : List ℕ} {v : Result Walked Refusal}
         (operands : (es : Exprs) (m : ℕ) → several (expr_deep (length text) (room - 1)) enil econs n ws a ≡ reads es m → TellsPart m (seamed text (seam_of b) es) l₁ p l₂ v) where
       -- What is known where the expression was read.
       record Known (e : Expr) (m : ℕ) : Type 0 where
@@ -160,25 +158,25 @@ module _ (text ws l : List ℕ) (at place : ℕ) where
             closing = ap (λ o. node_closes o n) same ∙ node-closes text k n g.1;
           }
 
-      pub operands-gone : {r : ℕ} → v ≡ walked.No r → (e : Expr) (m : ℕ) → expr_deep (length text) room ws at ≡ reads e m → TellsPart m (term_text text e) l place l₂ (walked.No r)
+      pub operands-gone : {r : Refusal} → v ≡ Err r → (e : Expr) (m : ℕ) → expr_deep (length text) room ws at ≡ reads e m → TellsPart m (term_text text e) l place l₂ (Err r)
       operands-gone g e m q =
           let k = known_of e m q in
           let f = gone-is (part-gone k.tail g) in
-          rw (k.is, node_operand text k.kind k.rest n k.has k.count k.form k.fields f.1) (keeps (f.3 ∙ k.fronted.kept) (ap walked.No f.2))
+          rw (k.is, node_operand text k.kind k.rest n k.has k.count k.form k.fields f.1) (keeps (f.3 ∙ k.fronted.kept) (ap Err f.2))
 
-      pub operands-done : {d y : ℕ} → v ≡ walked.At d y → {c : Bool} → c ≡ node_closes known n → {l₃ : List ℕ} {u : ℕ} → WroteBytes l₂ y (close_text c) l₃ u → (e : Expr) (m : ℕ) → expr_deep (length text) room ws at ≡ reads e m → TellsPart m (term_text text e) l place l₃ (walked.At d u)
-      operands-done {d} {y} g {c} cl {l₃} {u} shut e m q =
+      pub operands-done : {y : Walked} → v ≡ Ok y → {c : Bool} → c ≡ node_closes known n → {l₃ : List ℕ} {u : ℕ} → WroteBytes l₂ y.place (close_text c) l₃ u → (e : Expr) (m : ℕ) → expr_deep (length text) room ws at ≡ reads e m → TellsPart m (term_text text e) l place l₃ (Ok (record { next = y.next; place = u }))
+      operands-done {y} g {c} cl {l₃} {u} shut e m q =
           let k = known_of e m q in
           let o = put_is (part-put k.tail g) in
-          let ends : d ≡ m = part_end k.tail g in
-          let last : WroteBytes l₂ y (close_text (form_closes k.form n)) l₃ u = rw (cl ∙ k.closing) at shut in
+          let ends : y.next ≡ m = part_end k.tail g in
+          let last : WroteBytes l₂ y.place (close_text (form_closes k.form n)) l₃ u = rw (cl ∙ k.closing) at shut in
           rw (k.is, node-got text k.kind k.rest n k.has k.count k.form k.fields o.1)
-          (tells (wrote_then k.fronted (wrote_then o.2 last)) (ap (λ (i : ℕ). walked.At i u) ends))
+          (tells (wrote_then k.fronted (wrote_then o.2 last)) (ap (λ (i : ℕ). Ok (record { next = i; place = u })) ends))
 
   -- An application: its arguments, an output sort, its head.
-  module _ (low : Low ws) (room : ℕ) {a n : ℕ} {flag : Bool} (z : room ≡ 0 → ⊥) (h : head.Arguments a flag n ≡ headerOf (header (length text) ws at))
-      {x y : End} {b d : ℕ} (ends : x ≡ end_of (several (expr_deep (length text) (room - 1)) enil econs n ws a)) (first : b ≡ behind_of x a)
-      (sorted : y ≡ end_of (sort_if (length text) flag ws b)) (second : d ≡ behind_of y b) where
+  module _ (low : Low ws) (room : ℕ) {a n : ℕ} {flag : Bool} (z : room ≡ 0 → ⊥) (h : telling (head.Arguments a flag n) ≡ headerOf (header (length text) ws at))
+      (x y : Result ℕ Refusal) {b d : ℕ} (ends : answered x ≡ end_of (several (expr_deep (length text) (room - 1)) enil econs n ws a)) (first : b ≡ result_unwrap_or x a)
+      (sorted : answered y ≡ end_of (sort_if (length text) flag ws b)) (second : d ≡ result_unwrap_or y b) where
     -- What is known where the expression was read.
     record Applied (e : Expr) (m : ℕ) : Type 0 where
       arguments : Exprs
@@ -193,8 +191,8 @@ module _ (text ws l : List ℕ) (at place : ℕ) where
     applied_of : (e : Expr) (m : ℕ) → expr_deep (length text) room ws at ≡ reads e m → Applied e m
     applied_of e m q =
         read-arguments (length text) ws at room z (head-arguments (header (length text) ws at) h) q λ es b' o d' c s t u v.
-        let p : b ≡ b' = behind-read (several (expr_deep (length text) (room - 1)) enil econs n ws a) a ends first s in
-        let r : d ≡ d' = behind-read (sort_if (length text) flag ws b) b sorted second (ap (sort_if (length text) flag ws) p ∙ t) in
+        let p : b ≡ b' = behind-read (several (expr_deep (length text) (room - 1)) enil econs n ws a) _ a ends first s in
+        let r : d ≡ d' = behind-read (sort_if (length text) flag ws b) _ b sorted second (ap (sort_if (length text) flag ws) p ∙ t) in
         record {
           arguments = es;
           out = o;
@@ -223,26 +221,26 @@ module _ (text ws l : List ℕ) (at place : ℕ) where
             rw t (ap (callee_text text) (sym (app-told (length text) ws low from e)) ∙ app-callee text o es g)
 
     -- Without arguments it is its head.
-    pub applied-none : n ≡ 0 → {l' : List ℕ} {r : Walked} → ((e : Expr) (m : ℕ) → expr_deep (length text) (room - 1) ws d ≡ reads e m → TellsPart m (term_text text e) l place l' r) → (e : Expr) (m : ℕ) → expr_deep (length text) room ws at ≡ reads e m → TellsPart m (term_text text e) l place l' r
+    pub applied-none : n ≡ 0 → {l' : List ℕ} {r : Result Walked Refusal} → ((e : Expr) (m : ℕ) → expr_deep (length text) (room - 1) ws d ≡ reads e m → TellsPart m (term_text text e) l place l' r) → (e : Expr) (m : ℕ) → expr_deep (length text) room ws at ≡ reads e m → TellsPart m (term_text text e) l place l' r
     applied-none none f e m q =
         let k = applied_of e m q in
         let c = f k.callee m k.body in
         rw (k.is, no-exprs k.arguments (k.count ∙ none), app-none text k.out k.callee) c
 
     -- With arguments, the head is a variable or a bit-vector function.
-    module _ (some : n ≡ 0 → ⊥) {known : Node} (knows : known ≡ node_at ws d) {l₁ : List ℕ} {w : Written}
+    module _ (some : n ≡ 0 → ⊥) {known : Node} (knows : known ≡ node_at ws d) {l₁ : List ℕ} {w : Result ℕ Refusal}
         (callee : TellsPiece (joined (got (40 ∷ [])) (joined (callee_text text known) (got (32 ∷ [])))) l place l₁ w)
-        {start : ℕ} {l₂ : List ℕ} {v : Walked}
+        {start : ℕ} {l₂ : List ℕ} {v : Result Walked Refusal}
         (arguments : (es : Exprs) (m : ℕ) → several (expr_deep (length text) (room - 1)) enil econs n ws a ≡ reads es m → TellsPart m (seamed text (seam_of false) es) l₁ start l₂ v) where
-      pub arguments-gone : length l₁ ≡ length l → {r : ℕ} → v ≡ walked.No r → (e : Expr) (m : ℕ) → expr_deep (length text) room ws at ≡ reads e m → TellsPart m (term_text text e) l place l₂ (walked.No r)
+      pub arguments-gone : length l₁ ≡ length l → {r : Refusal} → v ≡ Err r → (e : Expr) (m : ℕ) → expr_deep (length text) room ws at ≡ reads e m → TellsPart m (term_text text e) l place l₂ (Err r)
       arguments-gone kept g e m q =
           let k = applied_of e m q in
           let i = some-exprs k.arguments (λ c. some (sym k.count ∙ c)) in
           let f = gone-is (part-gone (arguments k.arguments k.behind k.read) g) in
           let t : term_text text (app k.out (econs i.0 i.1) k.callee) ≡ bad f.0 = app_argument text k.out i.0 i.1 k.callee (ap (seamed text (seam_of false)) (sym i.2) ∙ f.1) in
-          rw (k.is, i.2, t) (keeps (f.3 ∙ kept) (ap walked.No f.2))
+          rw (k.is, i.2, t) (keeps (f.3 ∙ kept) (ap Err f.2))
 
-      pub callee-gone : {r : ℕ} → w ≡ written.No r → {j y : ℕ} → v ≡ walked.At j y → (e : Expr) (m : ℕ) → expr_deep (length text) room ws at ≡ reads e m → TellsPart m (term_text text e) l place l₂ (walked.No r)
+      pub callee-gone : {r : Refusal} → w ≡ Err r → {u : Walked} → v ≡ Ok u → (e : Expr) (m : ℕ) → expr_deep (length text) room ws at ≡ reads e m → TellsPart m (term_text text e) l place l₂ (Err r)
       callee-gone g u e m q =
           let k = applied_of e m q in
           let i = some-exprs k.arguments (λ c. some (sym k.count ∙ c)) in
@@ -250,10 +248,10 @@ module _ (text ws l : List ℕ) (at place : ℕ) where
           let o = put_is (part-put (arguments k.arguments k.behind k.read) u) in
           let c : ident_text (head_of text k.callee) ≡ bad f.0 = sym (callee-said (room - 1) d k.body) ∙ ap (callee_text text) (sym knows) ∙ framed_bad (40 ∷ []) (32 ∷ []) (callee_text text known) f.1 in
           let t : term_text text (app k.out (econs i.0 i.1) k.callee) ≡ bad f.0 = app-head text k.out i.0 i.1 k.callee (ap (seamed text (seam_of false)) (sym i.2) ∙ o.1) c in
-          rw (k.is, i.2, t) (keeps (o.2.kept ∙ f.3) (ap walked.No f.2))
+          rw (k.is, i.2, t) (keeps (o.2.kept ∙ f.3) (ap Err f.2))
 
-      pub applied-done : w ≡ written.To start → {j y : ℕ} → v ≡ walked.At j y → {x₂ : End} {g : ℕ} → x₂ ≡ end_of (expr_deep (length text) (room - 1) ws d) → g ≡ behind_of x₂ d → {l₃ : List ℕ} {u : ℕ} → WroteBytes l₂ y (41 ∷ []) l₃ u → (e : Expr) (m : ℕ) → expr_deep (length text) room ws at ≡ reads e m → TellsPart m (term_text text e) l place l₃ (walked.At g u)
-      applied-done to o {x₂ = x₂} {g = g} ending third {u = u} shut e m q =
+      pub applied-done : w ≡ Ok start → {y : Walked} → v ≡ Ok y → (x₂ : Result ℕ Refusal) {g : ℕ} → answered x₂ ≡ end_of (expr_deep (length text) (room - 1) ws d) → g ≡ result_unwrap_or x₂ d → {l₃ : List ℕ} {u : ℕ} → WroteBytes l₂ y.place (41 ∷ []) l₃ u → (e : Expr) (m : ℕ) → expr_deep (length text) room ws at ≡ reads e m → TellsPart m (term_text text e) l place l₃ (Ok (record { next = g; place = u }))
+      applied-done to o x₂ {g = g} ending third {u = u} shut e m q =
           let k = applied_of e m q in
           let i = some-exprs k.arguments (λ c. some (sym k.count ∙ c)) in
           let f = put_is (piece_put callee to) in
@@ -261,8 +259,8 @@ module _ (text ws l : List ℕ) (at place : ℕ) where
           let p = put_is (part-put (arguments k.arguments k.behind k.read) o) in
           let b : ident_text (head_of text k.callee) ≡ got c.0 = sym (callee-said (room - 1) d k.body) ∙ ap (callee_text text) (sym knows) ∙ c.1 in
           let t = app-got text k.out i.0 i.1 k.callee (ap (seamed text (seam_of false)) (sym i.2) ∙ p.1) b in
-          let last : g ≡ m = behind-read (expr_deep (length text) (room - 1) ws d) d ending third k.body in
-          rw (k.is, i.2, t) (tells (wrote_then (rw c.2 at f.2) (wrote_then p.2 shut)) (ap (λ (i : ℕ). walked.At i u) last))
+          let last : g ≡ m = behind-read (expr_deep (length text) (room - 1) ws d) _ d ending third k.body in
+          rw (k.is, i.2, t) (tells (wrote_then (rw c.2 at f.2) (wrote_then p.2 shut)) (ap (λ (i : ℕ). Ok (record { next = i; place = u })) last))
 
 -- Expressions one after the other, with what stands between them: a seam before each but the first.
 unfoldable pub behind_seam : List ℕ → List ℕ → Exprs → Ans (List ℕ)
@@ -298,6 +296,15 @@ pub record LeftTerms (text ws : List ℕ) (room n i a p : ℕ) (b : Bool) (l l�
   pub wrote : WroteBytes l₀ place done l p
   pub text-left : seamed text (seam_of b) es ≡ joined (got done) (left_text text (eqb i n) b rest)
 
+-- As many are left by another name.
+pub left_as : {text ws : List ℕ} {room n i j a p : ℕ} {b : Bool} {l l₀ : List ℕ} {place : ℕ} {es : Exprs} {m : ℕ} → j ≡ i → LeftTerms text ws room n i a p b l l₀ place es m → LeftTerms text ws room n j a p b l l₀ place es m
+left_as e k = rw e k
+
+-- The first of n is the one with all of them left.
+pub first_left : (i n : ℕ) → i < n → eqb i 0 ≡ eqb (n - i) n
+first_left zero n h = sym (eq-eqb (n - 0) n (omega arith))
+first_left (suc i) n h = ne_eqb (suc i) 0 (λ e. omega (arith, e)) ∙ sym (ne_eqb (n - suc i) n (λ e. omega (arith, e, h)))
+
 module _ {text ws : List ℕ} {room n : ℕ} {b : Bool} where
   pub terms-all : {at place : ℕ} {l : List ℕ} (es : Exprs) (m : ℕ) → several (expr_deep (length text) room) enil econs n ws at ≡ reads es m → LeftTerms text ws room n n at place b l l place es m
   terms-all {at} {place} {l} es m s =
@@ -305,29 +312,29 @@ module _ {text ws : List ℕ} {room n : ℕ} {b : Bool} where
 
   module _ {i a p place : ℕ} {l l₀ : List ℕ} (es : Exprs) (m : ℕ) where
     -- None is left.
-    pub terms-done : i ≤ 0 → LeftTerms text ws room n i a p b l l₀ place es m → TellsPart m (seamed text (seam_of b) es) l₀ place l (walked.At a p)
+    pub terms-done : i ≤ 0 → LeftTerms text ws room n i a p b l l₀ place es m → TellsPart m (seamed text (seam_of b) es) l₀ place l (Ok (record { next = a; place = p }))
     terms-done h k =
         read_none (expr_deep (length text) room) ws a i (omega (arith, h)) k.there λ t e.
         let x : seamed text (seam_of b) es ≡ got k.done = k.text-left ∙ ap (joined (got k.done)) (ap (left_text text (eqb i n) b) t ∙ left-none text (eqb i n) b) ∙ joined_end (got k.done) in
-        rw x (tells k.wrote (ap (λ (j : ℕ). walked.At j p) e))
+        rw x (tells k.wrote (ap (λ (j : ℕ). Ok (record { next = j; place = p })) e))
 
     module _ {first : Bool} (same : first ≡ eqb i n) {l₁ : List ℕ} {g : ℕ} (gap : WroteBytes l p (gap_of first b) l₁ g)
-        {l₂ : List ℕ} {v : Walked} (term : (e : Expr) (j : ℕ) → expr_deep (length text) room ws a ≡ reads e j → TellsPart j (term_text text e) l₁ g l₂ v) where
+        {l₂ : List ℕ} {v : Result Walked Refusal} (term : (e : Expr) (j : ℕ) → expr_deep (length text) room ws a ≡ reads e j → TellsPart j (term_text text e) l₁ g l₂ v) where
       -- The next one is refused.
-      pub terms-gone : 0 < i → {r : ℕ} → v ≡ walked.No r → LeftTerms text ws room n i a p b l l₀ place es m → TellsPart m (seamed text (seam_of b) es) l₀ place l₂ (walked.No r)
+      pub terms-gone : 0 < i → {r : Refusal} → v ≡ Err r → LeftTerms text ws room n i a p b l l₀ place es m → TellsPart m (seamed text (seam_of b) es) l₀ place l₂ (Err r)
       terms-gone h e k =
           read_more (expr_deep (length text) room) ws a i h k.there λ f j fs x y t.
           let c = gone-is (part-gone (term f j x) e) in
           let left : left_text text (eqb i n) b k.rest ≡ joined (got (gap_of first b)) (joined (term_text text f) (behind_seam text (seam_of b) fs)) = ap (left_text text (eqb i n) b) t ∙ ap (λ (o : Bool). left_text text o b (econs f fs)) (sym same) ∙ left-next text first b f fs in
           let z : seamed text (seam_of b) es ≡ bad c.0 = k.text-left ∙ ap (joined (got k.done)) (left ∙ ap (λ (o : Ans (List ℕ)). joined (got (gap_of first b)) (joined o (behind_seam text (seam_of b) fs))) c.1) ∙ bad-behind k.done (gap_of first b) c.0 (behind_seam text (seam_of b) fs) in
-          rw z (keeps (c.3 ∙ gap.kept ∙ k.wrote.kept) (ap walked.No c.2))
+          rw z (keeps (c.3 ∙ gap.kept ∙ k.wrote.kept) (ap Err c.2))
 
       -- The next one is written.
-      pub terms-next : 0 < i → {d y : ℕ} → v ≡ walked.At d y → LeftTerms text ws room n i a p b l l₀ place es m → LeftTerms text ws room n (i - 1) d y b l₂ l₀ place es m
-      terms-next h {d} {y} e k =
+      pub terms-next : 0 < i → {u : Walked} → v ≡ Ok u → LeftTerms text ws room n i a p b l l₀ place es m → LeftTerms text ws room n (i - 1) u.next u.place b l₂ l₀ place es m
+      terms-next h {u} e k =
           read_more (expr_deep (length text) room) ws a i h k.there λ f j fs x s t.
           let c = put_is (part-put (term f j x) e) in
-          let ends : d ≡ j = part_end (term f j x) e in
+          let ends : u.next ≡ j = part_end (term f j x) e in
           let left : left_text text (eqb i n) b k.rest ≡ joined (got (gap_of first b)) (joined (term_text text f) (behind_seam text (seam_of b) fs)) = ap (left_text text (eqb i n) b) t ∙ ap (λ (o : Bool). left_text text o b (econs f fs)) (sym same) ∙ left-next text first b f fs in
           record {
             rest = fs;

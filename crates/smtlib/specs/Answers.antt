@@ -1,14 +1,13 @@
 -- What the operation decides, as the code answers it.
-use Rattle.std.specs.Prelude.{ℕ, ◌≡◌, List, length}
+use Rattle.std.specs.Prelude.{ℕ, ◌≡◌, List, length, Result}
 use Rattle.reading.specs.Answer.{Final, accepts, refuses, over}
+use Rattle.words.specs.declared.refusal.Refusal.{Refusal}
+use Rattle.words.specs.Answered.{Answered, answered, sized_by}
 use Rattle.smt.specs.Operation.{smtlib_final}
-use Rattle.smtlib.specs.declared.Answer.{Answer}
-use Rattle.smtlib.specs.declared.Answer.TheVariants as said
 
 -- How many bytes there are, or the refusal's number.
-abbrev pub answer_of : Final (List ℕ) → Answer
-answer_of (accepts bytes n) = said.Done (length bytes)
-answer_of (refuses r) = said.Refused r
+abbrev pub answer_of : Final (List ℕ) → Answered ℕ
+answer_of f = sized_by (λ bytes. bytes) f
 
 -- The output before it is cleared after a refusal.
 pub data Outcome : Final (List ℕ) → List ℕ → List ℕ → Type 0 where
@@ -16,6 +15,6 @@ pub data Outcome : Final (List ℕ) → List ℕ → List ℕ → Type 0 where
   left : {r : ℕ} {l l' : List ℕ} → length l' ≡ length l → Outcome (refuses r) l l'
 
 -- What is answered, with the output not cleared yet.
-pub record Attempted (words text l l' : List ℕ) (r : Answer) : Type 0 where
-  pub answer : r ≡ answer_of (smtlib_final words text l)
+pub record Attempted (words text l l' : List ℕ) (r : Result ℕ Refusal) : Type 0 where
+  pub answer : answered r ≡ answer_of (smtlib_final words text l)
   pub output : Outcome (smtlib_final words text l) l l'

@@ -9,12 +9,13 @@ ghost use Rattle.smtnames.specs.Written.{TellsPart};
 
 use heads::{Header, head};
 use judge::expr_words::{expr_end, exprs_end, out_sort};
-use judging::{End, behind};
+use judging::behind;
 use nodes::kind::kind_at;
 use smtfronts::callee::callee;
 use smtfronts::fronts::front;
-use smtnames::answers::{Walked, Written};
 use smtseams::{close, closes, lets, seam};
+use words::refusal::Refusal;
+use words::walked::Walked;
 use writing::byte;
 
 // The expression at a place, which was judged with room for so many inside one another. The head of an application stands behind its
@@ -27,23 +28,22 @@ pub fn term(
     text: &[u8],
     out: &mut [u8],
     place: usize,
-) -> Walked
+) -> Result<Walked, Refusal>
     ensures { (e : Expr) (n : ℕ) → expr_deep (length text.now) room words.now at ≡ reads e n → TellsPart n (term_text text.now e) out.old place out.new result }
 {
     if room == 0 {
-        return Walked::No(6);
+        return Err(Refusal::TooDeep);
     }
     let limit = text.len() as u64;
-    match head(words, at, limit) {
+    match head(words, at, limit)? {
         Header::Operands(a, n) => {
             let node = kind_at(words, at);
-            match front(words, at, node, n, text, out, place) {
-                Written::To(p) => match terms(words, a, n, room - 1, lets(node), text, out, p) {
-                    Walked::At(e, q) => Walked::At(e, close(closes(node, n), out, q)),
-                    Walked::No(r) => Walked::No(r),
-                },
-                Written::No(r) => Walked::No(r),
-            }
+            let p = front(words, at, node, n, text, out, place)?;
+            let told = terms(words, a, n, room - 1, lets(node), text, out, p)?;
+            Ok(Walked {
+                next: told.next,
+                place: close(closes(node, n), out, told.place),
+            })
         }
         Header::Arguments(a, flag, n) => {
             let b = behind(exprs_end(words, a, n, limit, room - 1), a);
@@ -53,17 +53,20 @@ pub fn term(
             }
             let e = behind(expr_end(words, d, limit, room - 1), d);
             match callee(kind_at(words, d), text, out, place) {
-                Written::To(p) => match terms(words, a, n, room - 1, false, text, out, p) {
-                    Walked::At(_, q) => Walked::At(e, byte(out, q, 41)),
-                    Walked::No(r) => Walked::No(r),
-                },
-                Written::No(r) => match terms(words, a, n, room - 1, false, text, out, place) {
-                    Walked::At(_, _) => Walked::No(r),
-                    Walked::No(s) => Walked::No(s),
-                },
+                Ok(p) => {
+                    let told = terms(words, a, n, room - 1, false, text, out, p)?;
+                    Ok(Walked {
+                        next: e,
+                        place: byte(out, told.place, b')'),
+                    })
+                }
+                // A refusal among the arguments comes first, as they stand before their head in the words.
+                Err(refusal) => {
+                    terms(words, a, n, room - 1, false, text, out, place)?;
+                    Err(refusal)
+                }
             }
         }
-        Header::No(r) => Walked::No(r),
     }
 }
 
@@ -88,24 +91,16 @@ fn terms(
     text: &[u8],
     out: &mut [u8],
     place: usize,
-) -> Walked
+) -> Result<Walked, Refusal>
     ensures { (es : Exprs) (m : ℕ) → several (expr_deep (length text.now) room) enil econs n words.now at ≡ reads es m → TellsPart m (seamed text.now (seam_of in_let) es) out.old place out.new result }
 {
     let mut a = at;
     let mut p = place;
-    let mut i = n;
-    while 0 < i {
-        let g = gap(i == n, in_let, out, p);
-        match term(words, a, room, text, out, g) {
-            Walked::At(e, q) => {
-                a = e;
-                p = q;
-            }
-            Walked::No(r) => {
-                return Walked::No(r);
-            }
-        }
-        i -= 1;
+    for i in 0..n {
+        let g = gap(i == 0, in_let, out, p);
+        let told = term(words, a, room, text, out, g)?;
+        a = told.next;
+        p = told.place;
     }
-    Walked::At(a, p)
+    Ok(Walked { next: a, place: p })
 }

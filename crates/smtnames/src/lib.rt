@@ -1,5 +1,4 @@
-// Names, strings and fresh variables in SMT-LIB, and what is answered where a part of a solution is written.
+// Names, strings and fresh variables in SMT-LIB.
 #![tactic(auto)]
 
-pub mod answers;
 pub mod names;

@@ -16,12 +16,12 @@ gap_of false inLet = seam_of inLet
 
 -- Between two operands there are other bytes in a let.
 abbrev pub node_lets : Node → Bool
-node_lets (told.Num a b c d) = false
+node_lets (told.Num q) = false
 node_lets (told.Bool b) = false
-node_lets (told.Str start len) = false
-node_lets (told.BitVec a b c d width) = false
+node_lets (told.Str s) = false
+node_lets (told.BitVec q width) = false
 node_lets (told.Fresh k) = false
-node_lets (told.Named start len) = false
+node_lets (told.Named s) = false
 node_lets told.Neg = false
 node_lets (told.Bin op) = false
 node_lets told.If = false
@@ -31,21 +31,21 @@ node_lets told.Not = false
 node_lets told.Imp = false
 node_lets told.Iff = false
 node_lets (told.Atom r) = false
-node_lets (told.Let start len) = true
+node_lets (told.Let s) = true
 node_lets (told.Theory k) = false
-node_lets (told.IsCtor start len) = false
+node_lets (told.IsCtor s) = false
 node_lets (told.Exists m) = false
 node_lets (told.LetFresh k) = true
 node_lets told.Other = false
 
 -- A parenthesis stands behind the operands.
 abbrev pub node_closes : Node → ℕ → Bool
-node_closes (told.Num a b c d) n = false
+node_closes (told.Num q) n = false
 node_closes (told.Bool b) n = false
-node_closes (told.Str start len) n = false
-node_closes (told.BitVec a b c d width) n = false
+node_closes (told.Str s) n = false
+node_closes (told.BitVec q width) n = false
 node_closes (told.Fresh k) n = false
-node_closes (told.Named start len) n = false
+node_closes (told.Named s) n = false
 node_closes told.Neg n = true
 node_closes (told.Bin op) n = true
 node_closes told.If n = true
@@ -55,9 +55,9 @@ node_closes told.Not n = true
 node_closes told.Imp n = true
 node_closes told.Iff n = true
 node_closes (told.Atom r) n = true
-node_closes (told.Let start len) n = true
+node_closes (told.Let s) n = true
 node_closes (told.Theory k) n = false
-node_closes (told.IsCtor start len) n = true
+node_closes (told.IsCtor s) n = true
 node_closes (told.Exists m) n = ltb 0 m
 node_closes (told.LetFresh k) n = true
 node_closes told.Other n = false

@@ -12,11 +12,7 @@ use writing::{byte, bytes};
 pub fn lets(node: Node) -> bool
     ensures { result ≡ node_lets node }
 {
-    match node {
-        Node::Let(_, _) => true,
-        Node::LetFresh(_) => true,
-        _ => false,
-    }
+    matches!(node, Node::Let(_) | Node::LetFresh(_))
 }
 
 // A parenthesis stands behind the operands.
@@ -24,17 +20,16 @@ pub fn closes(node: Node, n: u32) -> bool
     ensures { result ≡ node_closes node n }
 {
     match node {
-        Node::Num(_, _, _, _) => false,
-        Node::Bool(_) => false,
-        Node::Str(_, _) => false,
-        Node::BitVec(_, _, _, _, _) => false,
-        Node::Fresh(_) => false,
-        Node::Named(_, _) => false,
-        Node::And => 2 <= n,
-        Node::Or => 2 <= n,
-        Node::Theory(_) => false,
+        Node::Num(_)
+        | Node::Bool(_)
+        | Node::Str(_)
+        | Node::BitVec(_, _)
+        | Node::Fresh(_)
+        | Node::Named(_)
+        | Node::Theory(_)
+        | Node::Other => false,
+        Node::And | Node::Or => 2 <= n,
         Node::Exists(m) => 0 < m,
-        Node::Other => false,
         _ => true,
     }
 }
@@ -46,15 +41,16 @@ pub fn seam(in_let: bool, out: &mut [u8], place: usize) -> usize
     if in_let {
         return bytes(b")) ", out, place);
     }
-    byte(out, place, 32)
+    byte(out, place, b' ')
 }
 
 // Behind the operands.
+#[tactic(auto, using(writing::proofs::Wrote::wrote_none))]
 pub fn close(closed: bool, out: &mut [u8], place: usize) -> usize
     ensures { WroteBytes out.old place (close_text closed) out.new result }
 {
     if closed {
-        return byte(out, place, 41);
+        return byte(out, place, b')');
     }
     place
 }

@@ -3,7 +3,7 @@ use Prim.Native.Nat.{ℕ, zero, suc}
 use mathlib.Core.Path.{◌≡◌, refl, sym}
 use mathlib.Core.List.{List, [], ◌∷◌, ◌++◌}
 use native.Mathlib.Omega.{arith}
-use Rattle.reading.specs.Bytes.{ascii}
+use Rattle.reading.specs.Bytes.{ascii, Span}
 use Rattle.reading.specs.Answer.{got, bad, unwritable}
 use Rattle.reading.proofs.Picks.{pick_eq, pick_ne}
 use Rattle.writing.specs.Digits.{decimal}
@@ -31,13 +31,13 @@ unfolding array_text
 array_other n h = sym (pick_ne _ h refl)
 
 -- A Data sort.
-module _ (text : List ℕ) (start len : ℕ) where
-  pub data_none : (n : ℕ) → n ≡ 0 → data_text text start len n ≡ name_text text 115 (record { start = start; len = len })
+module _ (text : List ℕ) (ctor : Span) where
+  pub data_none : (n : ℕ) → n ≡ 0 → data_text text ctor n ≡ name_text text 115 ctor
   unfolding data_text
   data_none zero h = refl
   data_none (suc n) h = absurd (omega (arith, h))
 
-  pub data_some : (n : ℕ) → (n ≡ 0 → ⊥) → data_text text start len n ≡ joined (got (40 ∷ [])) (joined (name_text text 115 (record { start = start; len = len })) (got (32 ∷ [])))
+  pub data_some : (n : ℕ) → (n ≡ 0 → ⊥) → data_text text ctor n ≡ joined (got (40 ∷ [])) (joined (name_text text 115 ctor) (got (32 ∷ [])))
   unfolding data_text
   data_some zero h = absurd (h refl)
   data_some (suc n) h = refl

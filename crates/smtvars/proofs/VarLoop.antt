@@ -12,8 +12,9 @@ use Rattle.judging.specs.Judge.{reads, binder_at, binders_at}
 use Rattle.writing.specs.Wrote.{WroteBytes}
 use Rattle.smtnames.specs.Pieces.{joined, var_text}
 use Rattle.smtnames.specs.Written.{TellsPart}
-use Rattle.smtnames.specs.declared.answers.Walked.{Walked}
-use Rattle.smtnames.specs.declared.answers.Walked.TheVariants as walked
+use Rattle.std.specs.Prelude.{Result, Ok, Err}
+use Rattle.words.specs.declared.refusal.Refusal.{Refusal}
+use Rattle.words.specs.declared.walked.Walked.{Walked}
 use Rattle.smtnames.proofs.Joined.{joined_assoc, joined-none}
 use Rattle.smtnames.proofs.Tells.{Put, put, Gone, put-none, put_seq, put_as, gone-behind, gone-first, gone_as, part-put, part_end, part-gone}
 use Rattle.smtvars.proofs.VarTexts.{spaced_vars, inside_vars, vars_body}
@@ -37,6 +38,10 @@ coming_start {text} {n = n} {bs = bs} l place e =
       whole = ap (λ z. joined z (got (41 ∷ []))) (pick_ge {a = n} {b = n} _ (omega arith) refl) ∙ sym (joined-none _);
       laid = put-none l place;
     }
+
+-- As many are to come by another name.
+pub coming_as : {text ws : List ℕ} {limit n : ℕ} {bs : List Binder} {m : ℕ} {l₀ : List ℕ} {place : ℕ} {l : List ℕ} {a p i j : ℕ} → j ≡ i → Coming text ws limit n bs m l₀ place l a p i → Coming text ws limit n bs m l₀ place l a p j
+coming_as e c = rw e c
 
 -- A variable is about to be written.
 pub record Next (text ws : List ℕ) (limit : ℕ) (bs : List Binder) (m : ℕ) (l₀ : List ℕ) (place : ℕ) (l : List ℕ) (a p i : ℕ) : Type 0 where
@@ -100,12 +105,12 @@ module _ {text ws : List ℕ} {limit n : ℕ} {bs : List Binder} {m : ℕ} {l₀
       let q : pick (ltb i n) (spaced_vars text c.left) (inside_vars text c.left) ≡ got [] = pick-holds (ltb i n) _ _ (λ z. z ≡ got []) s t in
       put_as (c.whole ∙ ap (λ z. joined c.front (joined z (got (41 ∷ [])))) q ∙ ap (joined c.front) (joined-none _)) (put_seq c.laid (put w))
 
-module _ {text ws : List ℕ} {limit : ℕ} {bs : List Binder} {m : ℕ} {l₀ : List ℕ} {place : ℕ} {l : List ℕ} {a p i : ℕ} (c : Next text ws limit bs m l₀ place l a p i) {l₁ : List ℕ} {r : Walked} (w : (limit : ℕ) (b : Binder) (e : ℕ) → binder_at limit ws a ≡ reads b e → TellsPart e (var_text text b) l p l₁ r) where
+module _ {text ws : List ℕ} {limit : ℕ} {bs : List Binder} {m : ℕ} {l₀ : List ℕ} {place : ℕ} {l : List ℕ} {a p i : ℕ} (c : Next text ws limit bs m l₀ place l a p i) {l₁ : List ℕ} {r : Result Walked Refusal} (w : (limit : ℕ) (b : Binder) (e : ℕ) → binder_at limit ws a ≡ reads b e → TellsPart e (var_text text b) l p l₁ r) where
   -- It is written, or it is refused.
-  pub coming_next : (n : ℕ) {e q : ℕ} → 0 < i → i ≤ n → r ≡ walked.At e q → Coming text ws limit n bs m l₀ place l₁ e q (i - 1)
-  coming_next n {e} {q} h k f =
+  pub coming_next : (n : ℕ) {v : Walked} → 0 < i → i ≤ n → r ≡ Ok v → Coming text ws limit n bs m l₀ place l₁ v.next v.place (i - 1)
+  coming_next n {v} h k f =
       let t = w limit c.var c.end c.one in
-      let z : e ≡ c.end = part_end t f in
+      let z : v.next ≡ c.end = part_end t f in
       record {
         front = joined c.front (var_text text c.var);
         left = c.others;
@@ -117,7 +122,7 @@ module _ {text ws : List ℕ} {limit : ℕ} {bs : List Binder} {m : ℕ} {l₀ :
         laid = put_seq c.laid (part-put t f);
       }
 
-  pub next-gone : {k : ℕ} → r ≡ walked.No k → Gone (vars_body text bs) l₀ l₁ k
+  pub next-gone : {k : Refusal} → r ≡ Err k → Gone (vars_body text bs) l₀ l₁ k
   next-gone f = gone_as c.whole (gone-behind c.laid (gone-first _ (part-gone (w limit c.var c.end c.one) f)))
 
 -- The same by other names.

@@ -14,35 +14,6 @@ use Rattle.smt.specs.Writer.{fits_width}
 two-more : (i j : ℕ) → i ≤ j → 2 ^ i ≤ 2 ^ j
 two-more i j h = pow-le-pow_right {n = 2} (omega arith) {i = i} {j = j} h
 
--- Of e doublings all but i are done.
-pub record Doubled (e p i : ℕ) : Type 0 where
-  pub power : p ≡ 2 ^ (e - i)
-  pub upto : i ≤ e
-
-pub double_none : (e : ℕ) → Doubled e 1 e
-double_none e =
-    let z : e - e ≡ 0 = omega arith in
-    record { power = sym (ap (λ (k : ℕ). 2 ^ k) z); upto = omega arith }
-
-module _ {e p i : ℕ} (d : Doubled e p i) where
-  next_power : 0 < i → p * 2 ≡ 2 ^ (e - (i - 1))
-  next_power h =
-      let z : e - (i - 1) ≡ suc (e - i) = omega (arith, h, d.upto) in
-      ap (λ (k : ℕ). k * 2) d.power ∙ sym (pow-suc 2 (e - i)) ∙ ap (λ (k : ℕ). 2 ^ k) (sym z)
-
-  pub double_fits : 0 < i → e < 32 → p * 2 < 2 ^ 32
-  double_fits h l =
-      let m : 2 ^ (e - (i - 1)) ≤ 2 ^ 31 = two-more (e - (i - 1)) 31 (omega (arith, h, l)) in
-      omega (arith, m, next_power h)
-
-  pub double_next : 0 < i → Doubled e (p * 2) (i - 1)
-  double_next h = record { power = next_power h; upto = omega (arith, d.upto) }
-
-  pub double_all : i ≤ 0 → p ≡ 2 ^ e
-  double_all h =
-      let z : e - i ≡ e = omega (arith, h) in
-      d.power ∙ ap (λ (k : ℕ). 2 ^ k) z
-
 power-sum : (k e : ℕ) → 2 ^ (k + e) ≡ 2 ^ k * 2 ^ e
 power-sum k zero = ap (λ (n : ℕ). 2 ^ n) (add-zero k) ∙ omega arith
 power-sum k (suc e) =

@@ -2,23 +2,17 @@
 #![tactic(auto)]
 
 ghost use Rattle.std.specs.Prelude.{◌≡◌, ◌<◌, ◌^◌};
-ghost use Rattle.writing.specs.Quads.{as_wide};
+ghost use Rattle.words.specs.Quads.{as_wide};
 ghost use Rattle.smt.specs.Writer.{fits_width};
 
-use writing::Quad;
+use words::quad::Quad;
 
 // A power of two, below 2^32.
 fn power(e: u32) -> u32
     requires { e < 32 }
     ensures { result ≡ 2 ^ e }
 {
-    let mut p: u32 = 1;
-    let mut i = e;
-    while 0 < i {
-        p *= 2;
-        i -= 1;
-    }
-    p
+    1 << e
 }
 
 // A number is a value of a width.

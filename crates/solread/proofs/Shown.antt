@@ -18,8 +18,8 @@ use Rattle.show.specs.Lines.{refusal_text, solution_text}
 use Rattle.show.specs.Shown.{text_of, words_text, shown}
 use Rattle.show.proofs.Params.{text-length}
 use Rattle.show.proofs.Showing.{answering, reveals}
-use Rattle.replies.specs.declared.Said.{Said}
-use Rattle.replies.specs.declared.Said.TheVariants.{Accepted, Refused}
+use Rattle.reading.specs.Answer.{Said}
+use Rattle.reading.specs.Answer.{accepted, refused}
 use Rattle.replies.specs.Calls.{solution_call}
 use Rattle.solread.specs.Printed.{final_text, slice, printed}
 use Rattle.replies.proofs.Solved.{ToldSolution, solved, not-solved}
@@ -46,23 +46,23 @@ by_call text h = rw (le-ltb 8192 (length text) h) refl
 
 module _ (text out₀ : List ℕ) {out : List ℕ} {r : ℕ} (room : 36864 ≤ length out₀) where
   -- A refusal is printed.
-  refusing : (n : ℕ) → answering r out ≡ shown (just (refusal_text n)) out₀ → printed text ≡ refusal_text n → Shown text out r
+  refusing : {n m : ℕ} → m ≡ n → answering r out ≡ shown (just (refusal_text m)) out₀ → printed text ≡ refusal_text n → Shown text out r
   unfolding refusal_text
-  refusing n d e = let l = laid (refusal_text n) out₀ refl (omega arith) d in (l.0, l.1 ∙ sym e)
+  refusing {n} k d e = let l = laid (refusal_text n) out₀ refl (omega arith) (rw k at d) in (l.0, l.1 ∙ sym e)
 
   -- A text that is too long.
-  pub shown-long : 8192 < length text → answering r out ≡ shown (just (refusal_text 1)) out₀ → Shown text out r
+  pub shown-long : {m : ℕ} → 8192 < length text → m ≡ 1 → answering r out ≡ shown (just (refusal_text m)) out₀ → Shown text out r
   unfolding printed pick
-  shown-long h d = refusing 1 d (rw (lt-ltb 8192 (length text) h) refl)
+  shown-long h k d = refusing k d (rw (lt-ltb 8192 (length text) h) refl)
 
   module _ {c : ℕ} {said : Said} {words : List ℕ} (t : ToldSolution text slice slice slice c said words) (h : length text ≤ 8192) where
     -- A text that is refused.
-    pub shown-refused : {n : ℕ} → said ≡ Refused n → answering r out ≡ shown (just (refusal_text n)) out₀ → Shown text out r
+    pub shown-refused : {n m : ℕ} → said ≡ refused n → m ≡ n → answering r out ≡ shown (just (refusal_text m)) out₀ → Shown text out r
     unfolding final_text
-    shown-refused {n} e d = refusing n d (by_call text h ∙ ap final_text (not-solved t e))
+    shown-refused e k d = refusing k d (by_call text h ∙ ap final_text (not-solved t e))
 
     -- A text that is accepted.
-    pub shown-accepted : {k j : ℕ} → said ≡ Accepted k j → answering r out ≡ shown (words_text (take k words)) out₀ → Shown text out r
+    pub shown-accepted : {k j : ℕ} → said ≡ accepted k j → answering r out ≡ shown (words_text (take k words)) out₀ → Shown text out r
     unfolding final_text words_text
     shown-accepted {k} e d =
         let a = solved t e in
@@ -71,5 +71,5 @@ module _ (text out₀ : List ℕ) {out : List ℕ} {r : ℕ} (room : 36864 ≤ l
         (l.0, l.1 ∙ sym (by_call text h ∙ ap final_text a.is))
 
 -- The words that are counted lie in the output.
-pub words_inside : {text : List ℕ} {c : ℕ} {said : Said} {words : List ℕ} → ToldSolution text slice slice slice c said words → {k j : ℕ} → said ≡ Accepted k j → k ≤ length words
+pub words_inside : {text : List ℕ} {c : ℕ} {said : Said} {words : List ℕ} → ToldSolution text slice slice slice c said words → {k j : ℕ} → said ≡ accepted k j → k ≤ length words
 words_inside t e = let a = solved t e in omega (arith, a.long, a.inside)

@@ -5,7 +5,7 @@ ghost use Rattle.std.specs.Prelude.{◌≡◌, ◌≤◌, length, take};
 ghost use Rattle.solread.specs.Printed.{printed};
 
 use reader::Reader;
-use replies::Said;
+use words::refusal::Refusal;
 
 // What is printed for a text, from the start of the output on; answers how many bytes that is.
 fn answer(text: &[u8], out: &mut [u8]) -> usize
@@ -13,16 +13,15 @@ fn answer(text: &[u8], out: &mut [u8]) -> usize
     ensures { (result ≤ length out.new) × (take result out.new ≡ printed text.now) }
 {
     if 8192 < text.len() {
-        return show::refusal(1, out);
+        return show::refusal(u32::from(Refusal::TooLong), out);
     }
     let mut tree = [0u32; 4096];
     let mut draft = [0u32; 4096];
     let mut words = [0u32; 4096];
     let call = Reader::open(0).solution(text, &mut tree, &mut draft, &mut words);
-    let said = call.said;
-    match said {
-        Said::Accepted(n, _) => show::solution(&words[..n], out),
-        Said::Refused(r) => show::refusal(r, out),
+    match call.said {
+        Ok(report) => show::solution(&words[..report.first], out),
+        Err(refusal) => show::refusal(u32::from(refusal), out),
     }
 }
 

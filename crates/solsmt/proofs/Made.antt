@@ -22,7 +22,7 @@ use Rattle.smt.specs.Writer.{vars_of, term_of, solution_term, written}
 use Rattle.smt.specs.Operation.{bytes_final, smtlib_by, smtlib_final, smtlib_out}
 use Rattle.smtnames.specs.Pieces.{vars_text}
 use Rattle.smtlib.specs.Answers.{answer_of}
-use Rattle.smtlib.specs.declared.Answer.TheVariants as said
+use Rattle.words.specs.Answered.{told, refused}
 use Rattle.solsmt.specs.Script.{comment_line, function_line, closed_text}
 
 -- The bytes of a list of variables, and of a term.
@@ -33,7 +33,7 @@ abbrev pub term_bytes : Closed → List ℕ
 term_bytes c = print (term_sx c.term)
 
 -- Two answers that differ.
-apart : {P : Type 0} {a b : ℕ} → said.Done a ≡ said.Refused b → P
+apart : {P : Type 0} {a b : ℕ} → told a ≡ refused b → P
 apart e = let z : ◌≡◌ {A = ℕ} 0 1 = cc in absurd (omega arith)
 
 -- The solution that the words are, what it is in SMT-LIB, and its n bytes in the slice.
@@ -49,34 +49,34 @@ pub record Made (words text l l' : List ℕ) (n : ℕ) : Type 0 where
 
 module _ (words text l : List ℕ) where
   -- The operation is done.
-  pub made : {l' : List ℕ} {n : ℕ} → said.Done n ≡ answer_of (smtlib_final words text l) → l' ≡ smtlib_out words text l → Made words text l l' n
+  pub made : {l' : List ℕ} {n : ℕ} → told n ≡ answer_of (smtlib_final words text l) → l' ≡ smtlib_out words text l → Made words text l l' n
   unfolding smtlib_final smtlib_out smtlib_by bytes_final written output_of pick
   made {l'} {n} a o = by-judged (judge_solution (length text) words) refl a o
     where
-      by-room : (s : Solution) (at : ℕ) (c : Closed) (b : Bool) → judge_solution (length text) words ≡ reads s at → solution_term text s ≡ got c → leb (length (closed_bytes c)) (length l) ≡ b → said.Done n ≡ answer_of (pick b (accepts (closed_bytes c) 0) (refuses (number no_room))) → l' ≡ output_of (λ bytes. bytes) (pick b (accepts (closed_bytes c) 0) (refuses (number no_room))) l → Made words text l l' n
+      by-room : (s : Solution) (at : ℕ) (c : Closed) (b : Bool) → judge_solution (length text) words ≡ reads s at → solution_term text s ≡ got c → leb (length (closed_bytes c)) (length l) ≡ b → told n ≡ answer_of (pick b (accepts (closed_bytes c) 0) (refuses (number no_room))) → l' ≡ output_of (λ bytes. bytes) (pick b (accepts (closed_bytes c) 0) (refuses (number no_room))) l → Made words text l l' n
       by-room s at c true j t h a o =
           let z : n ≡ length (closed_bytes c) = cc in
           record { solution = s; end = at; judged = j; closed = c; is = t; size = z; room = omega (arith, z, leb-true (length (closed_bytes c)) (length l) h); leaves = o }
       by-room s at c false j t h a o = apart a
 
-      by-term : (s : Solution) (at : ℕ) (x : Ans Closed) → judge_solution (length text) words ≡ reads s at → solution_term text s ≡ x → said.Done n ≡ answer_of (bytes_final l (and_then x λ c. got (closed_bytes c))) → l' ≡ output_of (λ bytes. bytes) (bytes_final l (and_then x λ c. got (closed_bytes c))) l → Made words text l l' n
+      by-term : (s : Solution) (at : ℕ) (x : Ans Closed) → judge_solution (length text) words ≡ reads s at → solution_term text s ≡ x → told n ≡ answer_of (bytes_final l (and_then x λ c. got (closed_bytes c))) → l' ≡ output_of (λ bytes. bytes) (bytes_final l (and_then x λ c. got (closed_bytes c))) l → Made words text l l' n
       by-term s at (bad r) j t a o = apart a
       by-term s at (got c) j t a o = by-room s at c (leb (length (closed_bytes c)) (length l)) j t refl a o
 
-      by-judged : (j : Judged Solution) → judge_solution (length text) words ≡ j → said.Done n ≡ answer_of (smtlib_by text l j) → l' ≡ output_of (λ bytes. bytes) (smtlib_by text l j) l → Made words text l l' n
+      by-judged : (j : Judged Solution) → judge_solution (length text) words ≡ j → told n ≡ answer_of (smtlib_by text l j) → l' ≡ output_of (λ bytes. bytes) (smtlib_by text l j) l → Made words text l l' n
       by-judged (fails r) j a o = apart a
       by-judged (reads s at) j a o = by-term s at (solution_term text s) j refl a o
 
   -- The operation refuses a solution.
-  pub not_made : (s : Solution) (n : ℕ) {r : ℕ} → length l ≡ 65536 → judge_solution (length text) words ≡ reads s n → said.Refused r ≡ answer_of (smtlib_final words text l) → closed_text (solution_term text s) ≡ comment_line r
+  pub not_made : (s : Solution) (n : ℕ) {r : ℕ} → length l ≡ 65536 → judge_solution (length text) words ≡ reads s n → refused r ≡ answer_of (smtlib_final words text l) → closed_text (solution_term text s) ≡ comment_line r
   unfolding smtlib_final smtlib_by bytes_final written pick closed_text
   not_made s n {r} long j a = by-term (solution_term text s) (rw j at a)
     where
-      by-room : (c : Closed) (b : Bool) → said.Refused r ≡ answer_of (pick b (accepts (closed_bytes c) 0) (refuses (number no_room))) → pick b (comment_line 0 ++ function_line (list_bytes c) (term_bytes c)) (comment_line (number no_room)) ≡ comment_line r
+      by-room : (c : Closed) (b : Bool) → refused r ≡ answer_of (pick b (accepts (closed_bytes c) 0) (refuses (number no_room))) → pick b (comment_line 0 ++ function_line (list_bytes c) (term_bytes c)) (comment_line (number no_room)) ≡ comment_line r
       by-room c true a = apart (sym a)
       by-room c false a = let z : number no_room ≡ r = cc in ap comment_line z
 
-      by-term : (x : Ans Closed) → said.Refused r ≡ answer_of (bytes_final l (and_then x λ c. got (closed_bytes c))) → closed_text x ≡ comment_line r
+      by-term : (x : Ans Closed) → refused r ≡ answer_of (bytes_final l (and_then x λ c. got (closed_bytes c))) → closed_text x ≡ comment_line r
       by-term (bad e) a = let z : number e ≡ r = cc in ap comment_line z
       by-term (got c) a = by-room c (leb (length (closed_bytes c)) 65536) (rw long at a)
 

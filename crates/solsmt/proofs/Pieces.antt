@@ -15,8 +15,9 @@ use Rattle.writing.specs.Wrote.{WroteBytes}
 use Rattle.writing.proofs.Wrote.{wrote_then, wrote_as}
 use Rattle.smtnames.specs.Pieces.{vars_text}
 use Rattle.smtnames.specs.Written.{TellsPart}
-use Rattle.smtnames.specs.declared.answers.Walked.{Walked}
-use Rattle.smtnames.specs.declared.answers.Walked.TheVariants as walked
+use Rattle.std.specs.Prelude.{Result, Ok, Err}
+use Rattle.words.specs.declared.refusal.Refusal.{Refusal}
+use Rattle.words.specs.declared.walked.Walked.{Walked}
 use Rattle.smtnames.proofs.Tells.{Put, put, Gone, gone, part-put, part-gone}
 use Rattle.solsmt.specs.Script.{comment_line, function_line}
 
@@ -33,11 +34,11 @@ rest-is l a = take_all (length l - a) (drop a l) (omega (arith, length-drop a l)
 put-got : {x : Ans (List ℕ)} {xs l l' : List ℕ} {place p : ℕ} → Put x l place l' p → x ≡ got xs → WroteBytes l place xs l' p
 put-got {xs = xs} (put {xs = ys} w) e = let z : ys ≡ xs = cc in rw z at w
 
-gone-got : {P : Type 0} {x : Ans (List ℕ)} {xs l l' : List ℕ} {k : ℕ} → Gone x l l' k → x ≡ got xs → P
+gone-got : {P : Type 0} {x : Ans (List ℕ)} {xs l l' : List ℕ} {k : Refusal} → Gone x l l' k → x ≡ got xs → P
 gone-got (gone h f) e = let z : ◌≡◌ {A = ℕ} 0 1 = cc in absurd (omega arith)
 
 -- What is told of the list of variables, where the words are a solution and the list can be written.
-module _ (words text : List ℕ) {l l' : List ℕ} {count : ℕ} {v : Walked} (first : count ≡ get_or words 0 0)
+module _ (words text : List ℕ) {l l' : List ℕ} {count : ℕ} {v : Result Walked Refusal} (first : count ≡ get_or words 0 0)
     (vars : (limit : ℕ) (bs : List Binder) (m : ℕ) → binders_at limit count words 1 ≡ reads bs m → TellsPart m (vars_text text bs) l 0 l' v)
     (s : Solution) (n : ℕ) (xs : List ℕ) (judged : judge_solution (length text) words ≡ reads s n) (list : vars_text text s.params ≡ got xs) where
   parts : Parts (length text) words s
@@ -46,10 +47,10 @@ module _ (words text : List ℕ) {l l' : List ℕ} {count : ℕ} {v : Walked} (f
   told : TellsPart parts.behind (vars_text text s.params) l 0 l' v
   told = vars (length text) s.params parts.behind (ap (λ (i : ℕ). binders_at (length text) i words 1) first ∙ parts.binders)
 
-  pub list_put : {a k : ℕ} → v ≡ walked.At a k → WroteBytes l 0 xs l' k
+  pub list_put : {u : Walked} → v ≡ Ok u → WroteBytes l 0 xs l' u.place
   list_put h = put-got (part-put told h) list
 
-  pub list-gone : {P : Type 0} {r : ℕ} → v ≡ walked.No r → P
+  pub list-gone : {P : Type 0} {r : Refusal} → v ≡ Err r → P
   list-gone h = gone-got (part-gone told h) list
 
 -- A script, from its six pieces.

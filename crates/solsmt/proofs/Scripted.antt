@@ -16,8 +16,8 @@ use Rattle.grammar.specs.Expr.{Solution}
 use Rattle.judging.specs.Judge.{reads, judge_solution}
 use Rattle.flattening.specs.Uncurry.{flattened}
 use Rattle.session.specs.Session.{final}
-use Rattle.replies.specs.declared.Said.{Said}
-use Rattle.replies.specs.declared.Said.TheVariants.{Accepted, Refused}
+use Rattle.reading.specs.Answer.{Said}
+use Rattle.reading.specs.Answer.{accepted, refused}
 use Rattle.replies.specs.Calls.{solution_call}
 use Rattle.replies.proofs.Solved.{ToldSolution, solved, not-solved}
 use Rattle.writing.specs.Wrote.{WroteBytes}
@@ -67,22 +67,22 @@ by_call text h = rw (le-ltb 8192 (length text) h) refl
 
 module _ (text out₀ : List ℕ) {out : List ℕ} {r : ℕ} (room : 65600 ≤ length out₀) where
   -- A refusal is printed.
-  refusing : (n : ℕ) → WroteBytes out₀ 0 (comment_line n) out r → script text ≡ comment_line n → Printed text out r
-  refusing n w e = let l = from_start (omega (arith, comment-long n, room)) w in (l.0, l.1 ∙ sym e)
+  refusing : {n m : ℕ} → m ≡ n → WroteBytes out₀ 0 (comment_line m) out r → script text ≡ comment_line n → Printed text out r
+  refusing {n} k w e = let l = from_start (omega (arith, comment-long n, room)) (rw k at w) in (l.0, l.1 ∙ sym e)
 
   -- A text that is too long.
-  pub printed-long : 8192 < length text → WroteBytes out₀ 0 (comment_line 1) out r → Printed text out r
+  pub printed-long : {m : ℕ} → 8192 < length text → m ≡ 1 → WroteBytes out₀ 0 (comment_line m) out r → Printed text out r
   unfolding script pick
-  printed-long h w = refusing 1 w (rw (lt-ltb 8192 (length text) h) refl)
+  printed-long h k w = refusing k w (rw (lt-ltb 8192 (length text) h) refl)
 
   module _ {c : ℕ} {said : Said} {words : List ℕ} (t : ToldSolution text slice slice slice c said words) (h : length text ≤ 8192) where
     -- A text that is refused.
-    pub printed-refused : {n : ℕ} → said ≡ Refused n → WroteBytes out₀ 0 (comment_line n) out r → Printed text out r
+    pub printed-refused : {n m : ℕ} → said ≡ refused n → m ≡ n → WroteBytes out₀ 0 (comment_line m) out r → Printed text out r
     unfolding final_text
-    printed-refused {n} e w = refusing n w (by_call text h ∙ ap (final_text text) (not-solved t e))
+    printed-refused e k w = refusing k w (by_call text h ∙ ap (final_text text) (not-solved t e))
 
     -- A text that is accepted.
-    pub printed-accepted : {k j : ℕ} → said ≡ Accepted k j → ((s : Solution) (n : ℕ) → judge_solution (length text) (take k words) ≡ reads s n → WroteBytes out₀ 0 (closed_text (solution_term text s)) out r) → Printed text out r
+    pub printed-accepted : {k j : ℕ} → said ≡ accepted k j → ((s : Solution) (n : ℕ) → judge_solution (length text) (take k words) ≡ reads s n → WroteBytes out₀ 0 (closed_text (solution_term text s)) out r) → Printed text out r
     unfolding final_text
     printed-accepted {k} e f =
         let a = solved t e in
@@ -91,5 +91,5 @@ module _ (text out₀ : List ℕ) {out : List ℕ} {r : ℕ} (room : 65600 ≤ l
         (l.0, l.1 ∙ sym (by_call text h ∙ ap (final_text text) a.is))
 
 -- The words that are counted lie in the output.
-pub words_inside : {text : List ℕ} {c : ℕ} {said : Said} {words : List ℕ} → ToldSolution text slice slice slice c said words → {k j : ℕ} → said ≡ Accepted k j → k ≤ length words
+pub words_inside : {text : List ℕ} {c : ℕ} {said : Said} {words : List ℕ} → ToldSolution text slice slice slice c said words → {k j : ℕ} → said ≡ accepted k j → k ≤ length words
 words_inside t e = let a = solved t e in omega (arith, a.long, a.inside)

@@ -12,10 +12,9 @@ ghost use Rattle.solsmt.specs.Script.{comment_line, function_line, closed_text, 
 
 use nodes::kind::word_at;
 use reader::Reader;
-use replies::Said;
-use smtlib::{Answer, smtlib};
-use smtnames::answers::Walked;
+use smtlib::smtlib;
 use smtvars::vars::vars;
+use words::refusal::Refusal;
 use writing::{byte, bytes, digit};
 
 // The comment that begins a script, with the number of a refusal.
@@ -25,7 +24,7 @@ fn comment(n: u32, out: &mut [u8]) -> usize
     let a = bytes(b"; ", out, 0);
     let b = byte(out, a, digit(n / 16 % 16));
     let c = byte(out, b, digit(n % 16));
-    byte(out, c, 10)
+    byte(out, c, b'\n')
 }
 
 // The script of a solution, by its bytes and the place of the space behind its list of variables.
@@ -47,8 +46,8 @@ fn list_end(words: &[u32], text: &[u8], out: &mut [u8]) -> usize
     ensures { (s : Solution) (n : ℕ) (xs : List ℕ) → judge_solution (length text.now) words.now ≡ reads s n → vars_text text.now s.params ≡ got xs → WroteBytes out.old 0 xs out.new result }
 {
     match vars(words, 1, word_at(words, 0), text, out, 0) {
-        Walked::At(_, k) => k,
-        Walked::No(_) => 0,
+        Ok(list) => list.place,
+        Err(_) => 0,
     }
 }
 
@@ -59,8 +58,8 @@ fn lines(words: &[u32], text: &[u8], out: &mut [u8]) -> usize
     let mut made = [0u8; 65536];
     let k = list_end(words, text, &mut made);
     match smtlib(words, text, &mut made) {
-        Answer::Done(n) => function(&made[..n], k, out),
-        Answer::Refused(r) => comment(r, out),
+        Ok(n) => function(&made[..n], k, out),
+        Err(why) => comment(u32::from(why), out),
     }
 }
 
@@ -70,16 +69,15 @@ fn answer(text: &[u8], out: &mut [u8]) -> usize
     ensures { (result ≤ length out.new) × (take result out.new ≡ script text.now) }
 {
     if 8192 < text.len() {
-        return comment(1, out);
+        return comment(u32::from(Refusal::TooLong), out);
     }
     let mut tree = [0u32; 4096];
     let mut draft = [0u32; 4096];
     let mut words = [0u32; 4096];
     let call = Reader::open(0).solution(text, &mut tree, &mut draft, &mut words);
-    let said = call.said;
-    match said {
-        Said::Accepted(n, _) => lines(&words[..n], text, out),
-        Said::Refused(r) => comment(r, out),
+    match call.said {
+        Ok(report) => lines(&words[..report.first], text, out),
+        Err(refusal) => comment(u32::from(refusal), out),
     }
 }
 

@@ -11,7 +11,7 @@ use Rattle.reading.specs.Limits.{max_lists}
 use Rattle.reading.specs.Pick.{pick}
 use Rattle.reading.specs.Bytes.{Span}
 use Rattle.reading.specs.Tree.{nesting}
-use Rattle.reading.specs.Answer.{number, Res, ok, no, chain, lifted}
+use Rattle.reading.specs.Answer.{Res, ok, no, chain, lifted}
 use Rattle.grammar.specs.Expr.{Expr, expr_items}
 use Rattle.grammar.specs.Scope.{Scope, repeated, distinct}
 use Rattle.grammar.specs.ParseExpr
@@ -21,8 +21,10 @@ use Rattle.grammar.specs.Written.{told}
 use Rattle.grammar.specs.Item.{raised_words}
 use Rattle.solutions.specs.PartsWords.{BodyHere, body_of, BodyDone, body_wrote, body_refused}
 use Rattle.plans.specs.declared.progress.Progress.{Progress}
-use Rattle.plans.specs.declared.progress.Progress.TheVariants as progress
-use Rattle.solutions.specs.declared.parts.Parts.TheVariants.{Done, Refused}
+use Rattle.std.specs.Prelude.{Result, Ok, Err}
+use Rattle.words.specs.declared.refusal.Refusal.{Refusal}
+use Rattle.words.specs.declared.refusal.Refusal.TheVariants as refusal
+use Rattle.words.specs.Refusals.{refusal_of}
 use Rattle.plans.proofs.Laid.{never, same-words, same_next}
 use Rattle.scopes.proofs.Frame.{pushed-length, pushed-opened, deeper-most}
 
@@ -31,21 +33,21 @@ module _ (text : List ℕ) (names : List Span) where
   abbrev distinctly : Res Expr → Res Expr
   distinctly x = chain x (λ e n. chain (lifted (distinct text names) n) (λ _ m. ok e m))
 
-  module _ (count u : ℕ) {d d' : List ℕ} {b : ℕ} {p : Progress} where
-    done_refused : (x : Res Expr) {k : ℕ} → Parsed (told count x) 0 d d' b p → p ≡ progress.Refused k → BodyDone count u d d' (distinctly x) (Refused k)
+  module _ (count u : ℕ) {d d' : List ℕ} {b : ℕ} {p : Result Progress Refusal} where
+    done_refused : (x : Res Expr) {k : Refusal} → Parsed (told count x) 0 d d' b p → p ≡ Err k → BodyDone count u d d' (distinctly x) (Err k)
     done_refused (ok e m) (wrote y) q = never y.is q
-    done_refused (no r) {k} (refused y) q = let z : k ≡ number r = cc in body_refused (ap Refused z)
+    done_refused (no r) {k} (refused y) q = let z : k ≡ refusal_of r = cc in body_refused (ap Err z)
 
-    done_twice : (x : Res Expr) {w n : ℕ} → Parsed (told count x) 0 d d' b p → p ≡ progress.Done w n → repeated text names ≡ true → BodyDone count u d d' (distinctly x) (Refused 10)
+    done_twice : (x : Res Expr) {done : Progress} → Parsed (told count x) 0 d d' b p → p ≡ Ok done → repeated text names ≡ true → BodyDone count u d d' (distinctly x) (Err refusal.RepeatedName)
     unfolding distinct
     done_twice (ok e m) (wrote y) q t = rw t (body_refused refl)
     done_twice (no r) (refused y) q t = never q y
 
-    done-wrote : (x : Res Expr) {w n : ℕ} → Parsed (told count x) 0 d d' b p → p ≡ progress.Done w n → repeated text names ≡ false → BodyDone count u d d' (distinctly x) (Done u w n)
+    done-wrote : (x : Res Expr) {done : Progress} → Parsed (told count x) 0 d d' b p → p ≡ Ok done → repeated text names ≡ false → BodyDone count u d d' (distinctly x) (Ok (record { params = u; body = done.words; fresh = done.next }))
     unfolding distinct
-    done-wrote (ok e m) {w} {n} (wrote y) q t =
-        let a : w ≡ length (raised_words expr_items count e) = same-words q y.is ∙ zero-add _ in
-        let z : n ≡ m = same_next q y.is in
+    done-wrote (ok e m) {done} (wrote y) q t =
+        let a : done.words ≡ length (raised_words expr_items count e) = same-words q y.is ∙ zero-add _ in
+        let z : done.next ≡ m = same_next q y.is in
         rw (t, a, z) (body_wrote refl y.words)
     done-wrote (no r) (refused y) q t = never q y
 
@@ -83,18 +85,18 @@ module _ {text ws : List ℕ} {pairs n body next : ℕ} (h : BodyHere text ws pa
       bytes = h.bytes;
     }
 
-  module _ {count u b : ℕ} {d d' : List ℕ} {p : Progress} (y : Parsed (told count body-read) 0 d d' b p) where
+  module _ {count u b : ℕ} {d d' : List ℕ} {p : Result Progress Refusal} (y : Parsed (told count body-read) 0 d d' b p) where
     -- It is refused.
-    pub body_refused_lem : {k : ℕ} → p ≡ progress.Refused k → BodyDone count u d d' (body_of text h.spot.tree h.params.names n) (Refused k)
+    pub body_refused_lem : {k : Refusal} → p ≡ Err k → BodyDone count u d d' (body_of text h.spot.tree h.params.names n) (Err k)
     unfolding body_of
     body_refused_lem q = rw (sym ns) (done_refused text h.params.names count u body-read y q)
 
-    module _ {w m : ℕ} (q : p ≡ progress.Done w m) {t : Bool} (e : t ≡ repeated text h.params.names) where
+    module _ {done : Progress} (q : p ≡ Ok done) {t : Bool} (e : t ≡ repeated text h.params.names) where
       -- A name stands there twice.
-      pub body_twice : t ≡ true → BodyDone count u d d' (body_of text h.spot.tree h.params.names n) (Refused 10)
+      pub body_twice : t ≡ true → BodyDone count u d d' (body_of text h.spot.tree h.params.names n) (Err refusal.RepeatedName)
       unfolding body_of
       body_twice z = rw (sym ns) (done_twice text h.params.names count u body-read y q (sym e ∙ z))
 
-      pub body-wrote : t ≡ false → BodyDone count u d d' (body_of text h.spot.tree h.params.names n) (Done u w m)
+      pub body-wrote : t ≡ false → BodyDone count u d d' (body_of text h.spot.tree h.params.names n) (Ok (record { params = u; body = done.words; fresh = done.next }))
       unfolding body_of
       body-wrote z = rw (sym ns) (done-wrote text h.params.names count u body-read y q (sym e ∙ z))

@@ -10,7 +10,7 @@ use borrow.Author.Tests.{ne_eqb}
 use Rattle.reading.specs.Limits.{max_lists}
 use Rattle.reading.specs.Bytes.{Span}
 use Rattle.reading.specs.Tree.{Tree, Trees, list, tnil, tcons, trees, tree_words, trees_words, nesting}
-use Rattle.reading.specs.Answer.{Refusal, malformed, Ans, got, bad, Res, ok, no, chain, lifted}
+use Rattle.reading.specs.Answer.{Refusal as Met, malformed, Ans, got, bad, Res, ok, no, chain, lifted}
 use Rattle.grammar.specs.Item.{raise, words_of}
 use Rattle.grammar.specs.Expr.{Expr, expr_items, Solution}
 use Rattle.grammar.specs.ParseSort.{in_list, tree_at}
@@ -28,7 +28,9 @@ use Rattle.plans.specs.BinderWords.{BinderRow, binders_words}
 use Rattle.plans.specs.Whole.{Whole}
 use Rattle.solutions.specs.PartsWords.{BodyHere, body_of, BodyDone, body_wrote, body_refused, PartsDone, parts_wrote, parts_refused}
 use Rattle.solutions.specs.declared.parts.Parts.{Parts}
-use Rattle.solutions.specs.declared.parts.Parts.TheVariants.{Done, Refused}
+use Rattle.std.specs.Prelude.{Result, Ok, Err}
+use Rattle.words.specs.declared.refusal.Refusal.{Refusal}
+use Rattle.words.specs.declared.refusal.Refusal.TheVariants as refusal
 use Rattle.places.proofs.Puts.{put_append}
 use Rattle.places.proofs.SortPlace.{GotAt, BadAt, every_got}
 use Rattle.plans.proofs.BinderPairs.{ReadFrom, read_from}
@@ -69,7 +71,7 @@ module _ (text : List ℕ) where
       solution-names h = rw h refl
 
       module _ {names : List Span} (n : all_names ps ≡ got names) where
-        solution-sorts : {r : Refusal} → binders text ps ≡ bad r → solution ≡ no r
+        solution-sorts : {r : Met} → binders text ps ≡ bad r → solution ≡ no r
         unfolding parse_solution in_list trees tree_at
         solution-sorts {r} h = rw (n, split-bad names (all_sorts text ps) r (sym (names-binders text ps names n) ∙ h)) refl
 
@@ -100,12 +102,12 @@ unfolding raise words_of
 params-words count bs e = ap (λ (k : ℕ). k ∷ binders_words count 0 bs) (numbered-length 0 bs.sorts)
 
 -- The body was read or refused, the parameters being written.
-parts-made : (count : ℕ) (bs : Binders) (x : Res Expr) {u : ℕ} {d d' o o' : List ℕ} {r : Parts} → Put o 0 ((length bs.sorts ∷ []) ++ binders_words count 0 bs) o' u → BodyDone count u d d' x r
+parts-made : (count : ℕ) (bs : Binders) (x : Res Expr) {u : ℕ} {d d' o o' : List ℕ} {r : Result Parts Refusal} → Put o 0 ((length bs.sorts ∷ []) ++ binders_words count 0 bs) o' u → BodyDone count u d d' x r
     → PartsDone count d d' o o' (chain x (λ e n. ok (made bs e) n)) r
 parts-made count bs (ok e n) {u} {o = o} p (body_wrote is w) =
     let z = params-words count bs e in
     let s : u ≡ length (raised_words param_items count (made bs e)) = p.is ∙ zero-add _ ∙ ap length (sym z) in
-    parts_wrote (is ∙ ap (λ k. Done k (length (raised_words expr_items count e)) n) s) w (p.words ∙ ap (laid o 0) (sym z))
+    parts_wrote (is ∙ ap (λ k. Ok (record { params = k; body = length (raised_words expr_items count e); fresh = n })) s) w (p.words ∙ ap (laid o 0) (sym z))
 parts-made count bs (no r) p (body_refused is) = parts_refused is
 
 module _ {text ws : List ℕ} (h : Whole text ws) where
@@ -113,7 +115,7 @@ module _ {text ws : List ℕ} (h : Whole text ws) where
   root = record { tree = h.tree; rest = []; words = alone h.tree h.words }
 
   -- It is no list.
-  pub whole-other : (count : ℕ) {d d' o o' : List ℕ} → (get_or ws 0 0 ≡ 21 → ⊥) → PartsDone count d d' o o' (parse_solution text h.tree 0) (Refused 8)
+  pub whole-other : (count : ℕ) {d d' o o' : List ℕ} → (get_or ws 0 0 ≡ 21 → ⊥) → PartsDone count d d' o o' (parse_solution text h.tree 0) (Err refusal.Malformed)
   whole-other count k = rw (solution-atom text h.tree (no-list [] h.tree root.words k)) (parts_refused refl)
 
   module _ {n f : ℕ} (l : ListNode ws 0 n f) where
@@ -124,7 +126,7 @@ module _ {text ws : List ℕ} (h : Whole text ws) where
     whole-many = l.many ∙ whole-list.many
 
     -- Not three items.
-    pub whole-count : (count : ℕ) {d d' o o' : List ℕ} → (n ≡ 3 → ⊥) → PartsDone count d d' o o' (parse_solution text h.tree 0) (Refused 8)
+    pub whole-count : (count : ℕ) {d d' o o' : List ℕ} → (n ≡ 3 → ⊥) → PartsDone count d d' o o' (parse_solution text h.tree 0) (Err refusal.Malformed)
     whole-count count k = rw (ap (λ (t : Tree). parse_solution text t 0) whole-list.is ∙ solution-count text whole-list.items (λ e. k (whole-many ∙ e))) (parts_refused refl)
 
     module _ (three : n ≡ 3) where
@@ -161,7 +163,7 @@ module _ {text ws : List ℕ} (h : Whole text ws) where
         params-spot = record { tree = items.second; rest = trees_words (tcons items.third tnil) ++ []; words = params-there }
 
         -- The parameters are no list.
-        pub params-other : (count : ℕ) {d d' o o' : List ℕ} → (get_or ws (f + j) 0 ≡ 21 → ⊥) → PartsDone count d d' o o' (parse_solution text h.tree 0) (Refused 8)
+        pub params-other : (count : ℕ) {d d' o o' : List ℕ} → (get_or ws (f + j) 0 ≡ 21 → ⊥) → PartsDone count d d' o o' (parse_solution text h.tree 0) (Err refusal.Malformed)
         params-other count k =
             rw (ap (λ (t : Tree). parse_solution text t 0) whole_is
             ∙ solution-params text items.first items.second items.third (no-list params-spot.rest items.second refl (λ e. k (word0 params-spot ∙ e))))
@@ -197,7 +199,7 @@ module _ {text ws : List ℕ} (h : Whole text ws) where
 
             module _ {r : Bool} (is : r ≡ is_got (all_names pairs.items)) where
               -- One is no pair.
-              pub pairs-bad : (count : ℕ) {d d' o o' : List ℕ} → r ≡ false → PartsDone count d d' o o' (parse_solution text h.tree 0) (Refused 8)
+              pub pairs-bad : (count : ℕ) {d d' o o' : List ℕ} → r ≡ false → PartsDone count d d' o o' (parse_solution text h.tree 0) (Err refusal.Malformed)
               pairs-bad count e = rw (tree_is ∙ solution-names text items.first pairs.items items.third (names-bad pairs.items (sym is ∙ e))) (parts_refused refl)
 
               module _ (yes : r ≡ true) where
@@ -205,8 +207,8 @@ module _ {text ws : List ℕ} (h : Whole text ws) where
                 names = names-got pairs.items (sym is ∙ yes)
 
                 -- A sort is refused.
-                pub sorts-bad : (count : ℕ) {d d' o o' : List ℕ} {e : ℕ} → BadAt (binders text pairs.items) e → PartsDone count d d' o o' (parse_solution text h.tree 0) (Refused e)
-                sorts-bad count b = rw (tree_is ∙ solution-sorts text items.first pairs.items items.third names.is b.is) (parts_refused (ap Refused b.same))
+                pub sorts-bad : (count : ℕ) {d d' o o' : List ℕ} {e : Refusal} → BadAt (binders text pairs.items) e → PartsDone count d d' o o' (parse_solution text h.tree 0) (Err e)
+                sorts-bad count b = rw (tree_is ∙ solution-sorts text items.first pairs.items items.third names.is b.is) (parts_refused (ap Err b.same))
 
                 module _ (count : ℕ) {o o₁ o' : List ℕ} {w u : ℕ} (p : Put o 0 (k ∷ []) o₁ w) (t : GotAt (binders_words count 0) (binders text pairs.items) w o₁ o' u) where
                   pub read : ReadFrom pairs.items t.value
@@ -240,7 +242,7 @@ module _ {text ws : List ℕ} (h : Whole text ws) where
                     }
 
                     -- The body under the parameters.
-                    pub parts-done : {d d' : List ℕ} {q : Parts} → BodyDone count u d d' (body_of text items.third t.value.names m) q → PartsDone count d d' o o' (parse_solution text h.tree 0) q
+                    pub parts-done : {d d' : List ℕ} {q : Result Parts Refusal} → BodyDone count u d d' (body_of text items.third t.value.names m) q → PartsDone count d d' o o' (parse_solution text h.tree 0) q
                     parts-done {d} {d'} {q} y =
                         let bs = t.value in
                         let kn : k ≡ length bs.sorts = sym ms ∙ fresh-many in

@@ -17,7 +17,7 @@ module _ (ws : List ℕ) (a : ℕ) {c : ℕ} (e : c ≡ get_or ws a 0) where
   unfolding applied_at
   applied_array h f = pick_eq _ (sym e ∙ h) (ap told.Array f)
 
-  pub applied_data : {x y n : ℕ} → c ≡ 2 → x ≡ get_or ws (a + 1) 0 → y ≡ get_or ws (a + 2) 0 → n ≡ get_or ws (a + 3) 0 → told.Data x y n ≡ applied_at ws a
+  pub applied_data : {x y n : ℕ} → c ≡ 2 → x ≡ get_or ws (a + 1) 0 → y ≡ get_or ws (a + 2) 0 → n ≡ get_or ws (a + 3) 0 → told.Data (record { start = x; len = y }) n ≡ applied_at ws a
   unfolding applied_at
   applied_data h f g i =
       let z : get_or ws a 0 ≡ 1 → ⊥ = λ q. omega (arith, e, h, q) in

@@ -8,7 +8,7 @@ use Rattle.sortnodes.specs.declared.SortNode.TheVariants as told
 unfoldable pub applied_at : List ℕ → ℕ → SortNode
 applied_at ws a =
     pick (eqb (get_or ws a 0) 1) (told.Array (get_or ws (a + 1) 0))
-    (pick (eqb (get_or ws a 0) 2) (told.Data (get_or ws (a + 1) 0) (get_or ws (a + 2) 0) (get_or ws (a + 3) 0)) told.Other)
+    (pick (eqb (get_or ws a 0) 2) (told.Data (record { start = get_or ws (a + 1) 0; len = get_or ws (a + 2) 0 }) (get_or ws (a + 3) 0)) told.Other)
 
 unfoldable pub sort_node_at : List ℕ → ℕ → SortNode
 sort_node_at ws at =
@@ -27,7 +27,7 @@ size_of told.Real = 1
 size_of told.Str = 1
 size_of (told.BitVec width) = 3
 size_of (told.Array n) = 3
-size_of (told.Data start len n) = 5
+size_of (told.Data name n) = 5
 size_of told.Other = 1
 
 abbrev pub inside_of : SortNode → ℕ
@@ -37,5 +37,5 @@ inside_of told.Real = 0
 inside_of told.Str = 0
 inside_of (told.BitVec width) = 0
 inside_of (told.Array n) = n
-inside_of (told.Data start len n) = n
+inside_of (told.Data name n) = n
 inside_of told.Other = 0

@@ -6,9 +6,10 @@ ghost use Rattle.sortnodes.specs.Told.{applied_at, sort_node_at, size_of, inside
 
 use nodes::kind::word_at;
 use words::sort_kinds::{APP, BIT_VEC, BOOL, DATA, INT, MAP, REAL, SIZE, STR};
+use words::span::Span;
 
-// A sort that can be written: a BitVec by its width, an Array by how many sorts are inside it, a Data sort by the span of its name and
-// how many sorts are inside it; or any other.
+// A sort that can be written: a BitVec by its width, an Array by how many sorts are inside it, a Data sort by its name and how many sorts
+// are inside it; or any other.
 #[derive(Clone, Copy)]
 pub enum SortNode {
     Int,
@@ -17,7 +18,7 @@ pub enum SortNode {
     Str,
     BitVec(u32),
     Array(u32),
-    Data(u32, u32, u32),
+    Data(Span, u32),
     Other,
 }
 
@@ -26,18 +27,17 @@ fn applied(words: &[u32], at: usize) -> SortNode
     requires { at ≤ length words.now }
     ensures { result ≡ applied_at words.now at }
 {
-    let c = word_at(words, at);
-    if c == MAP {
-        return SortNode::Array(word_at(words, at + 1));
+    match word_at(words, at) {
+        MAP => SortNode::Array(word_at(words, at + 1)),
+        DATA => {
+            let name = Span {
+                start: word_at(words, at + 1),
+                len: word_at(words, at + 2),
+            };
+            SortNode::Data(name, word_at(words, at + 3))
+        }
+        _ => SortNode::Other,
     }
-    if c == DATA {
-        return SortNode::Data(
-            word_at(words, at + 1),
-            word_at(words, at + 2),
-            word_at(words, at + 3),
-        );
-    }
-    SortNode::Other
 }
 
 // The sort at a place.
@@ -47,29 +47,15 @@ pub fn sort_at(words: &[u32], at: usize) -> SortNode
     if words.len() <= at {
         return SortNode::Other;
     }
-    let k = words[at];
-    if k == INT {
-        return SortNode::Int;
+    match words[at] {
+        INT => SortNode::Int,
+        BOOL => SortNode::Bool,
+        REAL => SortNode::Real,
+        STR => SortNode::Str,
+        BIT_VEC if word_at(words, at + 1) == SIZE => SortNode::BitVec(word_at(words, at + 2)),
+        APP => applied(words, at + 1),
+        _ => SortNode::Other,
     }
-    if k == BOOL {
-        return SortNode::Bool;
-    }
-    if k == REAL {
-        return SortNode::Real;
-    }
-    if k == STR {
-        return SortNode::Str;
-    }
-    if k == BIT_VEC {
-        if word_at(words, at + 1) == SIZE {
-            return SortNode::BitVec(word_at(words, at + 2));
-        }
-        return SortNode::Other;
-    }
-    if k == APP {
-        return applied(words, at + 1);
-    }
-    SortNode::Other
 }
 
 // How many words it takes before the sorts inside it.
@@ -77,14 +63,9 @@ pub fn size(node: SortNode) -> usize
     ensures { result ≡ size_of node }
 {
     match node {
-        SortNode::Int => 1,
-        SortNode::Bool => 1,
-        SortNode::Real => 1,
-        SortNode::Str => 1,
-        SortNode::BitVec(_) => 3,
-        SortNode::Array(_) => 3,
-        SortNode::Data(_, _, _) => 5,
-        SortNode::Other => 1,
+        SortNode::BitVec(_) | SortNode::Array(_) => 3,
+        SortNode::Data(_, _) => 5,
+        _ => 1,
     }
 }
 
@@ -93,13 +74,7 @@ pub fn count(node: SortNode) -> u32
     ensures { result ≡ inside_of node }
 {
     match node {
-        SortNode::Int => 0,
-        SortNode::Bool => 0,
-        SortNode::Real => 0,
-        SortNode::Str => 0,
-        SortNode::BitVec(_) => 0,
-        SortNode::Array(n) => n,
-        SortNode::Data(_, _, n) => n,
-        SortNode::Other => 0,
+        SortNode::Array(n) | SortNode::Data(_, n) => n,
+        _ => 0,
     }
 }

@@ -11,15 +11,16 @@ use borrow.Author.Tests.{leb-true, le-leb, lt-leb}
 use Rattle.reading.specs.Limits.{max_func}
 use Rattle.reading.specs.Number.{Wide, value_of}
 use Rattle.reading.specs.Tree.{Tree, Trees, list, tnil, tcons, trees, tree_words, trees_words}
-use Rattle.reading.specs.Answer.{Refusal, Ans, got, bad, and_then, check, malformed, bad_func, over}
+use Rattle.reading.specs.Answer.{Ans, got, bad, and_then, check, malformed, bad_func, over}
 use Rattle.lexing.proofs.Lexing.Parts.{tail}
 use Rattle.grammar.specs.Sort.{Sort, Sorts, scons, sorts, sort_words, funcs, abstracted}
 use Rattle.grammar.specs.ParseSort
 use Rattle.grammar.specs.ParseSort.{in_list, in_atom, in_integer, integer_in, func_number, view_at, each_sort, func_sort}
+use Rattle.sorts.specs.SortNames.{number_in}
 use Rattle.sorts.specs.Rows.{row_words, abs_words}
-use Rattle.sorts.specs.Outcome.{Outcome, wrote, refused}
-use Rattle.words.specs.declared.Answer.{Answer}
-use Rattle.words.specs.declared.Answer.TheVariants.{Done}
+use Rattle.sorts.specs.Outcome.{Gives, Outcome, wrote, refused}
+use Rattle.words.specs.declared.refusal.Refusal.{Refusal}
+use Rattle.std.specs.Prelude.{Result, Ok, Err}
 use Rattle.grammar.proofs.AnswerHolds.{Every}
 use Rattle.sorts.proofs.RowWords.{snoc, funcs-words, abs_words_lem}
 use Rattle.sorts.proofs.ListForms.{view-tree, each_many}
@@ -50,10 +51,10 @@ module _ (text : List ℕ) where
       go (bad e) y z = refl
 
   -- A `func` with so many inputs, by what they and the output are read as.
-  func-goes : (n m : ℕ) (x : Ans Sorts) (z : Ans Sort) {o o' : List ℕ} {r : Answer} → Every x (λ ss. sorts ss ≡ m) → Outcome (λ ss. abs_words 0 n ++ row_words m ss) (and_then x λ ss. and_then z λ c. got (snoc ss c)) o o' r → Outcome sort_words (and_then x λ ss. and_then z λ c. got (abstracted n 0 (funcs ss c))) o o' r
+  func-goes : (n m : ℕ) (x : Ans Sorts) (z : Ans Sort) {o o' : List ℕ} {r : Result ℕ Refusal} → Every x (λ ss. sorts ss ≡ m) → Outcome (λ ss. abs_words 0 n ++ row_words m ss) (and_then x λ ss. and_then z λ c. got (snoc ss c)) o o' r → Outcome sort_words (and_then x λ ss. and_then z λ c. got (abstracted n 0 (funcs ss c))) o o' r
   func-goes n m (got ss) (got c) {o} h (wrote p q) =
       let e : abs_words 0 n ++ row_words m (snoc ss c) ≡ sort_words (abstracted n 0 (funcs ss c)) = sym (abs_words_lem 0 n (funcs ss c) ∙ ap (λ l. abs_words 0 n ++ l) (funcs-words ss c ∙ ap (λ k. row_words k (snoc ss c)) h)) in
-      wrote (p ∙ ap (λ l. Done (length l)) e) (q ∙ ap (λ l. over l o) e)
+      wrote (p ∙ ap (λ l. Ok (length l)) e) (q ∙ ap (λ l. over l o) e)
   func-goes n m (got ss) (bad e) h (refused p) = refused p
   func-goes n m (bad e) z h (refused p) = refused p
 
@@ -110,11 +111,15 @@ module _ (text : List ℕ) (ts : Trees) {ws : List ℕ} (T : Three ws ts) where
 
 module _ (text : List ℕ) (ts : Trees) {ws : List ℕ} (S : Shape text ws ts) where
   -- The number is outside its range.
-  pub func-outside : {e : Refusal} → bad e ≡ func_number (wide_at ws) → func_sort (ParseSort.views text ts) ≡ bad e
-  func-outside q = S.parsed ∙ rw (← q) refl
+  pub func-outside : {o o' : List ℕ} {r : Refusal} → Gives number_in (Err r) (func_number (wide_at ws)) → Outcome sort_words (func_sort (ParseSort.views text ts)) o o' (Err r)
+  func-outside {o} {o'} {r} q = go (func_number (wide_at ws)) refl q
+    where
+      go : (x : Ans ℕ) → func_number (wide_at ws) ≡ x → Gives number_in (Err r) x → Outcome sort_words (func_sort (ParseSort.views text ts)) o o' (Err r)
+      go (got n) e h = absurd h
+      go (bad m) e h = rw (S.parsed, e) (refused (ap Err h))
 
   -- The words of its sorts stand behind those of Abs.
-  pub func-row : {n : ℕ} → got n ≡ func_number (wide_at ws) → {o o' : List ℕ} {r : Answer} → Outcome (λ ss. abs_words 0 n ++ row_words (get_or ws 6 0) ss) (each_sort (ParseSort.views text (snoc_tree S.inputs S.output))) o o' r → Outcome sort_words (func_sort (ParseSort.views text ts)) o o' r
+  pub func-row : {n : ℕ} → got n ≡ func_number (wide_at ws) → {o o' : List ℕ} {r : Result ℕ Refusal} → Outcome (λ ss. abs_words 0 n ++ row_words (get_or ws 6 0) ss) (each_sort (ParseSort.views text (snoc_tree S.inputs S.output))) o o' r → Outcome sort_words (func_sort (ParseSort.views text ts)) o o' r
   func-row {n} q y =
       let e : func_sort (ParseSort.views text ts) ≡ and_then (each_sort (ParseSort.views text S.inputs)) λ ss. and_then (ParseSort.parse_sort text S.output) λ o. got (abstracted n 0 (funcs ss o)) = S.parsed ∙ rw (← q) refl in
       rw e (func-goes text n (trees S.inputs) (each_sort (ParseSort.views text S.inputs)) (ParseSort.parse_sort text S.output) (each_many text S.inputs) (rw (S.many, each_snoc text S.inputs S.output) at y))

@@ -12,25 +12,27 @@ use Rattle.reading.specs.Pick.{pick}
 use Rattle.reading.specs.Bytes.{ascii, same_bytes, begins_with, Span, bytes_at, Maybe, nothing, just, Named, named, lookup}
 use Rattle.reading.specs.Number.{unsigned}
 use Rattle.reading.specs.Tree.{symbol, quoted, integer, decimal, boolean, Tree, Trees, atom, list, tnil, tcons, trees, atom_words, tree_words, trees_words}
-use Rattle.reading.specs.Answer.{Refusal, number, Ans, got, bad, and_then, or_bad, check, malformed}
+use Rattle.reading.specs.Answer.{Refusal as Met, Ans, got, bad, and_then, or_bad, check, malformed}
 use Rattle.reading.proofs.Bytes.{same_equal}
 use Rattle.lexing.proofs.Lexing.Parts.{tail}
 use Rattle.grammar.specs.Sort.{Ctor, c_set, c_map, c_data, Sort, Sorts, s_bit_vec, s_size, s_func, s_app, snil, scons, sorts, ctor_words, sort_words, sorts_words}
 use Rattle.grammar.specs.Names.{plain_sorts, SortForm, func, function, bit_vec, applied, one_sort, two_sorts, three_items}
 use Rattle.grammar.specs.ParseSort
 use Rattle.grammar.specs.ParseSort.{in_symbol, in_atom, symbol_in, size_named, other_sort, sort_table, or_applied, view_at, each_sort, function_sort}
-use Rattle.sorts.specs.SortNames.{row_form}
+use Rattle.sorts.specs.SortNames.{row_form, form_in}
+use Rattle.words.specs.Spans.{as_span}
 use Rattle.sorts.specs.Rows.{row_head, row_words, is_got, ended}
 use Rattle.sorts.specs.Rows
-use Rattle.sorts.specs.Outcome.{Outcome, wrote, refused}
+use Rattle.sorts.specs.Outcome.{Gives, Outcome, wrote, refused}
 use Rattle.sorts.specs.declared.names.Row.{Row}
 use Rattle.sorts.specs.declared.names.Row.TheVariants as row
-use Rattle.words.specs.declared.Answer.{Answer}
-use Rattle.words.specs.declared.Answer.TheVariants.{Done, Refused}
+use Rattle.words.specs.declared.refusal.Refusal.{Refusal}
+use Rattle.std.specs.Prelude.{Result, Ok, Err}
 use Rattle.grammar.proofs.AnswerHolds.{Every, AllRows, IfThere, lookup-holds}
 use Rattle.sorts.proofs.Outcomes.{never, out-map, out-refused}
 use Rattle.sorts.proofs.RowWords.{row_plain}
 use Rattle.reading.proofs.TreeHead.{First, is-symbol, size-symbol}
+use Rattle.words.specs.Refusals.{refusal_of}
 use Rattle.grammar.proofs.TreeHead.{no_symbol}
 
 -- A form has so many items behind its name.
@@ -83,7 +85,7 @@ unfolding plain_sorts begins_with pick
 no_plain w e = lookup-other (ascii "Size") plain_sorts w (refl, (refl, (refl, (refl, (refl, (refl, (refl, (refl, tt)))))))) e
 
 -- What is refused, if it is, and how.
-abbrev pub OnlyBad : {A : Type 0} → Ans A → Refusal → Type 0
+abbrev pub OnlyBad : {A : Type 0} → Ans A → Met → Type 0
 OnlyBad (got a) r = Unit {0}
 OnlyBad (bad e) r = e ≡ r
 
@@ -192,15 +194,15 @@ module _ (text : List ℕ) where
   headed form (tcons (list vs) us) e h = let z : ◌≡◌ {A = ℕ} 0 1 = cc in absurd (omega arith)
 
 -- A list without a form is no sort.
-pub bad-list : (text : List ℕ) (ts : Trees) → bad malformed ≡ Rows.list_form text ts → ParseSort.parse_sort text (list ts) ≡ bad malformed
+pub bad-list : (text : List ℕ) (ts : Trees) {o o' : List ℕ} {r : Refusal} → Gives form_in (Err r) (Rows.list_form text ts) → Outcome sort_words (ParseSort.parse_sort text (list ts)) o o' (Err r)
 unfolding ParseSort.parse_sort ParseSort.view ParseSort.list_sort Rows.list_form in_symbol in_atom symbol_in
-bad-list text tnil h = refl
-bad-list text (tcons (atom (symbol s)) us) h = let z : ◌≡◌ {A = ℕ} 0 1 = cc in absurd (omega arith)
-bad-list text (tcons (atom (quoted s)) us) h = refl
-bad-list text (tcons (atom (integer w)) us) h = refl
-bad-list text (tcons (atom (decimal s)) us) h = refl
-bad-list text (tcons (atom (boolean b)) us) h = refl
-bad-list text (tcons (list vs) us) h = refl
+bad-list text tnil h = refused (ap Err h)
+bad-list text (tcons (atom (symbol s)) us) h = absurd h
+bad-list text (tcons (atom (quoted s)) us) h = refused (ap Err h)
+bad-list text (tcons (atom (integer w)) us) h = refused (ap Err h)
+bad-list text (tcons (atom (decimal s)) us) h = refused (ap Err h)
+bad-list text (tcons (atom (boolean b)) us) h = refused (ap Err h)
+bad-list text (tcons (list vs) us) h = refused (ap Err h)
 
 -- A sort is a size where the tree is one.
 size-sort : (text : List ℕ) (t : Tree) (n : ℕ) → ParseSort.size_of text t ≡ got n → ParseSort.parse_sort text t ≡ got (s_size n)
@@ -224,24 +226,33 @@ of_size text (atom (boolean b)) = refl
 of_size text (list ts) = refl
 
 -- `(function in out)`, by what its two sorts are read as.
-function-goes : (x y : Ans Sort) {o o' : List ℕ} {r : Answer} → Outcome (λ ss. (8 ∷ []) ++ row_words 0 ss) (and_then x λ s. and_then (and_then y λ t. got (scons t snil)) λ ss. got (scons s ss)) o o' r → Outcome sort_words (and_then x λ s. and_then y λ t. got (s_func s t)) o o' r
+function-goes : (x y : Ans Sort) {o o' : List ℕ} {r : Result ℕ Refusal} → Outcome (λ ss. (8 ∷ []) ++ row_words 0 ss) (and_then x λ s. and_then (and_then y λ t. got (scons t snil)) λ ss. got (scons s ss)) o o' r → Outcome sort_words (and_then x λ s. and_then y λ t. got (s_func s t)) o o' r
 unfolding row_words sort_words
 function-goes (got s) (got t) (wrote p q) = wrote (rw (append-nil (sort_words t)) at p) (rw (append-nil (sort_words t)) at q)
 function-goes (got s) (bad e) (refused p) = refused p
 function-goes (bad e) y (refused p) = refused p
 
 -- `(BitVec SIZE)`, by whether its item is a size: then it is read as one.
-bitvec_goes : (z : Ans ℕ) (x : Ans Sort) → OnlyBad z malformed → ((n : ℕ) → z ≡ got n → x ≡ got (s_size n)) → {o o' : List ℕ} {v : ℕ} → Outcome (λ ss. (5 ∷ []) ++ row_words 0 ss) (and_then x λ s. got (scons s snil)) o o' (Done v) → Outcome sort_words (and_then (and_then x λ s. got (scons s snil)) λ _. and_then z λ width. got (s_bit_vec (s_size width))) o o' (ended (is_got z) v)
+bitvec_goes : (z : Ans ℕ) (x : Ans Sort) → OnlyBad z malformed → ((n : ℕ) → z ≡ got n → x ≡ got (s_size n)) → {o o' : List ℕ} {v : ℕ} → Outcome (λ ss. (5 ∷ []) ++ row_words 0 ss) (and_then x λ s. got (scons s snil)) o o' (Ok v) → Outcome sort_words (and_then (and_then x λ s. got (scons s snil)) λ _. and_then z λ width. got (s_bit_vec (s_size width))) o o' (ended (is_got z) v)
 unfolding row_words sort_words
 bitvec_goes (got n) x h k y = sized-goes (k n refl) y
   where
-    sized-goes : {o o' : List ℕ} {v : ℕ} → x ≡ got (s_size n) → Outcome (λ ss. (5 ∷ []) ++ row_words 0 ss) (and_then x λ s. got (scons s snil)) o o' (Done v) → Outcome sort_words (and_then (and_then x λ s. got (scons s snil)) λ _. got (s_bit_vec (s_size n))) o o' (Done v)
+    sized-goes : {o o' : List ℕ} {v : ℕ} → x ≡ got (s_size n) → Outcome (λ ss. (5 ∷ []) ++ row_words 0 ss) (and_then x λ s. got (scons s snil)) o o' (Ok v) → Outcome sort_words (and_then (and_then x λ s. got (scons s snil)) λ _. got (s_bit_vec (s_size n))) o o' (Ok v)
     sized-goes e y = rw e (same (rw e at y))
       where
-        same : {o o' : List ℕ} {v : ℕ} → Outcome (λ ss. (5 ∷ []) ++ row_words 0 ss) (got (scons (s_size n) snil)) o o' (Done v) → Outcome sort_words (got (s_bit_vec (s_size n))) o o' (Done v)
+        same : {o o' : List ℕ} {v : ℕ} → Outcome (λ ss. (5 ∷ []) ++ row_words 0 ss) (got (scons (s_size n) snil)) o o' (Ok v) → Outcome sort_words (got (s_bit_vec (s_size n))) o o' (Ok v)
         same (wrote p q) = wrote p q
-bitvec_goes (bad e) (got s) h k y = refused (ap (λ c. Refused (number c)) (sym h))
+bitvec_goes (bad e) (got s) h k y = refused (ap (λ c. Err (refusal_of c)) (sym h))
 bitvec_goes (bad e) (bad c) h k (refused p) = never refl p
+
+-- The sorts of a list that is no bit vector are as they are.
+pub plain-row : (text : List ℕ) (r : Row) (ts : Trees) {n : ℕ} → (r ≡ row.BitVec → ⊥) → ◌≡◌ {A = Result ℕ Refusal} (Ok n) (ended (Rows.judged text (row_form r) ts) n)
+unfolding Rows.judged
+plain-row text row.Function ts h = refl
+plain-row text row.BitVec ts h = absurd (h refl)
+plain-row text row.Set ts h = refl
+plain-row text row.Map ts h = refl
+plain-row text (row.Data s) ts h = refl
 
 -- What stands before the sorts of a list is short.
 pub head-short : (r : Row) (n : ℕ) → length (row_head (row_form r) n) ≤ 5
@@ -249,11 +260,11 @@ head-short row.Function n = omega arith
 head-short row.BitVec n = omega arith
 head-short row.Set n = omega arith
 head-short row.Map n = omega arith
-head-short (row.Data s l) n = omega arith
+head-short (row.Data s) n = omega arith
 
 module _ (text : List ℕ) where
   -- A constructor applied to its sorts.
-  app-goes : (c : Ctor) (us : Trees) {o o' : List ℕ} {r : Answer} → Outcome (λ ss. row_head (applied c) (trees us) ++ row_words 0 ss) (each_sort (ParseSort.views text us)) o o' r → Outcome sort_words (ParseSort.form_sort text (applied c) (ParseSort.views text us)) o o' r
+  app-goes : (c : Ctor) (us : Trees) {o o' : List ℕ} {r : Result ℕ Refusal} → Outcome (λ ss. row_head (applied c) (trees us) ++ row_words 0 ss) (each_sort (ParseSort.views text us)) o o' r → Outcome sort_words (ParseSort.form_sort text (applied c) (ParseSort.views text us)) o o' r
   unfolding ParseSort.form_sort sort_words
   app-goes c us y = out-map (each_sort (ParseSort.views text us)) (s_app c) (go (each_sort (ParseSort.views text us)) (each_many text us)) y
     where
@@ -262,7 +273,7 @@ module _ (text : List ℕ) where
       go (bad e) h = tt
 
   -- A row of sorts was read behind what stands before them: the list's sort, once it is judged.
-  pub row_done : (r : Row) (us : Trees) {o o' : List ℕ} {v : ℕ} → HasItems (row_form r) (trees us) → Outcome (λ ss. row_head (row_form r) (trees us) ++ row_words 0 ss) (each_sort (ParseSort.views text us)) o o' (Done v) → Outcome sort_words (ParseSort.form_sort text (row_form r) (ParseSort.views text us)) o o' (ended (Rows.judged text (row_form r) us) v)
+  pub row_done : (r : Row) (us : Trees) {o o' : List ℕ} {v : ℕ} → HasItems (row_form r) (trees us) → Outcome (λ ss. row_head (row_form r) (trees us) ++ row_words 0 ss) (each_sort (ParseSort.views text us)) o o' (Ok v) → Outcome sort_words (ParseSort.form_sort text (row_form r) (ParseSort.views text us)) o o' (ended (Rows.judged text (row_form r) us) v)
   unfolding ParseSort.form_sort ParseSort.parse_sort Rows.judged Rows.is_size function_sort ParseSort.bit_vec_sort view_at ParseSort.view each_sort trees
   row_done row.Function tnil h y = let z : ◌≡◌ {A = ℕ} 0 2 = h in absurd (omega arith)
   row_done row.Function (tcons a tnil) h y = let z : ◌≡◌ {A = ℕ} 1 2 = h in absurd (omega arith)
@@ -274,10 +285,10 @@ module _ (text : List ℕ) where
   row_done row.BitVec (tcons a (tcons b us)) h y = let z : suc (suc (trees us)) ≡ 1 = h in absurd (omega arith)
   row_done row.Set us h y = app-goes c_set us y
   row_done row.Map us h y = app-goes c_map us y
-  row_done (row.Data s l) us h y = app-goes (c_data (record { start = s; len = l })) us y
+  row_done (row.Data s) us h y = app-goes (c_data (as_span s)) us y
 
   -- One of them was refused.
-  pub row-refused : (r : Row) (us : Trees) {o o' : List ℕ} {k : ℕ} → HasItems (row_form r) (trees us) → Outcome (λ ss. row_head (row_form r) (trees us) ++ row_words 0 ss) (each_sort (ParseSort.views text us)) o o' (Refused k) → Outcome sort_words (ParseSort.form_sort text (row_form r) (ParseSort.views text us)) o o' (Refused k)
+  pub row-refused : (r : Row) (us : Trees) {o o' : List ℕ} {k : Refusal} → HasItems (row_form r) (trees us) → Outcome (λ ss. row_head (row_form r) (trees us) ++ row_words 0 ss) (each_sort (ParseSort.views text us)) o o' (Err k) → Outcome sort_words (ParseSort.form_sort text (row_form r) (ParseSort.views text us)) o o' (Err k)
   unfolding ParseSort.form_sort function_sort view_at ParseSort.view each_sort trees
   row-refused row.Function tnil h y = let z : ◌≡◌ {A = ℕ} 0 2 = h in absurd (omega arith)
   row-refused row.Function (tcons a tnil) h y = let z : ◌≡◌ {A = ℕ} 1 2 = h in absurd (omega arith)
@@ -286,4 +297,4 @@ module _ (text : List ℕ) where
   row-refused row.BitVec us h y = out-refused (each_sort (ParseSort.views text us)) (λ _. ParseSort.bit_vec_sort text (ParseSort.views text us)) y refl
   row-refused row.Set us h y = app-goes c_set us y
   row-refused row.Map us h y = app-goes c_map us y
-  row-refused (row.Data s l) us h y = app-goes (c_data (record { start = s; len = l })) us y
+  row-refused (row.Data s) us h y = app-goes (c_data (as_span s)) us y

@@ -8,13 +8,11 @@ use lib.Dec.{ltb}
 use lib.ListN.{length, get_or, take, drop}
 use lib.Seq.{get_or-take}
 use borrow.Author.Tests.{eq-eqb, ne_eqb, ltb-true, ltb-false}
+use Rattle.std.specs.Option.{is_some}
 use Rattle.reading.specs.Pick.{pick}
 use Rattle.reading.specs.Bytes.{ascii, begins_with, Span, bytes_at, Maybe, nothing, just, Named, lookup}
 use Rattle.reading.specs.Number.{unsigned}
-use Rattle.lexing.specs.Quads.{as_word32, as_word64}
-use Rattle.lexing.specs.declared.number.Word32.{Word32}
-use Rattle.lexing.specs.declared.number.Word64.{Word64}
-use Rattle.lexing.specs.declared.number.Word64.TheVariants as word64
+use Rattle.lexing.specs.Quads.{as_word}
 use Rattle.reading.specs.Tree.{Tree, Trees, tnil, tcons, tree_words, trees_words}
 use Rattle.reading.specs.Answer.{got, bad, or_bad, malformed, over}
 use Rattle.reading.proofs.Picks.{pick_true, pick-false}
@@ -28,9 +26,10 @@ use Rattle.sorts.specs.SortNames.{width_in}
 use Rattle.sorts.specs.Rows.{is_got}
 use Rattle.sorts.specs.Rows
 use Rattle.sorts.specs.Outcome.{Outcome, wrote, refused}
-use Rattle.words.specs.declared.Answer.{Answer}
-use Rattle.words.specs.declared.Answer.TheVariants.{Done, Refused}
+use Rattle.words.specs.declared.refusal.Refusal.{Refusal}
+use Rattle.std.specs.Prelude.{Option, Some, None, Result, Ok, Err}
 use Rattle.reading.proofs.TreeHead.{is-symbol, size-symbol}
+use Rattle.words.specs.declared.refusal.Refusal.TheVariants.{Malformed}
 use Rattle.grammar.proofs.TreeHead.{no_symbol}
 
 -- The table for so many items.
@@ -52,7 +51,7 @@ module _ (n : ℕ) where
   table_none h k l = sym (pick-false _ (ne_eqb n 1 h) (pick-false _ (ne_eqb n 2 k) (pick-false _ (ne_eqb n 3 l) refl)))
 
 -- A form is looked up in the table for its items.
-pub form-by : (text : List ℕ) (s : Span) (n : ℕ) (rows : List (Named SortForm)) {w : List ℕ} → w ≡ bytes_at text s → sort_table n ≡ rows → got (or_applied s (lookup rows w)) ≡ got (ParseSort.sort_form text s n)
+pub form-by : (text : List ℕ) (s : Span) (n : ℕ) (rows : List (Named SortForm)) {w : List ℕ} → w ≡ bytes_at text s → sort_table n ≡ rows → or_applied s (lookup rows w) ≡ ParseSort.sort_form text s n
 unfolding ParseSort.sort_form
 form-by text s n rows e h = rw (e, h) refl
 
@@ -62,26 +61,26 @@ module _ (w : List ℕ) where
   unfolding size_named
   size-not e = rw e refl
 
-  pub size_is : {r : Word32} → begins_with (ascii "Size") w ≡ true → r ≡ as_word32 (unsigned 10 (2 ^ 32) (take (length w - 4) (drop 4 w))) → or_bad malformed (width_in r) ≡ size_named w
+  pub size_is : {r : Option ℕ} → begins_with (ascii "Size") w ≡ true → r ≡ as_word (unsigned 10 (2 ^ 32) (take (length w - 4) (drop 4 w))) → or_bad malformed (width_in r) ≡ size_named w
   unfolding size_named
   size_is e h = rw (h, e, tail w 4) (go (unsigned 10 (2 ^ 32) (drop 4 w)))
     where
-      go : (m : Maybe ℕ) → or_bad malformed (width_in (as_word32 m)) ≡ or_bad malformed m
+      go : (m : Maybe ℕ) → or_bad malformed (width_in (as_word m)) ≡ or_bad malformed m
       go nothing = refl
       go (just n) = refl
 
   -- The index of `@(`, a number and `)`.
-  pub index-not : begins_with (ascii "@(") w ≡ false → word64.No ≡ as_word64 (index_named w)
+  pub index-not : begins_with (ascii "@(") w ≡ false → None ≡ as_word (index_named w)
   unfolding index_named
-  index-not e = ap as_word64 (pick-false _ e refl)
+  index-not e = ap as_word (pick-false _ e refl)
 
   module _ (e : begins_with (ascii "@(") w ≡ true) where
     pub index-long : 2 ≤ length w
     index-long = begins-length (ascii "@(") w e
 
-    pub index_bare : (get_or w (length w - 1) 0 ≡ 41 → ⊥) → word64.No ≡ as_word64 (index_named w)
+    pub index_bare : (get_or w (length w - 1) 0 ≡ 41 → ⊥) → None ≡ as_word (index_named w)
     unfolding index_named
-    index_bare h = ap as_word64 (pick_true _ e (pick-false _ (ne_eqb _ _ h) refl))
+    index_bare h = ap as_word (pick_true _ e (pick-false _ (ne_eqb _ _ h) refl))
 
     -- The second byte is `(`, so a last one that is `)` is another.
     pub index-three : get_or w (length w - 1) 0 ≡ 41 → 3 ≤ length w
@@ -97,11 +96,11 @@ module _ (w : List ℕ) where
             absurd (omega (arith, k, second))
         three false q = ltb-false (length w) 3 q
 
-    pub index_is : {r : Word64} → get_or w (length w - 1) 0 ≡ 41 → r ≡ as_word64 (unsigned 10 (2 ^ 64) (take (length w - 1 - 2) (drop 2 w))) → r ≡ as_word64 (index_named w)
+    pub index_is : {r : Option ℕ} → get_or w (length w - 1) 0 ≡ 41 → r ≡ as_word (unsigned 10 (2 ^ 64) (take (length w - 1 - 2) (drop 2 w))) → r ≡ as_word (index_named w)
     unfolding index_named
     index_is h q =
         let n : length w - 1 - 2 ≡ length w - 3 = omega arith in
-        q ∙ rw n (ap as_word64 (pick_true _ e (pick_true _ (eq-eqb _ _ h) refl)))
+        q ∙ rw n (ap as_word (pick_true _ e (pick_true _ (eq-eqb _ _ h) refl)))
 
 -- Whether the first tree is a size, by its words.
 module _ (text : List ℕ) where
@@ -119,48 +118,52 @@ module _ (text : List ℕ) where
   size-short tnil e h = size-other tnil e (λ k. let z : ◌≡◌ {A = ℕ} 0 16 = rw e at k in omega arith)
   size-short (tcons t us) {ws} e h = size-other (tcons t us) e (λ k. omega (arith, (size-symbol (trees_words us) t e k).0))
 
-  pub size-told : (ts : Trees) {ws : List ℕ} (r : Word32) → ws ≡ trees_words ts → 3 ≤ length ws → get_or ws 0 0 ≡ 16 → or_bad malformed (width_in r) ≡ size_named (bytes_at text (record { start = get_or ws 1 0; len = get_or ws 2 0 })) → is_got (or_bad malformed (width_in r)) ≡ Rows.is_size text ts
+  pub size-told : (ts : Trees) {ws : List ℕ} (r : Option ℕ) → ws ≡ trees_words ts → 3 ≤ length ws → get_or ws 0 0 ≡ 16 → or_bad malformed (width_in r) ≡ size_named (bytes_at text (record { start = get_or ws 1 0; len = get_or ws 2 0 })) → is_some r ≡ Rows.is_size text ts
   unfolding Rows.is_size tree_words ParseSort.size_of in_symbol in_atom symbol_in
   size-told tnil r e l h q = absurd (omega (arith, ap length e))
-  size-told (tcons t us) r e l h q = rw (is-symbol (trees_words us) t e h, ← q) refl
+  size-told (tcons t us) r e l h q = rw (is-symbol (trees_words us) t e h, ← q) (there r)
+    where
+      there : (r : Option ℕ) → is_some r ≡ is_got (or_bad malformed (width_in r))
+      there (Some n) = refl
+      there None = refl
 
 -- A symbol as a sort, by what is found out about its name.
 module _ (w : List ℕ) (s : Span) (o m : List ℕ) where
   -- It begins with `Size`.
   module _ (e : begins_with (ascii "Size") w ≡ true) where
-    pub other-size : {n k : ℕ} → got n ≡ size_named w → k ≡ 2 → m ≡ over (6 ∷ n ∷ []) o → Outcome sort_words (other_sort w s nothing) o m (Done k)
+    pub other-size : {n k : ℕ} → got n ≡ size_named w → k ≡ 2 → m ≡ over (6 ∷ n ∷ []) o → Outcome sort_words (other_sort w s nothing) o m (Ok k)
     unfolding other_sort pick sort_words
-    other-size q c h = rw (e, ← q) (wrote (ap Done c) h)
+    other-size q c h = rw (e, ← q) (wrote (ap Ok c) h)
 
-    pub other-bad : bad malformed ≡ size_named w → Outcome sort_words (other_sort w s nothing) o m (Refused 8)
+    pub other-bad : bad malformed ≡ size_named w → Outcome sort_words (other_sort w s nothing) o m (Err Malformed)
     unfolding other_sort pick
     other-bad q = rw (e, ← q) (refused refl)
 
   -- It does not.
   module _ (e : begins_with (ascii "Size") w ≡ false) where
-    pub other-var : {i k : ℕ} → word64.Is i ≡ as_word64 (index_named w) → k ≡ 3 → m ≡ over (7 ∷ two i) o → Outcome sort_words (other_sort w s nothing) o m (Done k)
+    pub other-var : {i k : ℕ} → Some i ≡ as_word (index_named w) → k ≡ 3 → m ≡ over (7 ∷ two i) o → Outcome sort_words (other_sort w s nothing) o m (Ok k)
     unfolding other_sort pick sort_words
     other-var {i} {k} q c h = rw e (go (index_named w) q)
       where
-        go : (x : Maybe ℕ) → word64.Is i ≡ as_word64 x → Outcome sort_words (got (ParseSort.or_data s x)) o m (Done k)
+        go : (x : Maybe ℕ) → Some i ≡ as_word x → Outcome sort_words (got (ParseSort.or_data s x)) o m (Ok k)
         go nothing z = let y : ◌≡◌ {A = ℕ} 0 1 = cc in absurd (omega arith)
-        go (just j) z = let y : i ≡ j = cc in wrote (ap Done c) (h ∙ ap (λ n. over (7 ∷ two n) o) y)
+        go (just j) z = let y : i ≡ j = cc in wrote (ap Ok c) (h ∙ ap (λ n. over (7 ∷ two n) o) y)
 
-    pub other_data : {k : ℕ} → word64.No ≡ as_word64 (index_named w) → k ≡ 5 → m ≡ over (10 ∷ 2 ∷ s.start ∷ s.len ∷ 0 ∷ []) o → Outcome sort_words (other_sort w s nothing) o m (Done k)
+    pub other_data : {k : ℕ} → None ≡ as_word (index_named w) → k ≡ 5 → m ≡ over (10 ∷ 2 ∷ s.start ∷ s.len ∷ 0 ∷ []) o → Outcome sort_words (other_sort w s nothing) o m (Ok k)
     unfolding other_sort pick sort_words sorts
     other_data {k} q c h = rw e (go (index_named w) q)
       where
-        go : (x : Maybe ℕ) → word64.No ≡ as_word64 x → Outcome sort_words (got (ParseSort.or_data s x)) o m (Done k)
-        go nothing z = wrote (ap Done c) h
+        go : (x : Maybe ℕ) → None ≡ as_word x → Outcome sort_words (got (ParseSort.or_data s x)) o m (Ok k)
+        go nothing z = wrote (ap Ok c) h
         go (just j) z = let y : ◌≡◌ {A = ℕ} 0 1 = cc in absurd (omega arith)
 
 module _ (text : List ℕ) (s : Span) (o m : List ℕ) {w : List ℕ} (e : w ≡ bytes_at text s) where
   -- A plain sort.
-  pub symbol-plain : (p : Sort) (code : ℕ) {k : ℕ} → just p ≡ lookup plain_sorts w → sort_words p ≡ code ∷ [] → k ≡ 1 → m ≡ over (code ∷ []) o → Outcome sort_words (ParseSort.symbol_sort text s) o m (Done k)
+  pub symbol-plain : (p : Sort) (code : ℕ) {k : ℕ} → just p ≡ lookup plain_sorts w → sort_words p ≡ code ∷ [] → k ≡ 1 → m ≡ over (code ∷ []) o → Outcome sort_words (ParseSort.symbol_sort text s) o m (Ok k)
   unfolding ParseSort.symbol_sort other_sort
-  symbol-plain p code q h c z = rw (← e, ← q) (wrote (ap Done (c ∙ ap length (sym h))) (z ∙ ap (λ l. over l o) (sym h)))
+  symbol-plain p code q h c z = rw (← e, ← q) (wrote (ap Ok (c ∙ ap length (sym h))) (z ∙ ap (λ l. over l o) (sym h)))
 
   -- Another name.
-  pub symbol-other : {r : Answer} → nothing ≡ lookup plain_sorts w → Outcome sort_words (other_sort w s nothing) o m r → Outcome sort_words (ParseSort.symbol_sort text s) o m r
+  pub symbol-other : {r : Result ℕ Refusal} → nothing ≡ lookup plain_sorts w → Outcome sort_words (other_sort w s nothing) o m r → Outcome sort_words (ParseSort.symbol_sort text s) o m r
   unfolding ParseSort.symbol_sort
   symbol-other q y = rw (← e, ← q) y

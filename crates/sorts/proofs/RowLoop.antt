@@ -14,8 +14,8 @@ use Rattle.grammar.specs.ParseSort
 use Rattle.grammar.specs.ParseSort.{each_sort}
 use Rattle.sorts.specs.Rows.{mark, row_words}
 use Rattle.sorts.specs.Outcome.{Outcome, wrote, refused}
-use Rattle.words.specs.declared.Answer.{Answer}
-use Rattle.words.specs.declared.Answer.TheVariants.{Done, Refused}
+use Rattle.words.specs.declared.refusal.Refusal.{Refusal}
+use Rattle.std.specs.Prelude.{Result, Ok, Err}
 use Rattle.grammar.proofs.AnswerHolds.{Every, map-every}
 use Rattle.grammar.proofs.SortOf.{SortOf, SortsOf, sort_of_lem, sorts_of_lem}
 use Rattle.sorts.proofs.RowWords.{mark-short, row_cons, row-short}
@@ -25,21 +25,21 @@ use Rattle.reading.proofs.TreeHead.{tree-two, Split, split, no-trees, first-word
 
 -- How many words the sort of a tree and a mark have at most, and the sorts of trees with their marks.
 module _ (text : List ℕ) where
-  pub sort-short : (t : Tree) {o o' : List ℕ} {r : Answer} {v : ℕ} → Outcome sort_words (ParseSort.parse_sort text t) o o' r → r ≡ Done v → v + 1 ≤ 16 * length (tree_words t)
+  pub sort-short : (t : Tree) {o o' : List ℕ} {r : Result ℕ Refusal} {v : ℕ} → Outcome sort_words (ParseSort.parse_sort text t) o o' r → r ≡ Ok v → v + 1 ≤ 16 * length (tree_words t)
   sort-short t {o} {o'} {r} {v} y e = go (ParseSort.parse_sort text t) (sort_of_lem text t) y
     where
       go : (x : Ans Sort) → Every x (SortOf t) → Outcome sort_words x o o' r → v + 1 ≤ 16 * length (tree_words t)
       go (got s) h (wrote p q) = omega (arith, h.short, same_count e p)
       go (bad c) h (refused p) = never e p
 
-  pub row-bound : (m : ℕ) (ts : Trees) {o o' : List ℕ} {r : Answer} {v : ℕ} → Outcome (row_words m) (each_sort (ParseSort.views text ts)) o o' r → r ≡ Done v → v ≤ 16 * length (trees_words ts)
+  pub row-bound : (m : ℕ) (ts : Trees) {o o' : List ℕ} {r : Result ℕ Refusal} {v : ℕ} → Outcome (row_words m) (each_sort (ParseSort.views text ts)) o o' r → r ≡ Ok v → v ≤ 16 * length (trees_words ts)
   row-bound m ts y e = done-short (each_sort (ParseSort.views text ts)) (16 * length (trees_words ts)) y e (map-every (each_sort (ParseSort.views text ts)) (SortsOf ts) (λ ss. length (row_words m ss) ≤ 16 * length (trees_words ts)) (λ ss h. omega (arith, h.short, row-short m ss)) (sorts_of_lem text ts))
 
 -- One sort more behind the words that are written.
-step_row : (left : ℕ) (s : Sort) (ws : List ℕ) (x : Ans Sorts) {o o' : List ℕ} {r : Answer} → Outcome (λ ss. (ws ++ (mark left ++ sort_words s)) ++ row_words (left - 1) ss) x o o' r → Outcome (λ ss. ws ++ row_words left ss) (and_then x λ ss. got (scons s ss)) o o' r
+step_row : (left : ℕ) (s : Sort) (ws : List ℕ) (x : Ans Sorts) {o o' : List ℕ} {r : Result ℕ Refusal} → Outcome (λ ss. (ws ++ (mark left ++ sort_words s)) ++ row_words (left - 1) ss) x o o' r → Outcome (λ ss. ws ++ row_words left ss) (and_then x λ ss. got (scons s ss)) o o' r
 step_row left s ws (got ss) {o} (wrote p q) =
     let e : (ws ++ (mark left ++ sort_words s)) ++ row_words (left - 1) ss ≡ ws ++ row_words left (scons s ss) = append_assoc ws (mark left ++ sort_words s) (row_words (left - 1) ss) ∙ ap (λ l. ws ++ l) (append_assoc (mark left) (sort_words s) (row_words (left - 1) ss) ∙ sym (row_cons left s ss)) in
-    wrote (p ∙ ap (λ l. Done (length l)) e) (q ∙ ap (λ l. over l o) e)
+    wrote (p ∙ ap (λ l. Ok (length l)) e) (q ∙ ap (λ l. over l o) e)
 step_row left s ws (bad e) (refused p) = refused p
 
 -- The first of some trees is read first.
@@ -55,7 +55,7 @@ pub record Left (text : List ℕ) (ts : Trees) (items : List ℕ) (m : ℕ) (o :
   pub count : w ≡ length before
   pub wrote : out ≡ over before o
   pub room : w ≤ 16 * at
-  pub goes : (o'' : List ℕ) (r : Answer) → Outcome (λ ss. before ++ row_words left ss) (each_sort (ParseSort.views text rest)) o o'' r → Outcome (row_words m) (each_sort (ParseSort.views text ts)) o o'' r
+  pub goes : (o'' : List ℕ) (r : Result ℕ Refusal) → Outcome (λ ss. before ++ row_words left ss) (each_sort (ParseSort.views text rest)) o o'' r → Outcome (row_words m) (each_sort (ParseSort.views text ts)) o o'' r
 
 -- The first of the trees that are left at a place, where k is how many words it has, and the words that are lent of it.
 pub record Turn (items : List ℕ) (at k : ℕ) (rest : Trees) : Type 0 where
@@ -90,27 +90,27 @@ module _ (text : List ℕ) (ts : Trees) (items : List ℕ) (m : ℕ) (o : List �
 
   module _ (at w left : ℕ) (out : List ℕ) (p : Left text ts items m o at w left out) where
     -- All is read.
-    pub left_end : length items ≤ at → Outcome (row_words m) (each_sort (ParseSort.views text ts)) o out (Done w)
+    pub left_end : length items ≤ at → Outcome (row_words m) (each_sort (ParseSort.views text ts)) o out (Ok w)
     unfolding each_sort ParseSort.view row_words
-    left_end h = p.goes out (Done w) (ended p.rest (no-trees p.rest p.words (omega (arith, length-drop at items))))
+    left_end h = p.goes out (Ok w) (ended p.rest (no-trees p.rest p.words (omega (arith, length-drop at items))))
       where
-        ended : (us : Trees) → us ≡ tnil → Outcome (λ ss. p.before ++ row_words left ss) (each_sort (ParseSort.views text us)) o out (Done w)
-        ended us e = rw e (wrote (ap Done (p.count ∙ ap length (sym (append-nil p.before)))) (p.wrote ∙ ap (λ l. over l o) (sym (append-nil p.before))))
+        ended : (us : Trees) → us ≡ tnil → Outcome (λ ss. p.before ++ row_words left ss) (each_sort (ParseSort.views text us)) o out (Ok w)
+        ended us e = rw e (wrote (ap Ok (p.count ∙ ap length (sym (append-nil p.before)))) (p.wrote ∙ ap (λ l. over l o) (sym (append-nil p.before))))
 
     module _ (q : Split (drop at items) p.rest) where
       rest-is : (x : Ans Sort) → ParseSort.parse_sort text q.first ≡ x → each_sort (ParseSort.views text p.rest) ≡ and_then x λ s. and_then (each_sort (ParseSort.views text q.others)) λ ss. got (scons s ss)
       rest-is x e = ap (λ us. each_sort (ParseSort.views text us)) q.is ∙ each_cons text q.first q.others x e
 
       -- The next tree is refused.
-      pub left-refused : {o₁ ys z : List ℕ} {r : Answer} {k : ℕ} → Outcome sort_words (ParseSort.parse_sort text q.first) o₁ ys r → r ≡ Refused k → Outcome (row_words m) (each_sort (ParseSort.views text ts)) o z (Refused k)
+      pub left-refused : {o₁ ys z : List ℕ} {r : Result ℕ Refusal} {k : Refusal} → Outcome sort_words (ParseSort.parse_sort text q.first) o₁ ys r → r ≡ Err k → Outcome (row_words m) (each_sort (ParseSort.views text ts)) o z (Err k)
       left-refused {o₁} {ys} {z} {r} {k} y e = go (ParseSort.parse_sort text q.first) refl y
         where
-          go : (x : Ans Sort) → ParseSort.parse_sort text q.first ≡ x → Outcome sort_words x o₁ ys r → Outcome (row_words m) (each_sort (ParseSort.views text ts)) o z (Refused k)
+          go : (x : Ans Sort) → ParseSort.parse_sort text q.first ≡ x → Outcome sort_words x o₁ ys r → Outcome (row_words m) (each_sort (ParseSort.views text ts)) o z (Err k)
           go (got s) i (wrote a b) = never a e
-          go (bad c) i (refused a) = p.goes z (Refused k) (rw (rest-is (bad c) i) (refused (sym e ∙ a)))
+          go (bad c) i (refused a) = p.goes z (Err k) (rw (rest-is (bad c) i) (refused (sym e ∙ a)))
 
       -- The next tree is read.
-      pub left-more : (m₁ ys : List ℕ) (next f k : ℕ) {r : Answer} {v : ℕ} → next ≡ w + length (mark left) → m₁ ≡ sets out w (mark left) → f ≡ min next (length m₁) → k ≡ length (tree_words q.first) → Outcome sort_words (ParseSort.parse_sort text q.first) (take (length m₁ - f) (drop f m₁)) ys r → r ≡ Done v → Left text ts items m o (at + k) (next + v) (left - 1) (take f m₁ ++ (ys ++ drop (length m₁ - f) (drop f m₁)))
+      pub left-more : (m₁ ys : List ℕ) (next f k : ℕ) {r : Result ℕ Refusal} {v : ℕ} → next ≡ w + length (mark left) → m₁ ≡ sets out w (mark left) → f ≡ min next (length m₁) → k ≡ length (tree_words q.first) → Outcome sort_words (ParseSort.parse_sort text q.first) (take (length m₁ - f) (drop f m₁)) ys r → r ≡ Ok v → Left text ts items m o (at + k) (next + v) (left - 1) (take f m₁ ++ (ys ++ drop (length m₁ - f) (drop f m₁)))
       left-more m₁ ys next f k {r} {v} n g b h y e = go (ParseSort.parse_sort text q.first) refl (sort-short text q.first y e) y
         where
           go : (x : Ans Sort) → ParseSort.parse_sort text q.first ≡ x → v + 1 ≤ 16 * length (tree_words q.first) → Outcome sort_words x (take (length m₁ - f) (drop f m₁)) ys r → Left text ts items m o (at + k) (next + v) (left - 1) (take f m₁ ++ (ys ++ drop (length m₁ - f) (drop f m₁)))

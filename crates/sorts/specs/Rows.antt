@@ -1,12 +1,12 @@
 -- List sorts as the code reads them: words in front of a row of sorts, and what is judged behind it.
-use Rattle.std.specs.Prelude.{ℕ, zero, suc, Bool, true, false, List, [], ◌∷◌, ◌++◌}
+use Rattle.std.specs.Prelude.{ℕ, zero, suc, Bool, true, false, List, [], ◌∷◌, ◌++◌, Result, Ok, Err}
 use Rattle.reading.specs.Tree.{Trees, tnil, tcons, trees}
-use Rattle.reading.specs.Answer.{number, Ans, got, bad, and_then, malformed}
+use Rattle.reading.specs.Answer.{Ans, got, bad, and_then, malformed}
 use Rattle.grammar.specs.Sort.{Sorts, snil, scons, ctor_words, sort_words}
 use Rattle.grammar.specs.Names.{SortForm, func, function, bit_vec, applied}
 use Rattle.grammar.specs.ParseSort.{in_symbol, size_of, sort_form}
-use Rattle.words.specs.declared.Answer.{Answer}
-use Rattle.words.specs.declared.Answer.TheVariants.{Done, Refused}
+use Rattle.words.specs.declared.refusal.Refusal.{Refusal}
+use Rattle.words.specs.declared.refusal.Refusal.TheVariants.{Malformed}
 
 -- What stands before the first of some sorts, the first m of which are inputs of functions.
 abbrev pub mark : ℕ → List ℕ
@@ -37,9 +37,9 @@ is_got (got a) = true
 is_got (bad r) = false
 
 -- The answer by a judgement of the sorts that were read.
-abbrev pub ended : Bool → ℕ → Answer
-ended true n = Done n
-ended false n = Refused (number malformed)
+abbrev pub ended : Bool → ℕ → Result ℕ Refusal
+ended true n = Ok n
+ended false n = Err Malformed
 
 module _ (text : List ℕ) where
   -- How a list is read, by its first item.

@@ -11,6 +11,7 @@ use crate::names::Row;
 use words::number::{high, low};
 use words::output::put;
 use words::sort_kinds::{ABS, APP, BIT_VEC, DATA, FUNC, MAP, SET, SIZE, VAR};
+use words::span::Span;
 
 // One word, as of a sort that is a name.
 pub fn put_one(out: &mut [u32], code: u32) -> usize
@@ -40,13 +41,13 @@ pub fn put_var(out: &mut [u32], index: u64) -> usize
 }
 
 // What stands before n sorts behind a constructor of the user's.
-pub fn put_data(out: &mut [u32], start: u32, len: u32, n: u32) -> usize
-    ensures { (result ≡ 5) × (out.new ≡ over (10 ∷ 2 ∷ start ∷ len ∷ n ∷ []) out.old) }
+pub fn put_data(out: &mut [u32], name: Span, n: u32) -> usize
+    ensures { (result ≡ 5) × (out.new ≡ over (10 ∷ 2 ∷ name.start ∷ name.len ∷ n ∷ []) out.old) }
 {
     put(out, 0, APP);
     put(out, 1, DATA);
-    put(out, 2, start);
-    put(out, 3, len);
+    put(out, 2, name.start);
+    put(out, 3, name.len);
     put(out, 4, n);
     5
 }
@@ -70,7 +71,7 @@ pub fn put_row(out: &mut [u32], row: Row, n: u32) -> usize
         Row::BitVec => put_one(out, BIT_VEC),
         Row::Set => put_ctor(out, SET, n),
         Row::Map => put_ctor(out, MAP, n),
-        Row::Data(start, len) => put_data(out, start, len, n),
+        Row::Data(name) => put_data(out, name, n),
     }
 }
 
@@ -79,13 +80,9 @@ pub fn put_abs(out: &mut [u32], n: usize)
     requires { n ≤ max_func }
     ensures { out.new ≡ over (abs_words 0 n) out.old }
 {
-    let mut i: usize = 0;
-    let mut index: u32 = 0;
-    while i < n {
+    for i in 0..n {
         put(out, i * 2, ABS);
-        put(out, i * 2 + 1, index);
-        i += 1;
-        index += 1;
+        put(out, i * 2 + 1, i as u32);
     }
 }
 

@@ -26,7 +26,7 @@ size-some told.Real = omega arith
 size-some told.Str = omega arith
 size-some (told.BitVec w) = omega arith
 size-some (told.Array n) = omega arith
-size-some (told.Data s l n) = omega arith
+size-some (told.Data s n) = omega arith
 size-some told.Other = omega arith
 
 pub size_few : (x : SortNode) → size_of x ≤ 5
@@ -36,7 +36,7 @@ size_few told.Real = omega arith
 size_few told.Str = omega arith
 size_few (told.BitVec w) = omega arith
 size_few (told.Array n) = omega arith
-size_few (told.Data s l n) = omega arith
+size_few (told.Data s n) = omega arith
 size_few told.Other = omega arith
 
 -- A walk goes on.

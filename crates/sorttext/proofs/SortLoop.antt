@@ -4,6 +4,7 @@ use mathlib.Core.Path.{◌≡◌, refl, sym, ap, ◌∙◌}
 use mathlib.Core.List.{List, [], ◌∷◌, ◌++◌, append_assoc, append-nil}
 use native.Mathlib.Omega.{arith}
 use lib.ListN.{length, length-append}
+use Rattle.words.specs.declared.refusal.Refusal.{Refusal}
 use Rattle.reading.specs.Answer.{Ans, got}
 use Rattle.reading.proofs.Placed.{at-inside, at_right}
 use Rattle.grammar.specs.Sort.{Sort, Sorts, sorts, sort_words, sorts_words}
@@ -44,7 +45,7 @@ state_start text limit ws at l place bases {s} low e =
     amid (got []) s [] refl (rw (append-nil (sort_words s)) (sort-spelled limit ws at low e)) here tt (sym (joined-none _ ∙ joined_end _)) (put-none l place)
 
 -- The refusal of the bytes before the sorts inside a sort is the sort's.
-view-gone : {text : List ℕ} {s : Sort} {l l' : List ℕ} {k : ℕ} → View text s → Gone (open_text text (sort_told s)) l l' k → Gone (sort_text text s) l l' k
+view-gone : {text : List ℕ} {s : Sort} {l l' : List ℕ} {k : Refusal} → View text s → Gone (open_text text (sort_told s)) l l' k → Gone (sort_text text s) l l' k
 view-gone {text} (refusing e t) g = gone_as (e ∙ sym (ap (open_text text) t)) g
 view-gone (leaf e z w) g = gone_as e g
 view-gone (inner t ts front e z w f) g = gone_as e (gone-first _ g)
@@ -83,7 +84,7 @@ module _ {text ws : List ℕ} {at n : ℕ} {s₀ : Sort} {l₀ : List ℕ} {plac
   state_put (amid front s st z h w b e f) k = absurd (omega (arith, z, k))
 
   -- A refusal.
-  pub state_gone : {x : SortNode} {l' : List ℕ} {k : ℕ} → State text ws at n s₀ l₀ place l a p left bases known → 0 < left → x ≡ sort_node_at ws a → Gone (open_text text x) l l' k → Gone (sort_text text s₀) l₀ l' k
+  pub state_gone : {x : SortNode} {l' : List ℕ} {k : Refusal} → State text ws at n s₀ l₀ place l a p left bases known → 0 < left → x ≡ sort_node_at ws a → Gone (open_text text x) l l' k → Gone (sort_text text s₀) l₀ l' k
   state_gone (over z e w) h q g = absurd (omega (arith, z, h))
   state_gone (amid front s st z h w b e f) k q g =
       let t = q ∙ sort-told (stack_words st) s h.stands in

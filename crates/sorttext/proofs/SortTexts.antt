@@ -92,7 +92,7 @@ data_one (got name) y z e =
     ∙ e (plain_ident (ascii "s " ++ name))
     ∙ ap (λ l. joined (got (40 ∷ l ++ (32 ∷ []))) z) (data_ident name)
 
-pub data_inside : (text : List ℕ) (s : Span) (t : Sort) (ts : Sorts) → sort_text text (s_app (c_data s) (scons t ts)) ≡ joined (data_text text s.start s.len (sorts (scons t ts))) (joined (sort_text text t) (joined (spaced_text text ts) (got (41 ∷ []))))
+pub data_inside : (text : List ℕ) (s : Span) (t : Sort) (ts : Sorts) → sort_text text (s_app (c_data s) (scons t ts)) ≡ joined (data_text text s (sorts (scons t ts))) (joined (sort_text text t) (joined (spaced_text text ts) (got (41 ∷ []))))
 unfolding sort_text sort_of symbol_of data_text name_text sorts
 data_inside text s t ts = data_one (bytes_of text s) (sorts_of text (scons t ts)) _ (λ i. around-is text i t ts)
 
@@ -102,7 +102,7 @@ unfolding sort_sx
 data_alone (bad r) = refl
 data_alone (got name) = ap got (data_ident name)
 
-pub data_leaf : (text : List ℕ) (s : Span) → sort_text text (s_app (c_data s) snil) ≡ data_text text s.start s.len (sorts snil)
+pub data_leaf : (text : List ℕ) (s : Span) → sort_text text (s_app (c_data s) snil) ≡ data_text text s (sorts snil)
 unfolding sort_text sort_of symbol_of data_text name_text sorts
 data_leaf text s = data_alone (bytes_of text s)
 

@@ -13,6 +13,7 @@ use Rattle.smt.specs.Writer.{width_of, sort_of}
 use Rattle.smtnames.specs.Pieces.{joined, sort_text}
 use Rattle.sortnodes.specs.Told.{applied_at, sort_node_at, size_of, inside_of}
 use Rattle.smtsorts.specs.SortNode.{array_text, open_text}
+use Rattle.words.specs.Spans.{told_span}
 use Rattle.sortnodes.specs.declared.SortNode.{SortNode}
 use Rattle.sortnodes.specs.declared.SortNode.TheVariants as told
 use Rattle.sorttext.proofs.SortTexts.{spaced_text, array_inside, data_inside, data_leaf, width-leaf, int_leaf, bool_leaf, real_leaf, string-leaf}
@@ -42,7 +43,7 @@ sort_told (s_func s t) = told.Other
 sort_told (s_abs i s) = told.Other
 sort_told (s_app c_set ss) = told.Other
 sort_told (s_app c_map ss) = told.Array (sorts ss)
-sort_told (s_app (c_data s) ss) = told.Data s.start s.len (sorts ss)
+sort_told (s_app (c_data s) ss) = told.Data (told_span s) (sorts ss)
 
 -- What is known of a sort by what is told of it.
 pub data View (text : List ℕ) (s : Sort) : Type 0 where

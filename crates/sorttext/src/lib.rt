@@ -13,10 +13,11 @@ ghost use Rattle.smtlevels.specs.Levels.{Within, Known};
 ghost use Rattle.smtnames.specs.Written.{TellsPart};
 
 use smtlevels::{entered, entered_below, standing, standing_below};
-use smtnames::answers::{Walked, Written};
 use smtsorts::sort_node::opened;
 use sortnodes::{count, size, sort_at};
 use words::limits::MAX_LISTS;
+use words::refusal::Refusal;
+use words::walked::Walked;
 use writing::byte;
 
 // How many lists end behind a sort without sorts inside it, and how many of the others are known.
@@ -38,6 +39,7 @@ fn endings(words: &[u32], from: usize, at: usize, left: u64, bases: &mut [u64; M
     let mut pending: u64 = 0;
     let mut k: u64 = 0;
     let mut known: usize = 0;
+    // A cursor and not a `for`: each sort says how many words it has.
     while a < at {
         // Never, where the words are a sort: each sort takes at least one.
         if words.len() <= a {
@@ -101,11 +103,9 @@ fn endings_known(
 fn closed(k: u64, out: &mut [u8], place: usize) -> usize
     ensures { WroteBytes out.old place (replicate k 41) out.new result }
 {
-    let mut i = k;
     let mut p = place;
-    while 0 < i {
-        p = byte(out, p, 41);
-        i -= 1;
+    for _ in 0..k {
+        p = byte(out, p, b')');
     }
     p
 }
@@ -118,11 +118,17 @@ fn ended(k: u64, left: u64, out: &mut [u8], place: usize) -> usize
     if left == 0 {
         return p;
     }
-    byte(out, p, 32)
+    byte(out, p, b' ')
 }
 
 // The sort at a place, which was judged.
-pub fn sort(words: &[u32], at: usize, text: &[u8], out: &mut [u8], place: usize) -> Walked
+pub fn sort(
+    words: &[u32],
+    at: usize,
+    text: &[u8],
+    out: &mut [u8],
+    place: usize,
+) -> Result<Walked, Refusal>
     ensures { (limit : ℕ) (s : Sort) (n : ℕ) → sort_at limit words.now at ≡ reads s n → TellsPart n (sort_text text.now s) out.old place out.new result }
 {
     let mut a = at;
@@ -130,34 +136,26 @@ pub fn sort(words: &[u32], at: usize, text: &[u8], out: &mut [u8], place: usize)
     let mut left: u64 = 1;
     let mut bases = [0u64; MAX_LISTS];
     let mut known: usize = 0;
+    // A walk and not a `for`: a sort may bring more sorts that are still to come.
     while 0 < left {
         // Never, where the words are a sort.
-        if words.len() <= a {
-            return Walked::No(14);
-        }
-        if (words.len() as u64) < left {
-            return Walked::No(14);
+        if words.len() <= a || (words.len() as u64) < left {
+            return Err(Refusal::NotWords);
         }
         let node = sort_at(words, a);
-        match opened(node, text, out, p) {
-            Written::To(q) => {
-                let n = count(node) as u64;
-                let base = left - 1;
-                left = base + n;
-                if n == 0 {
-                    let e = endings_known(words, at, a, base, known, &mut bases);
-                    p = ended(e.lists, base, out, q);
-                    known = e.known;
-                } else {
-                    known = entered(&mut bases, known, base);
-                    p = q;
-                }
-                a += size(node);
-            }
-            Written::No(r) => {
-                return Walked::No(r);
-            }
+        let q = opened(node, text, out, p)?;
+        let n = count(node) as u64;
+        let base = left - 1;
+        left = base + n;
+        if n == 0 {
+            let e = endings_known(words, at, a, base, known, &mut bases);
+            p = ended(e.lists, base, out, q);
+            known = e.known;
+        } else {
+            known = entered(&mut bases, known, base);
+            p = q;
         }
+        a += size(node);
     }
-    Walked::At(a, p)
+    Ok(Walked { next: a, place: p })
 }

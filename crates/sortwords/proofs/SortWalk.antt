@@ -12,21 +12,20 @@ use Rattle.grammar.specs.Sort.{Sort, c_set, c_map, c_data, s_int, s_bool, s_real
 use Rattle.judging.specs.Judge.{Judged, reads, fails, FromWords, go_on, ◌>>=◌, ret, fail, word, among, or_fail, choose, two_words, several, span_within, ctors, sort_kinds, sort_deep, sort_at}
 use Rattle.sortwords.specs.SortFields.{one_field, ctor_at, app_fields, sort_fields, sort_head, inside_of}
 use Rattle.judging.specs.Ends.{end_of}
-use Rattle.judging.specs.declared.End.{End}
-use Rattle.judging.specs.declared.End.TheVariants.{At, No}
-use Rattle.sortwords.specs.declared.Inside.TheVariants as inside
+use Rattle.words.specs.Answered.{Answered, told, refused}
+use Rattle.sortwords.specs.declared.Inside.{Inside}
 use Rattle.judging.proofs.ReadFields.{word_in, word_out}
 
 -- What follows a reading, or its refusal.
-unfoldable pub after : {A : Type 0} → Judged A → (A → ℕ → End) → End
+unfoldable pub after : {A : Type 0} → Judged A → (A → ℕ → Answered ℕ) → Answered ℕ
 after (reads a n) k = k a n
-after (fails r) k = No r
+after (fails r) k = refused r
 
 -- The place behind so many sorts, by a walk over at most so many.
-unfoldable pub walk : ℕ → List ℕ → ℕ → ℕ → ℕ → End
-walk limit ws zero zero at = At at
-walk limit ws zero (suc p) at = No not_words
-walk limit ws (suc g) zero at = At at
+unfoldable pub walk : ℕ → List ℕ → ℕ → ℕ → ℕ → Answered ℕ
+walk limit ws zero zero at = told at
+walk limit ws zero (suc p) at = refused not_words
+walk limit ws (suc g) zero at = told at
 walk limit ws (suc g) (suc p) at = after (sort_head limit ws at) (λ n b. walk limit ws g (n + p) b)
 
 -- Whether a place is inside.
@@ -44,11 +43,23 @@ place (suc at) (suc n) = go (place at n)
     go (out l) = out (omega arith)
 
 -- What the answers of the code say of the reading.
-inside-next : (x : Judged ℕ) {b n : ℕ} → inside.Next b n ≡ inside_of x → x ≡ reads n b
-inside-next (reads m c) e = cc
+sorts_in : Answered Inside → ℕ
+sorts_in (told i) = i.sorts
+sorts_in (refused r) = 0
+
+next_in : Answered Inside → ℕ
+next_in (told i) = i.next
+next_in (refused r) = 0
+
+inside-next : (x : Judged ℕ) {b n : ℕ} → told (record { next = b; sorts = n }) ≡ inside_of x → x ≡ reads n b
+unfolding sorts_in next_in
+inside-next (reads m c) {b} {n} e =
+    let p : n ≡ m = ap sorts_in e in
+    let q : b ≡ c = ap next_in e in
+    rw (p, q) refl
 inside-next (fails r) e = let z : ◌≡◌ {A = ℕ} 0 1 = cc in absurd (omega arith)
 
-inside-no : (x : Judged ℕ) {r : ℕ} → inside.No r ≡ inside_of x → x ≡ fails r
+inside-no : (x : Judged ℕ) {r : ℕ} → refused r ≡ inside_of x → x ≡ fails r
 inside-no (reads m c) e = let z : ◌≡◌ {A = ℕ} 0 1 = cc in absurd (omega arith)
 inside-no (fails r) e = cc
 
@@ -58,7 +69,7 @@ module _ (limit : ℕ) (ws : List ℕ) where
   unfolding sort_head
   head-out at h = rw (word_out ws at h) refl
 
-  walk-out : (at g p : ℕ) → length ws ≤ at → 0 < p → walk limit ws g p at ≡ No not_words
+  walk-out : (at g p : ℕ) → length ws ≤ at → 0 < p → walk limit ws g p at ≡ refused not_words
   unfolding walk after
   walk-out at g zero h l = absurd (omega arith)
   walk-out at zero (suc p) h l = refl
@@ -120,15 +131,15 @@ module _ (limit : ℕ) (ws : List ℕ) where
       onward_pick (ltb k 0) _ _ (onward_fail not_words) (onward_among (ctors limit) (onward_ret c_set, (onward_ret c_map, (onward_bind (span_within limit) (λ s. ret (c_data s)) onward_span (λ s. onward_ret (c_data s)), tt))) (k - 0))
 
   -- What follows is the walk over so many sorts, from a place on.
-  abbrev Follows : {A : Type 0} → ℕ → ℕ → (A → ℕ → End) → Type 0
+  abbrev Follows : {A : Type 0} → ℕ → ℕ → (A → ℕ → Answered ℕ) → Type 0
   Follows {A} at q k = (a : A) (b g : ℕ) → at ≤ b → length ws ≤ b + g → k a b ≡ walk limit ws g q b
 
   -- A reader is a walk over so many sorts, from a place on.
   abbrev Walks : {A : Type 0} → ℕ → FromWords A → ℕ → Type 0
-  Walks {A} lo p n = (at q g : ℕ) (k : A → ℕ → End) → lo ≤ at → length ws ≤ at + g → Follows at q k → after (p ws at) k ≡ walk limit ws g (n + q) at
+  Walks {A} lo p n = (at q g : ℕ) (k : A → ℕ → Answered ℕ) → lo ≤ at → length ws ≤ at + g → Follows at q k → after (p ws at) k ≡ walk limit ws g (n + q) at
 
   -- What follows the second of two readers follows the first, through the second.
-  after-bind : {A B : Type 0} (x : Judged A) (f : A → FromWords B) (k : B → ℕ → End) → after (go_on x f ws) k ≡ after x (λ a b. after (f a ws b) k)
+  after-bind : {A B : Type 0} (x : Judged A) (f : A → FromWords B) (k : B → ℕ → Answered ℕ) → after (go_on x f ws) k ≡ after x (λ a b. after (f a ws b) k)
   unfolding after
   after-bind (reads a n) f k = refl
   after-bind (fails r) f k = refl
@@ -161,7 +172,7 @@ module _ (limit : ℕ) (ws : List ℕ) where
 
   -- A reader of a sort's fields and of the sorts inside it does what the reader of the fields alone does, and then walks on.
   abbrev Enters : ℕ → FromWords Sort → FromWords ℕ → Type 0
-  Enters lo r h = (at q g : ℕ) (k : Sort → ℕ → End) → lo ≤ at → length ws ≤ at + g → Follows at q k → after (r ws at) k ≡ after (h ws at) (λ n b. walk limit ws g (n + q) b)
+  Enters lo r h = (at q g : ℕ) (k : Sort → ℕ → Answered ℕ) → lo ≤ at → length ws ≤ at + g → Follows at q k → after (r ws at) k ≡ after (h ws at) (λ n b. walk limit ws g (n + q) b)
 
   -- The same for each way of putting readers together.
   enters_walks : (lo n : ℕ) (r : FromWords Sort) → Walks lo r n → Enters lo r (ret n)
@@ -251,7 +262,7 @@ module _ (limit : ℕ) (ws : List ℕ) where
       )
 
   -- The kind of a sort and what follows it, where the kind is inside the words.
-  sort_enters : (deep lo at q g : ℕ) (k : Sort → ℕ → End) → lo ≤ at → at < length ws → length ws ≤ at + g → Follows at q k → Walks (suc lo) (sort_deep limit deep) 1 → after (choose 1 (sort_kinds limit (sort_deep limit deep)) (get_or ws at 0) ws (at + 1)) k ≡ walk limit ws g (1 + q) at
+  sort_enters : (deep lo at q g : ℕ) (k : Sort → ℕ → Answered ℕ) → lo ≤ at → at < length ws → length ws ≤ at + g → Follows at q k → Walks (suc lo) (sort_deep limit deep) 1 → after (choose 1 (sort_kinds limit (sort_deep limit deep)) (get_or ws at 0) ws (at + 1)) k ≡ walk limit ws g (1 + q) at
   unfolding choose walk sort_head
   sort_enters deep lo at q zero k l i e h D = absurd (omega arith)
   sort_enters deep lo at q (suc g) k l i e h D =
@@ -271,7 +282,7 @@ module _ (limit : ℕ) (ws : List ℕ) where
       go D (within i) = rw (word_in ws at i) (sort_enters deep lo at q g k l i e h D)
 
   -- Nothing is left to walk over.
-  pub walk-done : (g p at : ℕ) → p ≤ 0 → walk limit ws g p at ≡ At at
+  pub walk-done : (g p at : ℕ) → p ≤ 0 → walk limit ws g p at ≡ told at
   unfolding walk
   walk-done zero zero at h = refl
   walk-done (suc g) zero at h = refl
@@ -279,7 +290,7 @@ module _ (limit : ℕ) (ws : List ℕ) where
   walk-done (suc g) (suc p) at h = absurd (omega arith)
 
   -- The place behind what is read, as what follows it.
-  end_after : {A : Type 0} (x : Judged A) → end_of x ≡ after x (λ a b. At b)
+  end_after : {A : Type 0} (x : Judged A) → end_of x ≡ after x (λ a b. told b)
   unfolding after
   end_after (reads a n) = refl
   end_after (fails r) = refl
@@ -289,7 +300,7 @@ module _ (limit : ℕ) (ws : List ℕ) where
   unfolding sort_at
   walk_start at =
       end_after (sort_deep limit (length ws) ws at)
-      ∙ sort_walks (length ws) at (omega arith) at 0 (length ws) (λ a b. At b) (omega arith) (omega arith) (λ a b g u v. sym (walk-done g 0 b (omega arith)))
+      ∙ sort_walks (length ws) at (omega arith) at 0 (length ws) (λ a b. told b) (omega arith) (omega arith) (λ a b g u v. sym (walk-done g 0 b (omega arith)))
 
   -- A reader that refuses with 14 alone.
   abbrev Only14 : {A : Type 0} → FromWords A → Type 0
@@ -382,26 +393,26 @@ module _ (limit : ℕ) (ws : List ℕ) where
   only-head = only-bind word _ only-word (λ k. only-pick (ltb k 1) _ _ only-fail (only-fields (k - 1)))
 
   -- More sorts to come than there may be.
-  pub walk-short : (g p at : ℕ) → g < p → walk limit ws g p at ≡ No not_words
+  pub walk-short : (g p at : ℕ) → g < p → walk limit ws g p at ≡ refused not_words
   unfolding walk after
   walk-short zero zero at h = absurd (omega arith)
   walk-short zero (suc p) at h = refl
   walk-short (suc g) zero at h = absurd (omega arith)
   walk-short (suc g) (suc p) at h = go (λ q b k. walk-short g q b k) (sort_head limit ws at) refl
     where
-      go : ((q b : ℕ) → g < q → walk limit ws g q b ≡ No not_words) → (x : Judged ℕ) → sort_head limit ws at ≡ x → after x (λ n b. walk limit ws g (n + p) b) ≡ No not_words
+      go : ((q b : ℕ) → g < q → walk limit ws g q b ≡ refused not_words) → (x : Judged ℕ) → sort_head limit ws at ≡ x → after x (λ n b. walk limit ws g (n + p) b) ≡ refused not_words
       go ih (reads n b) e = ih (n + p) b (omega arith)
-      go ih (fails r) e = ap No (only-head at r e)
+      go ih (fails r) e = ap refused (only-head at r e)
 
   -- One turn of the walk.
-  pub walk-bad : (g p at : ℕ) {r : ℕ} → 0 < p → p ≤ g → inside.No r ≡ inside_of (sort_head limit ws at) → walk limit ws g p at ≡ No r
+  pub walk-bad : (g p at : ℕ) {r : ℕ} → 0 < p → p ≤ g → refused r ≡ inside_of (sort_head limit ws at) → walk limit ws g p at ≡ refused r
   unfolding walk after
   walk-bad zero zero at h k e = absurd (omega arith)
   walk-bad zero (suc p) at h k e = absurd (omega arith)
   walk-bad (suc g) zero at h k e = absurd (omega arith)
   walk-bad (suc g) (suc p) at {r} h k e = rw (inside-no (sort_head limit ws at) e) refl
 
-  pub walk-next : (g p at : ℕ) {b n w : ℕ} → 0 < p → p ≤ g → w ≡ n → inside.Next b n ≡ inside_of (sort_head limit ws at) → walk limit ws g p at ≡ walk limit ws (g - 1) (p - 1 + w) b
+  pub walk-next : (g p at : ℕ) {b n w : ℕ} → 0 < p → p ≤ g → w ≡ n → told (record { next = b; sorts = n }) ≡ inside_of (sort_head limit ws at) → walk limit ws g p at ≡ walk limit ws (g - 1) (p - 1 + w) b
   unfolding walk after
   walk-next zero zero at h k f e = absurd (omega arith)
   walk-next zero (suc p) at h k f e = absurd (omega arith)

@@ -2,8 +2,8 @@
 use Rattle.std.specs.Prelude.{ℕ, List, [], ◌∷◌}
 use Rattle.grammar.specs.Sort.{Ctor}
 use Rattle.judging.specs.Judge.{Judged, reads, fails, FromWords, ◌>>=◌, ret, word, two_words, choose, ctors}
+use Rattle.words.specs.Answered.{Answered, told, refused}
 use Rattle.sortwords.specs.declared.Inside.{Inside}
-use Rattle.sortwords.specs.declared.Inside.TheVariants as inside
 
 -- A word of any value, then so many sorts.
 unfoldable pub one_field : ℕ → FromWords ℕ
@@ -48,6 +48,6 @@ module _ (limit : ℕ) where
     choose 1 sort_fields k
 
 -- The place behind the fields and how many sorts follow, or the refusal.
-abbrev pub inside_of : Judged ℕ → Inside
-inside_of (reads n at) = inside.Next at n
-inside_of (fails r) = inside.No r
+abbrev pub inside_of : Judged ℕ → Answered Inside
+inside_of (reads n at) = told (record { next = at; sorts = n })
+inside_of (fails r) = refused r

@@ -8,20 +8,22 @@ ghost use Rattle.text.specs.Scanned.{Scanned};
 use lexing::tokens::{Token, put_words, token_at};
 use words::limits::MAX_LISTS;
 use words::output::put_three;
+use words::refusal::Refusal;
 use words::tree_kinds::LIST;
 
-// How many expressions and how many words were found, and the byte behind them; or a refusal's number.
+// How many expressions and how many words were found, and the byte behind them.
 #[derive(Clone, Copy)]
-pub enum Outcome {
-    Found(usize, usize, usize),
-    Refused(u32),
+pub struct Found {
+    pub trees: usize,
+    pub words: usize,
+    pub next: usize,
 }
 
 // Whether an expression may follow one inside so many lists.
 fn may_follow(all: bool, depth: usize) -> bool
     ensures { result ≡ may_follow all depth }
 {
-    if depth == 0 { all } else { true }
+    all || depth > 0
 }
 
 // The first three words of a list: 21, how many children it has, and how many words they have.
@@ -34,7 +36,7 @@ fn put_list(out: &mut [u32], at: usize, children: usize, words: usize)
 
 // Finds one expression, or all of them, and writes their words. Inside d lists, counts[d] expressions
 // were read so far, and the innermost list begins at word offs[d - 1]; it gets its numbers at its `)`.
-pub fn scan(text: &[u8], out: &mut [u32], all: bool) -> Outcome
+pub fn scan(text: &[u8], out: &mut [u32], all: bool) -> Result<Found, Refusal>
     requires { length text.now ≤ max_bytes }
     ensures { Scanned all text.now out.old out.new result }
 {
@@ -43,12 +45,13 @@ pub fn scan(text: &[u8], out: &mut [u32], all: bool) -> Outcome
     let mut depth: usize = 0;
     let mut offs = [0usize; MAX_LISTS];
     let mut counts = [0usize; MAX_LISTS + 1];
+    // A cursor and not a `for`: each token says how many bytes it has.
     while at < text.len() {
         match token_at(text, at) {
             Token::Blank(next) => at = next,
             Token::Opens => {
                 if depth >= MAX_LISTS {
-                    return Outcome::Refused(6);
+                    return Err(Refusal::TooDeep);
                 }
                 put_list(out, words, 0, 0);
                 offs[depth] = words;
@@ -59,7 +62,7 @@ pub fn scan(text: &[u8], out: &mut [u32], all: bool) -> Outcome
             }
             Token::Closes => {
                 if depth == 0 {
-                    return Outcome::Refused(4);
+                    return Err(Refusal::StrayClose);
                 }
                 let children = counts[depth];
                 depth -= 1;
@@ -68,7 +71,11 @@ pub fn scan(text: &[u8], out: &mut [u32], all: bool) -> Outcome
                 at += 1;
                 counts[depth] += 1;
                 if !may_follow(all, depth) {
-                    return Outcome::Found(counts[0], words, at);
+                    return Ok(Found {
+                        trees: counts[0],
+                        words,
+                        next: at,
+                    });
                 }
             }
             Token::Leaf(next, n, w) => {
@@ -77,16 +84,22 @@ pub fn scan(text: &[u8], out: &mut [u32], all: bool) -> Outcome
                 at = next;
                 counts[depth] += 1;
                 if !may_follow(all, depth) {
-                    return Outcome::Found(counts[0], words, at);
+                    return Ok(Found {
+                        trees: counts[0],
+                        words,
+                        next: at,
+                    });
                 }
             }
-            Token::Unfinished => return Outcome::Refused(5),
+            Token::Unfinished => return Err(Refusal::Unclosed),
         }
     }
-    if all {
-        if depth == 0 {
-            return Outcome::Found(counts[0], words, at);
-        }
+    if all && depth == 0 {
+        return Ok(Found {
+            trees: counts[0],
+            words,
+            next: at,
+        });
     }
-    Outcome::Refused(3)
+    Err(Refusal::EndsEarly)
 }

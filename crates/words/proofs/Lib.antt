@@ -1,1 +1,3 @@
 pub mod Clip
+pub mod Wides
+pub mod Numbered

@@ -1,5 +1,5 @@
 // What all code over words shares: the limits of document 01, the kinds of trees, sorts, expressions and predicates, words written to an output,
-// names in a text, steps from one size of number to another, and the answer of a function that writes words.
+// names in a text, refusals and their numbers, what an accepted call reports, 128-bit numbers in four words.
 #![tactic(auto)]
 
 pub mod expr_kinds;
@@ -7,14 +7,11 @@ pub mod limits;
 pub mod number;
 pub mod output;
 pub mod pred_kinds;
+pub mod quad;
+pub mod refusal;
+pub mod report;
 pub mod sort_kinds;
 pub mod span;
 pub mod tree;
 pub mod tree_kinds;
-
-// How many words there are, or the place behind them; or the number of the refusal.
-#[derive(Clone, Copy)]
-pub enum Answer {
-    Done(usize),
-    Refused(u32),
-}
+pub mod walked;

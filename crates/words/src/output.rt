@@ -33,9 +33,5 @@ pub fn put_three(out: &mut [u32], at: usize, a: u32, b: u32, c: u32)
 pub fn clear(out: &mut [u32])
     ensures { out.new ≡ zeros out.old }
 {
-    let mut i = 0;
-    while i < out.len() {
-        out[i] = 0;
-        i += 1;
-    }
+    out.fill(0);
 }

@@ -1,15 +1,23 @@
 // Names in the text.
 ghost use Rattle.std.specs.Prelude.{◌≡◌};
-ghost use Rattle.reading.specs.Bytes.{Span, bytes_at};
+ghost use Rattle.reading.specs.Bytes.{bytes_at};
+ghost use Rattle.words.specs.Spans.{as_span};
 
-use crate::number::{least, word_to_length};
+// A part of the text: its first byte, and how many bytes it has.
+#[derive(Clone, Copy, PartialEq, Eq)]
+pub struct Span {
+    pub start: u32,
+    pub len: u32,
+}
 
-// The bytes of a span. What lies behind the text is left out.
-pub fn bytes_at(text: &[u8], start: u32, len: u32) -> &[u8]
-    ensures { result.now ≡ bytes_at text.now (record { start = start; len = len }) }
-{
-    let s = word_to_length(start);
-    let from = least(s, text.len());
-    let end = least(s + word_to_length(len), text.len());
-    &text[from..end]
+impl Span {
+    // The bytes of a span. What lies behind the text is left out.
+    pub fn bytes(self, text: &[u8]) -> &[u8]
+        ensures { result.now ≡ bytes_at text.now (as_span self) }
+    {
+        let start = self.start as usize;
+        let from = start.min(text.len());
+        let end = (start + self.len as usize).min(text.len());
+        &text[from..end]
+    }
 }

@@ -1,6 +1,7 @@
 // Bytes laid into a slice that the caller lends, from a place on: one byte, all bytes of another slice, a number in decimal digits. Each
 // function answers the place behind what it laid, or, where that does not fit, a place behind the end of the slice, which stands for bytes
 // that do not fit wherever it is handed on. So a caller writes one piece behind the other, and looks at the last answer only.
+// A place and no Option, since specs/Wrote.antt promises it: pieces that follow one another are one piece, whether they fit or not.
 #![tactic(auto)]
 
 ghost use Rattle.std.specs.Prelude.{◌≡◌, [], ◌∷◌, ◌+◌, ◌*◌, ◌^◌, ◌<◌, ltb, length};
@@ -8,16 +9,11 @@ ghost use Rattle.reading.specs.Answer.{zeros};
 ghost use Rattle.reading.specs.Number.{value_of};
 ghost use Rattle.writing.specs.Wrote.{WroteBytes};
 ghost use Rattle.writing.specs.Digits.{digit as digitOf, decimal as decimalOf};
-ghost use Rattle.writing.specs.Quads.{as_wide, Tenths};
+ghost use Rattle.words.specs.Quads.{as_wide};
+ghost use Rattle.writing.specs.Quads.{Tenths};
 
-// The words of a 128-bit number, lowest first.
-#[derive(Clone, Copy)]
-pub struct Quad {
-    pub a: u32,
-    pub b: u32,
-    pub c: u32,
-    pub d: u32,
-}
+use words::number::WORD;
+use words::quad::Quad;
 
 // A word of a quotient by ten, and what is left.
 #[derive(Clone, Copy)]
@@ -30,7 +26,7 @@ struct Part {
 #[derive(Clone, Copy)]
 struct Tenth {
     q: Quad,
-    last: u32,
+    last: u8,
 }
 
 // A byte.
@@ -48,18 +44,11 @@ pub fn byte(out: &mut [u8], place: usize, b: u8) -> usize
 pub fn bytes(from: &[u8], out: &mut [u8], place: usize) -> usize
     ensures { WroteBytes out.old place from.now out.new result }
 {
-    if out.len() < place {
+    if out.len() < place || out.len() - place < from.len() {
         return out.len() + 1;
     }
-    if out.len() - place < from.len() {
-        return out.len() + 1;
-    }
-    let mut n = 0;
-    while n < from.len() {
-        out[place + n] = from[n];
-        n += 1;
-    }
-    place + n
+    out[place..place + from.len()].copy_from_slice(from);
+    place + from.len()
 }
 
 // One word of a division by ten, with what is left of the words above it.
@@ -67,7 +56,7 @@ fn divided(over: u32, w: u32) -> Part
     requires { over < 10 }
     ensures { (result.quotient * 10 + result.left ≡ over * 2 ^ 32 + w) × (result.left < 10) }
 {
-    let t = (over as u64) * 4294967296 + (w as u64);
+    let t = u64::from(over) * WORD + u64::from(w);
     Part {
         quotient: (t / 10) as u32,
         left: (t % 10) as u32,
@@ -75,29 +64,18 @@ fn divided(over: u32, w: u32) -> Part
 }
 
 // The number is one word.
+#[tactic(auto, unfolding(reading::specs::Number::value_of))]
 fn one_word(q: Quad) -> bool
     ensures { result ≡ ltb (value_of (as_wide q)) (2 ^ 32) }
 {
-    if q.b != 0 {
-        return false;
-    }
-    if q.c != 0 {
-        return false;
-    }
-    if q.d != 0 {
-        return false;
-    }
-    true
+    q.b == 0 && q.c == 0 && q.d == 0
 }
 
 // The number is one digit.
 fn one_digit(q: Quad) -> bool
     ensures { result ≡ ltb (value_of (as_wide q)) 10 }
 {
-    if one_word(q) {
-        return q.a < 10;
-    }
-    false
+    one_word(q) && q.a < 10
 }
 
 // A number without its last digit.
@@ -106,13 +84,8 @@ fn shortened(q: Quad) -> Tenth
 {
     if one_word(q) {
         return Tenth {
-            q: Quad {
-                a: q.a / 10,
-                b: 0,
-                c: 0,
-                d: 0,
-            },
-            last: q.a % 10,
+            q: Quad::from(u64::from(q.a / 10)),
+            last: (q.a % 10) as u8,
         };
     }
     let x = divided(0, q.d);
@@ -126,7 +99,7 @@ fn shortened(q: Quad) -> Tenth
             c: y.quotient,
             d: x.quotient,
         },
-        last: w.left,
+        last: w.left as u8,
     }
 }
 
@@ -136,6 +109,7 @@ fn figures(q: Quad) -> usize
 {
     let mut rest = q;
     let mut n = 1;
+    // No `for`: the number says when it has no more digits.
     while !one_digit(rest) {
         rest = shortened(rest).q;
         n += 1;
@@ -147,22 +121,17 @@ fn figures(q: Quad) -> usize
 pub fn decimal(q: Quad, out: &mut [u8], place: usize) -> usize
     ensures { WroteBytes out.old place (decimalOf (value_of (as_wide q))) out.new result }
 {
-    if out.len() < place {
-        return out.len() + 1;
-    }
     let many = figures(q);
-    if out.len() - place < many {
+    if out.len() < place || out.len() - place < many {
         return out.len() + 1;
     }
     let mut rest = q;
-    let mut i = many - 1;
-    while 0 < i {
+    for i in (1..many).rev() {
         let s = shortened(rest);
-        out[place + i] = 48 + (s.last as u8);
+        out[place + i] = b'0' + s.last;
         rest = s.q;
-        i -= 1;
     }
-    out[place] = 48 + (rest.a as u8);
+    out[place] = b'0' + rest.a as u8;
     place + many
 }
 
@@ -170,33 +139,22 @@ pub fn decimal(q: Quad, out: &mut [u8], place: usize) -> usize
 pub fn decimal_word(n: u32, out: &mut [u8], place: usize) -> usize
     ensures { WroteBytes out.old place (decimalOf n) out.new result }
 {
-    let q = Quad {
-        a: n,
-        b: 0,
-        c: 0,
-        d: 0,
-    };
-    decimal(q, out, place)
+    decimal(Quad::from(u64::from(n)), out, place)
 }
 
 // A hexadecimal digit.
+#[tactic(auto, unfolding(crate::specs::Digits::digit, reading::specs::Pick::pick))]
 pub fn digit(d: u32) -> u8
     requires { d < 16 }
     ensures { result ≡ digitOf d }
 {
-    if d < 10 {
-        return (48 + d) as u8;
-    }
-    (87 + d) as u8
+    let d = d as u8;
+    if d < 10 { b'0' + d } else { b'a' + (d - 10) }
 }
 
 // Zeros throughout.
 pub fn clear(out: &mut [u8])
     ensures { out.new ≡ zeros out.old }
 {
-    let mut i = 0;
-    while i < out.len() {
-        out[i] = 0;
-        i += 1;
-    }
+    out.fill(0);
 }

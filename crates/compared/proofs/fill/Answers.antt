@@ -7,8 +7,5 @@ loop-i-init c = filling_all _
 pub loop-i-preserved : goal.loop-i-preserved
 loop-i-preserved c = filling_more c.loop-i.invariant c.loop-i-test.true c.pattern.ensures
 
-pub shape_of-words : goal.shape_of-words
-shape_of-words c = c.loop-i.invariant.kept
-
 pub returns : goal.returns
 returns c = filling_none c.loop-i.invariant c.loop-i-test.false

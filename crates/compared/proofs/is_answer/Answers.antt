@@ -5,13 +5,13 @@ pub returns-then-out-words : goal.returns-then-out-words
 returns-then-out-words c = answer-long _ _ c.if-out-words.true
 
 pub loop-i-init : goal.loop-i-init
-loop-i-init c = (c.if-out-words.false, comparing_all _ _ (answer-length c.args.words.now c.args.out.now))
+loop-i-init c = comparing_all _ _ (answer-length c.args.words.now c.args.out.now)
 
-pub returns-then-out-i : goal.returns-then-out-i
-returns-then-out-i c = answer-fits _ _ c.loop-i.invariant.0 (comparing_differ c.loop-i.invariant.1 c.loop-i-test.true (answer_at c.args.words.now c.args.out.now c.loop-i.i c.loop-i-test.true c.expected.ensures) c.if-out-i.true)
+pub returns-then-w-expected : goal.returns-then-w-expected
+returns-then-w-expected c = answer-fits _ _ c.if-out-words.false (comparing_differ c.loop-i.invariant c.loop-i-test.true (answer_at c.args.words.now c.args.out.now c.loop-i.i c.loop-i-test.true c.expected.ensures) c.if-w-expected.true)
 
 pub loop-i-preserved : goal.loop-i-preserved
-loop-i-preserved c = (c.loop-i.invariant.0, comparing_more c.loop-i.invariant.1 c.loop-i-test.true (answer_at c.args.words.now c.args.out.now c.loop-i.i c.loop-i-test.true c.expected.ensures) c.if-out-i.false)
+loop-i-preserved c = comparing_more c.loop-i.invariant c.loop-i-test.true (answer_at c.args.words.now c.args.out.now c.loop-i.i c.loop-i-test.true c.expected.ensures) c.if-w-expected.false
 
 pub returns : goal.returns
-returns c = answer-fits _ _ c.loop-i.invariant.0 (comparing_none c.loop-i.invariant.1 c.loop-i-test.false)
+returns c = answer-fits _ _ c.if-out-words.false (comparing_none c.loop-i.invariant c.loop-i-test.false)

@@ -4,4 +4,4 @@ use borrow.Author.Rules.{rules}
 use Rattle.ffi.proofs.pinhkray_bind.Goals as goal
 
 pub returns : goal.returns
-returns c = counted-reply c.open.ensures c.bind-reply.ensures _ c.numbers-told.ensures refl
+returns c = counted-reply c.open.ensures c.bind-reply.ensures _ c.from-told.ensures refl

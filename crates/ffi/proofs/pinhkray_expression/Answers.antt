@@ -4,4 +4,4 @@ use borrow.Author.Rules.{rules}
 use Rattle.ffi.proofs.pinhkray_expression.Goals as goal
 
 pub returns : goal.returns
-returns c = counted-reply c.open.ensures c.expression-answer.ensures _ c.numbers-told.ensures refl
+returns c = counted-reply c.open.ensures c.expression-answer.ensures _ c.from-told.ensures refl

@@ -4,4 +4,4 @@ use borrow.Author.Rules.{rules}
 use Rattle.ffi.proofs.pinhkray_read_all.Goals as goal
 
 pub returns : goal.returns
-returns c = read-reply c.open.ensures c.read_all-answer.ensures _ c.numbers-told.ensures refl refl
+returns c = read-reply c.open.ensures c.read_all-answer.ensures _ c.from-told.ensures refl refl

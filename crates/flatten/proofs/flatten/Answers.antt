@@ -1,11 +1,12 @@
+use mathlib.Core.Path.{sym, ◌∙◌}
 use Rattle.parse.proofs.Answered.{kept, cleared}
 use Rattle.flattening.specs.Operations.{flatten_out}
 use Rattle.flatten.proofs.flatten.Goals as goal
 
-pub returns-in-Done : goal.returns-in-Done
+pub returns-then-is_err-clause-output : goal.returns-then-is_err-clause-output
 unfolding flatten_out
-returns-in-Done c = let r = kept c.attempt.ensures c.in-Done.is in record { answer = r.0; output = r.1 }
+returns-then-is_err-clause-output c = cleared _ c.attempt-answer.ensures (sym c.is_err.ensures.value ∙ c.if-is_err.true) c.attempt-answer.auto.out c.clear.ensures
 
-pub returns-in-Refused : goal.returns-in-Refused
+pub returns-else-is_err-clause-output : goal.returns-else-is_err-clause-output
 unfolding flatten_out
-returns-in-Refused c = let r = cleared c.attempt.ensures c.in-Refused.is c.attempt.auto.out c.clear.ensures in record { answer = r.0; output = r.1 }
+returns-else-is_err-clause-output c = kept _ c.attempt-answer.ensures (sym c.is_err.ensures.value ∙ c.if-is_err.false)

@@ -1,50 +1,47 @@
-use mathlib.Core.Path.{refl, sym, ◌∙◌}
+use mathlib.Core.Path.{refl, sym, ap, ◌∙◌}
 use native.Mathlib.Omega.{arith}
-use Rattle.flatwriter.proofs.WriteSteps.{exprs-all, exprs-next, exprs-none, flat-no-room, flat-no-header, flat-operands, flat-arguments, arguments-joined, chain-no-room, chain-no-header, chain_lone, chain-on}
+use Rattle.std.specs.Prelude.{Ok}
+use Rattle.words.specs.Answered.{answered, told}
+use Rattle.flatwriter.proofs.WriteSteps.{exprs-all, exprs-next, exprs-none, flat-no-room, flat-no-header, flat-operands, flat-arguments, arguments-joined, chain-no-room, chain-no-header, chain-lone, chain-on}
+use Rattle.flatwriter.proofs.+all_arguments_chain_flat_flats.Goals.{chain-in_default-via-in-Ok+in_default, chain-in_default-via-in_default}
 use Rattle.flatwriter.proofs.+all_arguments_chain_flat_flats.Goals as goal
 
-pub all_arguments-added-requires : goal.all_arguments-added-requires
-all_arguments-added-requires t c = c.chain-c.ensures.bounds.1
+pub all_arguments-returns-clause-chained : goal.all_arguments-returns-clause-chained
+all_arguments-returns-clause-chained t c = arguments-joined _ _ _ _ _ _ _ _ _ c.exprs_end.ensures c.behind-b.ensures c.out_sort.ensures c.behind-d.ensures c.chain-c.ensures.chained c.flats-own.ensures refl refl c.added.ensures refl refl refl
 
-pub all_arguments-returns : goal.all_arguments-returns
-all_arguments-returns t c = record { bounds = (c.chain-c.ensures.bounds.0, omega (arith, c.added.ensures)); chained = arguments-joined _ _ _ _ _ _ _ c.exprs_end.ensures c.behind-b.ensures c.out_sort.ensures c.behind-d.ensures c.chain-c.ensures.chained c.flats-own.ensures refl refl c.added.ensures refl refl refl }
+pub chain-returns-then-room-eq0-clause-chained : goal.chain-returns-then-room-eq0-clause-chained
+chain-returns-then-room-eq0-clause-chained t c = chain-no-room _ _ _ _ _ c.if-room-eq0.true
 
-pub chain-returns-then-room-eq0 : goal.chain-returns-then-room-eq0
-chain-returns-then-room-eq0 t c = record { bounds = (omega (arith, c.lone.ensures.1), omega (arith, c.lone.ensures.2)); chained = chain-no-room _ _ _ _ _ c.if-room-eq0.true }
+pub chain-returns-in-Ok-Arguments-clause-chained : goal.chain-returns-in-Ok-Arguments-clause-chained
+chain-returns-in-Ok-Arguments-clause-chained t c = chain-on _ _ _ _ _ c.if-room-eq0.false (sym (ap told c.in-Ok-Arguments.field-0-is) ∙ c.in-Ok-Arguments.ensures) c.all_arguments.ensures.chained
 
-pub chain-returns-in-Operands : goal.chain-returns-in-Operands
-chain-returns-in-Operands t c =
-    let e = c.lone-in-Operands.ensures in
-    record { bounds = (omega (arith, e.1), omega (arith, e.2)); chained = chain_lone _ _ _ _ _ c.if-room-eq0.false (sym c.in-Operands.is ∙ c.head.ensures) e.0 e.1 e.2 e.3 }
-
-pub chain-returns-in-Arguments : goal.chain-returns-in-Arguments
-chain-returns-in-Arguments t c = record { bounds = (omega (arith, c.all_arguments.ensures.bounds.0), c.all_arguments.ensures.bounds.1); chained = chain-on _ _ _ _ _ c.if-room-eq0.false (sym c.in-Arguments.is ∙ c.head.ensures) c.all_arguments.ensures.chained }
-
-pub chain-returns-in-No : goal.chain-returns-in-No
-chain-returns-in-No t c =
-    let e = c.lone-in-No.ensures in
-    record { bounds = (omega (arith, e.1), omega (arith, e.2)); chained = chain-no-header _ _ _ _ _ c.if-room-eq0.false (sym c.in-No.is ∙ c.head.ensures) }
+pub chain-returns-in_default-clause-chained : goal.chain-returns-in_default-clause-chained
+chain-returns-in_default-clause-chained t c =
+    let e = c.lone-in_default.ensures in
+    elim c.in_default.branch [
+      | chain-in_default-via-in-Ok+in_default w ↦ chain-lone _ _ _ _ _ _ c.if-room-eq0.false w.in_default.ensures w.in_default.in-Operands-own.keys2 e.0 e.1 e.2 e.3
+      | chain-in_default-via-in_default w ↦ chain-no-header _ _ _ _ _ c.if-room-eq0.false (sym (ap (λ o. answered o) w.in_default.is) ∙ c.head.ensures)
+    ]
 
 pub flat-returns-then-room-eq0 : goal.flat-returns-then-room-eq0
 flat-returns-then-room-eq0 t c = flat-no-room _ _ _ _ _ c.if-room-eq0.true
 
-pub flat-flat-requires : goal.flat-flat-requires
-flat-flat-requires t c = omega (arith, c.all_arguments-c.ensures.bounds.0, c.decreases, c.if-room-eq0.false)
+pub flat-returns-in-Ok-Operands : goal.flat-returns-in-Ok-Operands
+flat-returns-in-Ok-Operands t c =
+    let h = c.in-Ok-Operands.is ∙ ap Ok c.in-Ok-Operands.field-0-is in
+    flat-operands _ _ _ _ _ c.if-room-eq0.false (λ i h. (c.type_inv.words i).fits) (omega (arith, rw h at c.head.type_inv)) (sym (ap told c.in-Ok-Operands.field-0-is) ∙ c.in-Ok-Operands.ensures) c.copy-p.ensures c.flats.ensures
 
-pub flat-returns-in-Operands : goal.flat-returns-in-Operands
-flat-returns-in-Operands t c = flat-operands _ _ _ _ _ c.if-room-eq0.false (λ i h. (c.type_inv.words i).fits) (omega arith) (sym c.in-Operands.is ∙ c.head.ensures) c.copy-p.ensures c.flats.ensures
+pub flat-returns-in-Ok-Arguments : goal.flat-returns-in-Ok-Arguments
+flat-returns-in-Ok-Arguments t c = flat-arguments _ _ _ _ _ c.if-room-eq0.false (λ i h. (c.type_inv.words i).fits) (sym (ap told c.in-Ok-Arguments.field-0-is) ∙ c.in-Ok-Arguments.ensures) c.copy-p-in-Ok-Arguments.ensures c.all_arguments-c.ensures.chained c.patch-q.ensures c.copy-s.ensures c.flat.ensures
 
-pub flat-returns-in-Arguments : goal.flat-returns-in-Arguments
-flat-returns-in-Arguments t c = flat-arguments _ _ _ _ _ c.if-room-eq0.false (λ i h. (c.type_inv.words i).fits) (sym c.in-Arguments.is ∙ c.head.ensures) c.copy-p-in-Arguments.ensures c.all_arguments-c.ensures.chained c.patch-q.ensures c.copy-s.ensures c.flat.ensures
+pub flat-returns-in-Err : goal.flat-returns-in-Err
+flat-returns-in-Err t c = flat-no-header _ _ _ _ _ c.if-room-eq0.false c.in-Err.ensures
 
-pub flat-returns-in-No : goal.flat-returns-in-No
-flat-returns-in-No t c = flat-no-header _ _ _ _ _ c.if-room-eq0.false (sym c.in-No.is ∙ c.head.ensures)
+pub flats-loop-init : goal.flats-loop-init
+flats-loop-init t c = (refl, λ es m s. exprs-all es m (omega arith) s)
 
-pub flats-loop-i-init : goal.flats-loop-i-init
-flats-loop-i-init t c = (refl, λ es m s. exprs-all es m s)
-
-pub flats-loop-i-preserved : goal.flats-loop-i-preserved
-flats-loop-i-preserved t c = (c.flat-r.auto.out ∙ c.loop-i.invariant.0, λ es m s. exprs-next es m c.loop-i-test.true c.flat-r.ensures (c.loop-i.invariant.1 es m s))
+pub flats-loop-preserved : goal.flats-loop-preserved
+flats-loop-preserved t c = (c.flat-walked.auto.out ∙ c.loop.invariant.0, λ es m s. exprs-next es m (omega (arith, c.loop-test.true)) c.flat-walked.ensures (c.loop.invariant.1 es m s))
 
 pub flats-returns : goal.flats-returns
-flats-returns t c es m s = exprs-none es m c.loop-i-test.false (c.loop-i.invariant.1 es m s)
+flats-returns t c es m s = exprs-none es m (omega (arith, c.loop-test.false)) (c.loop.invariant.1 es m s)

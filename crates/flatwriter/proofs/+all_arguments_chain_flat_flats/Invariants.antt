@@ -5,7 +5,7 @@ use Rattle.judging.specs.Judge.{reads}
 use Rattle.flattening.specs.Operations.{no_text}
 use Rattle.judge.proofs.ReadExpr.{siblings}
 use Rattle.flatwriter.proofs.WriteSteps.{LeftExprs}
-use Prim.Native.Nat.{ℕ, ◌+◌, ◌*◌}
+use Prim.Native.Nat.{ℕ, ◌+◌, ◌-◌, ◌*◌}
 use Rattle.flatwriter.proofs.+all_arguments_chain_flat_flats.Given as goal
 
 abbrev pub decreases-all_arguments : goal.decreases-all_arguments
@@ -20,8 +20,5 @@ decreases-flat l = l.room * 4 + 1
 abbrev pub decreases-flats : goal.decreases-flats
 decreases-flats l = l.room * 4 + 2
 
-abbrev pub invariant-flats-loop-i : goal.invariant-flats-loop-i
-invariant-flats-loop-i l = (length l.out ≡ length l.initial.out) × ((es : Exprs) (m : ℕ) → siblings no_text l.room l.n l.words l.at ≡ reads es m → LeftExprs l.words l.room l.i l.a l.p l.out l.initial.out l.place es m)
-
-abbrev pub decreases-flats-loop-i : goal.decreases-flats-loop-i
-decreases-flats-loop-i l = l.i
+abbrev pub invariant-flats-loop : goal.invariant-flats-loop
+invariant-flats-loop l = (length l.out ≡ length l.initial.out) × ((es : Exprs) (m : ℕ) → siblings no_text l.room l.n l.words l.at ≡ reads es m → LeftExprs l.words l.room (l.n - l.counter) l.walked.next l.walked.place l.out l.initial.out l.place es m)

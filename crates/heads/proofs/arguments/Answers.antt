@@ -1,14 +1,14 @@
-use Rattle.heads.proofs.ReadHead.{arguments_in, arguments-half, arguments-no, arguments-out}
+use native.Mathlib.Omega.{arith}
+use Rattle.heads.proofs.ReadHead.{arguments_in, arguments-no, arguments-short}
+use Rattle.heads.proofs.arguments.Goals.{then-saturating_sub-lt2-via-then-saturating_sub-lt2, then-saturating_sub-lt2-via-else-saturating_sub-lt2+then-words-at-gt1}
 use Rattle.heads.proofs.arguments.Goals as goal
 
-pub returns-then-a-words : goal.returns-then-a-words
-returns-then-a-words c = arguments_in _ _ c.if-at-words.true c.if-f-lt2.true c.if-a-words.true
+pub returns-then-saturating_sub-lt2 : goal.returns-then-saturating_sub-lt2
+returns-then-saturating_sub-lt2 c =
+    elim c.then-saturating_sub-lt2.branch [
+      | then-saturating_sub-lt2-via-then-saturating_sub-lt2 w ↦ arguments-short _ _ c.saturating_sub.ensures w.if-saturating_sub-lt2.true
+      | then-saturating_sub-lt2-via-else-saturating_sub-lt2+then-words-at-gt1 w ↦ arguments-no _ _ (omega (arith, c.saturating_sub.ensures, w.if-saturating_sub-lt2.false)) w.if-words-at-gt1.true
+    ]
 
-pub returns-else-a-words : goal.returns-else-a-words
-returns-else-a-words c = arguments-half _ _ c.if-at-words.true c.if-f-lt2.true c.if-a-words.false
-
-pub returns-else-f-lt2 : goal.returns-else-f-lt2
-returns-else-f-lt2 c = arguments-no _ _ c.if-at-words.true c.if-f-lt2.false
-
-pub returns-else-at-words : goal.returns-else-at-words
-returns-else-at-words c = arguments-out _ _ c.if-at-words.false
+pub returns : goal.returns
+returns c = arguments_in _ _ c.saturating_sub.ensures c.if-saturating_sub-lt2.false c.if-words-at-gt1.false

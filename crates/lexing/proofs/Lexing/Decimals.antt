@@ -14,7 +14,7 @@ use Rattle.reading.specs.Pick.{pick}
 use Rattle.reading.specs.Bytes.{before}
 use Rattle.reading.specs.Number.{is_digit, all_digits, sign_bytes}
 use Rattle.reading.specs.Decimal.{no_digit, leading_digits, some_digits, is_exponent, is_fraction}
-use Rattle.reading.proofs.Picks.{pick_eq, pick_ne}
+use Rattle.reading.proofs.Picks.{pick_true, pick-false, pick_eq, pick_ne}
 
 -- A place has a digit, or not.
 pub no_digit_lem : (s : List ℕ) (i b : ℕ) → b ≡ get_or s i 0 → not (is_digit 10 b) ≡ no_digit (drop i s)
@@ -57,13 +57,13 @@ module _ (s : List ℕ) (h : 0 < length s) where
   exponent_cons : is_exponent (get_or s 0 0 ∷ drop 1 s) ≡ is_exponent s
   exponent_cons = sym (ap is_exponent (drop-cons s 0 0 h))
 
-  pub exponent_small : (r : Bool) → get_or s 0 0 ≡ 101 → r ≡ some_digits (drop (sign_bytes (drop 1 s)) (drop 1 s)) → r ≡ is_exponent s
+  pub exponent-some : (r : Bool) → ((get_or s 0 0 ≡ 101 → ⊥) → get_or s 0 0 ≡ 69) → r ≡ some_digits (drop (sign_bytes (drop 1 s)) (drop 1 s)) → r ≡ is_exponent s
   unfolding is_exponent
-  exponent_small r e q = pick_eq _ e q ∙ exponent_cons
-
-  pub exponent-large : (r : Bool) → (get_or s 0 0 ≡ 101 → ⊥) → get_or s 0 0 ≡ 69 → r ≡ some_digits (drop (sign_bytes (drop 1 s)) (drop 1 s)) → r ≡ is_exponent s
-  unfolding is_exponent
-  exponent-large r n e q = pick_ne _ n (pick_eq _ e q) ∙ exponent_cons
+  exponent-some r e q = go (eqb (get_or s 0 0) 101) refl ∙ exponent_cons
+    where
+      go : (t : Bool) → eqb (get_or s 0 0) 101 ≡ t → r ≡ is_exponent (get_or s 0 0 ∷ drop 1 s)
+      go true p = pick_true _ p q
+      go false p = pick-false _ p (pick_eq _ (e (eqb-false (get_or s 0 0) 101 p)) q)
 
   pub exponent-no : (get_or s 0 0 ≡ 101 → ⊥) → (get_or s 0 0 ≡ 69 → ⊥) → false ≡ is_exponent s
   unfolding is_exponent

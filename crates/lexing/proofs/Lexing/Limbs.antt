@@ -1,8 +1,10 @@
 -- Laws of 128-bit numbers as four words. Numbers of more than 2^96 are kept out of `omega`.
 use Prim.Native.Nat.{ℕ, zero, suc, ◌+◌, ◌-◌, ◌*◌, ◌/◌, ◌%◌, ◌^◌, ◌<◌, ◌≤◌}
-use mathlib.Core.Path.{◌≡◌, sym, ap, ◌∙◌}
+use mathlib.Core.Path.{◌≡◌, refl, sym, ap, ◌∙◌}
 use native.Mathlib.Omega.{arith}
 use native.Mathlib.Nat.{mul-add, mul_left_comm, mul-suc, mul-le-mul_left, le_trans, le-add_left, add-zero, mul_assoc, mod-eq_of_lt}
+use Rattle.words.specs.declared.quad.Quad.{Quad}
+use Rattle.words.specs.Quads.{as_wide, InFour}
 use Rattle.reading.specs.Number.{Wide, wide_of, value_of, minus_of}
 use Rattle.lexing.specs.Quads.{Fit, Grows}
 
@@ -60,15 +62,6 @@ value-fits w f =
     let j : suc (w.a + 2 ^ 32 * y) ≤ 2 ^ 32 * suc y = omega (arith, f.a) in
     le_trans j (mul-le-mul_left (2 ^ 32) k)
 
--- The words of a number of 64 bits.
-pub wide-small : (n : ℕ) → n < 2 ^ 64 → record { a = n % 2 ^ 32; b = n / 2 ^ 32; c = 0; d = 0 } ≡ wide_of n
-unfolding wide_of
-wide-small n h =
-    let b : n / 2 ^ 32 % 2 ^ 32 ≡ n / 2 ^ 32 = omega arith in
-    let c : n / 2 ^ 32 / 2 ^ 32 % 2 ^ 32 ≡ 0 = omega arith in
-    let d : n / 2 ^ 32 / 2 ^ 32 / 2 ^ 32 % 2 ^ 32 ≡ 0 = omega arith in
-    rw (b, c, d)
-
 -- A word and minus it, and what lies above them.
 join : (K z lo w k hi rest' rest : ℕ) → lo + w + k ≡ 2 ^ 32 * hi → rest' + rest + hi ≡ K * z → (lo + 2 ^ 32 * rest') + (w + 2 ^ 32 * rest) + k ≡ 2 ^ 32 * K * z
 join K z lo w k hi rest' rest e f = rw mul_assoc (omega arith)
@@ -95,3 +88,8 @@ pub flipped : (q r : Wide) (i j k l : ℕ) → Fit r → l ≤ 1
 unfolding value_of
 flipped q r i j k l f h e₁ e₂ e₃ e₄ =
     minus q r l f h (sym (add-zero _) ∙ join (2 ^ 96) l r.a q.a 0 i _ _ e₁ (join (2 ^ 64) l r.b q.b i j _ _ e₂ (join (2 ^ 32) l r.c q.c j k _ _ e₃ e₄)))
+
+-- Four words of zero.
+pub four_zero : (q : Quad) → InFour 0 q → Fit (as_wide q) × (value_of (as_wide q) ≡ 0)
+unfolding wide_of value_of
+four_zero q e = rw e (record { a = omega arith; b = omega arith; c = omega arith; d = omega arith }, refl)

@@ -2,6 +2,7 @@
 use Prim.Native.Nat.{ℕ, zero, suc, ◌+◌, ◌-◌, ◌<◌, ◌≤◌}
 use mathlib.Core.Bool.{true, false, ◌&&◌, and-eq-true_iff}
 use mathlib.Core.Path.{◌≡◌, refl, sym, ap, ◌∙◌}
+use mathlib.Core.Logic.{◌⊎◌, inl, inr}
 use mathlib.Core.List.{List, [], ◌∷◌}
 use native.Mathlib.Numerals.{add-one}
 use native.Mathlib.Omega.{arith}
@@ -10,8 +11,9 @@ use lib.ListN.{length, get_or, drop, drop_of_length-le}
 use lib.Seq.{drop-cons}
 use borrow.Author.Tests.{ltb-true}
 use Rattle.reading.specs.Utf8.{Expected, first, inside, wrong, after_first, still_to_come, after_byte, at_end, well_formed}
+use Rattle.std.specs.Prelude.{Option, Some, None}
 use Rattle.lexing.specs.Next.{all_ascii, CharacterEnds}
-use Rattle.reading.proofs.Picks.{pick_le, pick_gt, pick_eq, pick_ne}
+use Rattle.reading.proofs.Picks.{pick_le, pick_gt}
 
 -- After a wrong byte nothing is right.
 pub formed-wrong : (s : List ℕ) → well_formed wrong s ≡ false
@@ -41,14 +43,14 @@ module _ (s : List ℕ) (i : ℕ) where
   formed-ascii h k = let l : get_or s i 0 ≤ 0x7f = omega arith in formed-first first h (pick_le _ l refl)
 
   module _ (lo hi n : ℕ) (h : i < length s) where
-    -- A byte inside of a character, below its range, above it or in it.
-    pub formed-low : get_or s i 0 < lo → well_formed (inside lo hi n) (drop i s) ≡ false
+    -- A byte inside of a character, outside of its range or in it.
+    pub formed-outside : (get_or s i 0 < lo) ⊎ ((lo ≤ get_or s i 0) × (hi < get_or s i 0)) → well_formed (inside lo hi n) (drop i s) ≡ false
     unfolding after_byte
-    formed-low k = formed-more (inside lo hi n) h ∙ ap (λ (x : Expected). well_formed x (drop (i + 1) s)) (sym (pick_gt _ k refl)) ∙ formed-wrong (drop (i + 1) s)
-
-    pub formed-high : lo ≤ get_or s i 0 → hi < get_or s i 0 → well_formed (inside lo hi n) (drop i s) ≡ false
-    unfolding after_byte
-    formed-high k l = formed-more (inside lo hi n) h ∙ ap (λ (x : Expected). well_formed x (drop (i + 1) s)) (sym (pick_le _ k (pick_gt _ l refl))) ∙ formed-wrong (drop (i + 1) s)
+    formed-outside k = formed-more (inside lo hi n) h ∙ ap (λ (x : Expected). well_formed x (drop (i + 1) s)) (sym (outside k)) ∙ formed-wrong (drop (i + 1) s)
+      where
+        outside : (get_or s i 0 < lo) ⊎ ((lo ≤ get_or s i 0) × (hi < get_or s i 0)) → wrong ≡ after_byte (inside lo hi n) (get_or s i 0)
+        outside (inl k) = pick_gt _ k refl
+        outside (inr k) = pick_le _ k.0 (pick_gt _ k.1 refl)
 
     pub formed-within : lo ≤ get_or s i 0 → get_or s i 0 ≤ hi → well_formed (inside lo hi n) (drop i s) ≡ well_formed (still_to_come n) (drop (i + 1) s)
     unfolding after_byte
@@ -83,20 +85,7 @@ unfolding still_to_come
 come_more zero h = absurd (h refl)
 come_more (suc n) h = let e : suc n - 1 ≡ n = omega arith in rw e
 
-module _ (e : Expected) (s : List ℕ) (at : ℕ) where
-  -- No character ends here.
-  pub ends-not : at ≤ length s → well_formed e (drop at s) ≡ false → CharacterEnds e s at 0
-  ends-not h q = record { follows = q ∙ pick_eq {a = 0} {b = 0} (well_formed first (drop (at + 0) s)) refl refl; fits = omega arith }
-
-  -- A character ends before the place k, after n bytes.
-  pub ends-before : (k n : ℕ) → k ≡ at + n → at < k → k ≤ length s → well_formed e (drop at s) ≡ well_formed first (drop k s) → CharacterEnds e s at n
-  ends-before k n p h l q =
-      let z : n ≡ 0 → ⊥ = λ z. omega arith in
-      record { follows = q ∙ pick_ne _ z (ap (λ (x : ℕ). well_formed first (drop x s)) p); fits = omega arith }
-
-  -- What it says of the text where n is 0, and where it is not.
-  pub ends-false : (n : ℕ) → CharacterEnds e s at n → n ≡ 0 → well_formed e (drop at s) ≡ false
-  ends-false n f z = f.follows ∙ sym (pick_eq _ z refl)
-
-  pub ends-first : (n : ℕ) → CharacterEnds e s at n → (n ≡ 0 → ⊥) → well_formed e (drop at s) ≡ well_formed first (drop (at + n) s)
-  ends-first n f z = f.follows ∙ sym (pick_ne _ z refl)
+-- A character ends where the bytes behind its first one end.
+pub ends-behind : (e : Expected) (s : List ℕ) (at : ℕ) (o : Option ℕ) → well_formed first (drop at s) ≡ well_formed e (drop (at + 1) s) → CharacterEnds e s (at + 1) o → CharacterEnds first s at o
+ends-behind e s at None p h = p ∙ h
+ends-behind e s at (Some next) p h = (omega arith, h.1, p ∙ h.2)

@@ -2,13 +2,16 @@
 use Prim.Native.Nat.{ℕ, ◌+◌, ◌-◌, ◌*◌, ◌%◌, ◌<◌, ◌≤◌}
 use mathlib.Core.Bool.{Bool, true, false, not, ◌&&◌, and-eq-true_iff}
 use mathlib.Core.Path.{◌≡◌, refl, sym, ◌∙◌}
+use mathlib.Core.Logic.{⊎_elim}
 use mathlib.Core.List.{List}
 use native.Mathlib.Nat.{add-zero}
 use native.Mathlib.Omega.{arith}
+use mir.Val.{bool_byte}
 use lib.Dec.{leb, ltb, eqb}
 use lib.ListN.{length, get_or, drop, length-drop}
 use lib.Seq.{get_or-drop}
-use borrow.Author.Tests.{ltb-true, ne_eqb}
+use borrow.Author.Tests.{ltb-true, ltb-false, eqb-true, eqb-false, ne_eqb}
+use Rattle.std.proofs.lemmas.Bool.{cases_lt}
 use Rattle.reading.specs.Pick.{pick}
 use Rattle.reading.specs.Space.{is_white, char_bytes, char_at, space_bytes, ends_atom}
 use Rattle.reading.proofs.Picks.{picks, pick_true, pick_le, pick_gt, pick_lt, pick_ge, pick_eq, pick_ne}
@@ -20,7 +23,7 @@ between m c n e =
     (ltb-true m c both.0, ltb-true c n both.1)
 
 -- What a number below U+1680 must not be, to be no white space.
-pub white_low : (c : ℕ) → 13 < c → (c ≡ 32 → ⊥) → (c ≡ 0x85 → ⊥) → (c ≡ 0xa0 → ⊥) → c < 0x1680 → false ≡ is_white c
+white_low : (c : ℕ) → 13 < c → (c ≡ 32 → ⊥) → (c ≡ 0x85 → ⊥) → (c ≡ 0xa0 → ⊥) → c < 0x1680 → false ≡ is_white c
 unfolding is_white
 white_low c h p q r k =
     let from : 9 ≤ c = omega arith in
@@ -29,13 +32,13 @@ white_low c h p q r k =
     search picks depth 24
 
 -- No white space lies among ASCII characters from U+0021 on, between U+00A0 and U+1680, and beyond U+3000.
-pub white-ascii : (c : ℕ) → 32 < c → c < 0x80 → false ≡ is_white c
+white-ascii : (c : ℕ) → 32 < c → c < 0x80 → false ≡ is_white c
 white-ascii c h k = white_low c (omega arith) (λ e. omega arith) (λ e. omega arith) (λ e. omega arith) (omega arith)
 
-pub white-between : (c : ℕ) → 0xa0 < c → c < 0x1680 → false ≡ is_white c
+white-between : (c : ℕ) → 0xa0 < c → c < 0x1680 → false ≡ is_white c
 white-between c h k = white_low c (omega arith) (λ e. omega arith) (λ e. omega arith) (λ e. omega arith) k
 
-pub white-beyond : (c : ℕ) → 0x3000 < c → false ≡ is_white c
+white-beyond : (c : ℕ) → 0x3000 < c → false ≡ is_white c
 unfolding is_white
 white-beyond c h =
     let not : (n : ℕ) → n ≤ 0x3000 → c ≡ n → ⊥ = λ n k e. omega arith in
@@ -97,7 +100,7 @@ space-other s t = rw (← t) (go (leb (char_bytes (get_or s 0 0)) (length s)))
     go true = refl
     go false = refl
 
-pub space-inside : (s : List ℕ) → char_bytes (get_or s 0 0) ≡ 0 → 0 ≡ space_bytes s
+space-inside : (s : List ℕ) → char_bytes (get_or s 0 0) ≡ 0 → 0 ≡ space_bytes s
 unfolding space_bytes pick
 space-inside s e = rw e (go (leb 0 (length s)) (is_white (char_at s)))
   where
@@ -108,53 +111,105 @@ space-inside s e = rw e (go (leb 0 (length s)) (is_white (char_at s)))
 
 -- What the first byte decides by itself.
 module _ (s : List ℕ) (at a : ℕ) (ea : a ≡ get_or s at 0) (h : at < length s) where
-  pub space-ascii : a < 0x80 → true ≡ is_white a → 1 ≡ space_bytes (drop at s)
+  space-ascii : a < 0x80 → true ≡ is_white a → 1 ≡ space_bytes (drop at s)
   unfolding char_bytes
   space-ascii k t =
       let n : 1 ≤ length s - at = omega arith in
       space-white s at 1 (rw (← ea) (pick_lt _ k refl)) n (t ∙ rw (← char_one s at a ea k))
 
-  pub space-blank : a ≡ 32 → 1 ≡ space_bytes (drop at s)
-  unfolding is_white pick
-  space-blank e = space-ascii (omega arith) (rw e)
-
-  pub space_graphic : a < 0x80 → false ≡ is_white a → 0 ≡ space_bytes (drop at s)
+  space_graphic : a < 0x80 → false ≡ is_white a → 0 ≡ space_bytes (drop at s)
   space_graphic k t = space-other (drop at s) (t ∙ rw (← char_one s at a ea k))
 
-  pub space_middle : 0x80 ≤ a → a < 0xc0 → 0 ≡ space_bytes (drop at s)
+  pub space-byte : a < 0x80 → (t : Bool) → t ≡ is_white a → bool_byte t ≡ space_bytes (drop at s)
+  space-byte k true e = space-ascii k e
+  space-byte k false e = space_graphic k e
+
+  space_middle : 0x80 ≤ a → a < 0xc0 → 0 ≡ space_bytes (drop at s)
   unfolding char_bytes
   space_middle k l = space-inside (drop at s) (simp (get_or-drop, add-zero, ← ea) (sym (pick_ge _ k (pick_lt _ l refl))))
 
-  pub space-two : 0xc3 ≤ a → a < 0xe0 → 0 ≡ space_bytes (drop at s)
+  space-two : 0xc3 ≤ a → a < 0xe0 → 0 ≡ space_bytes (drop at s)
   space-two k l =
       let b : ℕ = get_or s (at + 1) 0 in
       let e : a % 32 * 64 + b % 64 ≡ char_at (drop at s) = char_two s at a ea b refl (omega arith) l in
       space-other (drop at s) (white-between (char_at (drop at s)) (omega (arith, e)) (omega (arith, e)))
 
-  pub space-three : 0xe4 ≤ a → a < 0xf0 → 0 ≡ space_bytes (drop at s)
+  space-three : 0xe4 ≤ a → a < 0xf0 → 0 ≡ space_bytes (drop at s)
   space-three k l =
       let b : ℕ = get_or s (at + 1) 0 in
       let c : ℕ = get_or s (at + 2) 0 in
       let e : a % 16 * 4096 + b % 64 * 64 + c % 64 ≡ char_at (drop at s) = char_three s at a ea b c refl refl (omega arith) l in
       space-other (drop at s) (white-beyond (char_at (drop at s)) (omega (arith, e)))
 
+-- How many bytes white space has that begins with the byte b: n where b does not say.
+unfoldable pub by_first : ℕ → ℕ → ℕ
+by_first b n =
+    pick (ltb b 9) 0
+    (pick (ltb b 14) 1
+    (pick (eqb b 32) 1
+    (pick (ltb b 0xc0) 0
+    (pick (ltb b 0xc3) n
+    (pick (ltb b 0xe0) 0
+    (pick (ltb b 0xe4) n
+    (pick (ltb b 0xf0) 0 n)))))))
+
+-- A test that goes either way.
+module _ {A : Type 0} (a b : ℕ) (x y z : A) where
+  either-order : (a < b → x ≡ z) → (b ≤ a → y ≡ z) → pick (ltb a b) x y ≡ z
+  unfolding pick
+  either-order f g = go (ltb a b) refl
+    where
+      go : (t : Bool) → ltb a b ≡ t → pick t x y ≡ z
+      go true e = f (ltb-true a b e)
+      go false e = g (ltb-false a b e)
+
+  either-equal : (a ≡ b → x ≡ z) → ((a ≡ b → ⊥) → y ≡ z) → pick (eqb a b) x y ≡ z
+  unfolding pick
+  either-equal f g = go (eqb a b) refl
+    where
+      go : (t : Bool) → eqb a b ≡ t → pick t x y ≡ z
+      go true e = f (eqb-true a b e)
+      go false e = g (eqb-false a b e)
+
+space_first : (s : List ℕ) (at : ℕ) → at < length s → by_first (get_or s at 0) (space_bytes (drop at s)) ≡ space_bytes (drop at s)
+unfolding by_first is_white
+space_first s at h =
+    let a : ℕ = get_or s at 0 in
+    let n : ℕ = space_bytes (drop at s) in
+    either-order a 9 0 _ n (λ l. space_graphic s at a refl h (omega arith) (search (picks, arith) depth 24)) λ k₁.
+    either-order a 14 1 _ n (λ l. space-ascii s at a refl h (omega arith) (search (picks, arith) depth 24)) λ k₂.
+    either-equal a 32 1 _ n (λ l. space-ascii s at a refl h (omega arith) (search (picks, arith) depth 24)) λ k₃.
+    either-order a 0xc0 0 _ n
+    (λ l.
+    ⊎_elim
+    (λ (m : a < 0x80). space_graphic s at a refl h m (white_low a (omega arith) k₃ (λ e. omega arith) (λ e. omega arith) (omega arith)))
+    (λ (m : 0x80 ≤ a). space_middle s at a refl h m l)
+    (cases_lt a 0x80)) λ k₄.
+    either-order a 0xc3 n _ n (λ l. refl) λ k₅.
+    either-order a 0xe0 0 _ n (λ l. space-two s at a refl h k₅ l) λ k₆.
+    either-order a 0xe4 n _ n (λ l. refl) λ k₇.
+    either-order a 0xf0 0 n n (λ l. space-three s at a refl h k₇ l) λ k₈. refl
+
+pub space-told : (s : List ℕ) (at : ℕ) → at < length s → {r : ℕ} → r ≡ by_first (get_or s at 0) (space_bytes (drop at s)) → r ≡ space_bytes (drop at s)
+space-told s at h e = e ∙ space_first s at h
+
 -- Whether an atom ends at a place where the byte is a.
 module _ (s : List ℕ) (at a : ℕ) (ea : a ≡ get_or s at 0) where
-  pub ends_open : a ≡ 40 → true ≡ ends_atom (drop at s)
+  ends_open : a ≡ 40 → true ≡ ends_atom (drop at s)
   unfolding ends_atom
   ends_open h = simp (get_or-drop, add-zero, ← ea) (pick_eq _ h refl)
 
   module _ (n₁ : a ≡ 40 → ⊥) where
-    pub ends_close : a ≡ 41 → true ≡ ends_atom (drop at s)
+    ends_close : a ≡ 41 → true ≡ ends_atom (drop at s)
     unfolding ends_atom
     ends_close h = simp (get_or-drop, add-zero, ← ea) (pick_ne _ n₁ (pick_eq _ h refl))
 
     module _ (n₂ : a ≡ 41 → ⊥) where
-      pub ends-quote : a ≡ 34 → true ≡ ends_atom (drop at s)
+      ends-quote : a ≡ 34 → true ≡ ends_atom (drop at s)
       unfolding ends_atom
       ends-quote h = simp (get_or-drop, add-zero, ← ea) (pick_ne _ n₁ (pick_ne _ n₂ (pick_eq _ h refl)))
 
-      pub ends-other : (a ≡ 34 → ⊥) → (n : ℕ) → n ≡ space_bytes (drop at s) → not (eqb n 0) ≡ ends_atom (drop at s)
+      ends-other : (a ≡ 34 → ⊥) → (n : ℕ) → n ≡ space_bytes (drop at s) → not (eqb n 0) ≡ ends_atom (drop at s)
       unfolding ends_atom pick
       ends-other n₃ n en = simp (get_or-drop, add-zero, ← ea, ← en) (pick_ne _ n₁ (pick_ne _ n₂ (pick_ne _ n₃ (go (eqb n 0)))))
         where
@@ -164,8 +219,35 @@ module _ (s : List ℕ) (at a : ℕ) (ea : a ≡ get_or s at 0) where
 
 -- The same of a blank, and of an ASCII character behind `)`.
 module _ (s : List ℕ) (at a : ℕ) (ea : a ≡ get_or s at 0) (h : at < length s) where
-  pub ends-blank : a ≡ 32 → true ≡ ends_atom (drop at s)
-  ends-blank e = ends-other s at a ea (λ q. omega arith) (λ q. omega arith) (λ q. omega arith) 1 (space-blank s at a ea h e)
+  ends-blank : a ≡ 32 → true ≡ ends_atom (drop at s)
+  unfolding is_white pick
+  ends-blank e = ends-other s at a ea (λ q. omega arith) (λ q. omega arith) (λ q. omega arith) 1 (space-ascii s at a ea h (omega arith) (rw e))
 
-  pub ends_graphic : 41 < a → a < 0x80 → false ≡ ends_atom (drop at s)
+  ends_graphic : 41 < a → a < 0x80 → false ≡ ends_atom (drop at s)
   ends_graphic l k = ends-other s at a ea (λ q. omega arith) (λ q. omega arith) (λ q. omega arith) 0 (space_graphic s at a ea h k (white-ascii a (omega arith) k))
+
+-- Whether an atom ends before the byte b, where white space of n bytes begins.
+unfoldable pub ends_by : ℕ → ℕ → Bool
+ends_by b n =
+    pick (eqb b 32) true
+    (pick (eqb b 34) true
+    (pick (eqb b 40) true
+    (pick (eqb b 41) true
+    (pick (ltb b 42) (not (eqb n 0))
+    (pick (ltb b 0x80) false (not (eqb n 0)))))))
+
+ends_first : (s : List ℕ) (at : ℕ) → at < length s → ends_by (get_or s at 0) (space_bytes (drop at s)) ≡ ends_atom (drop at s)
+unfolding ends_by
+ends_first s at h =
+    let a : ℕ = get_or s at 0 in
+    let n : ℕ = space_bytes (drop at s) in
+    let t : Bool = ends_atom (drop at s) in
+    either-equal a 32 true _ t (λ e. ends-blank s at a refl h e) λ k₁.
+    either-equal a 34 true _ t (λ e. ends-quote s at a refl (λ q. omega arith) (λ q. omega arith) e) λ k₂.
+    either-equal a 40 true _ t (λ e. ends_open s at a refl e) λ k₃.
+    either-equal a 41 true _ t (λ e. ends_close s at a refl k₃ e) λ k₄.
+    either-order a 42 (not (eqb n 0)) _ t (λ l. ends-other s at a refl k₃ k₄ k₂ n refl) λ k₅.
+    either-order a 0x80 false (not (eqb n 0)) t (λ l. ends_graphic s at a refl h k₅ l) λ k₆. ends-other s at a refl k₃ k₄ k₂ n refl
+
+pub ends-told : (s : List ℕ) (at : ℕ) → at < length s → {r : Bool} → r ≡ ends_by (get_or s at 0) (space_bytes (drop at s)) → r ≡ ends_atom (drop at s)
+ends-told s at h e = e ∙ ends_first s at h

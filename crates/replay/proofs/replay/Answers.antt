@@ -1,8 +1,6 @@
 use mathlib.Core.Path.{refl, ap}
 use Rattle.recorded.specs.declared.line.Line.{Line}
-use Rattle.replay.proofs.Tallying.{Tallying, tally_all, tally_more, tally_none, line-next}
-use lib.ListN.{length}
-use Prim.Native.Nat.{◌-◌}
+use Rattle.replay.proofs.Tallying.{tally_all, tally_more, tally_none, line-next}
 use native.Mathlib.Omega.{arith}
 use Rattle.replay.proofs.replay.Goals as goal
 

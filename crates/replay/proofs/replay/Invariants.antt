@@ -1,9 +1,6 @@
-use mathlib.Core.Path.{refl, ap}
-use Rattle.recorded.specs.declared.line.Line.{Line}
-use Rattle.replay.proofs.Tallying.{Tallying, tally_all, tally_more, tally_none, line-next}
+use Rattle.replay.proofs.Tallying.{Tallying}
 use lib.ListN.{length}
 use Prim.Native.Nat.{◌-◌}
-use native.Mathlib.Omega.{arith}
 use Rattle.replay.proofs.replay.Given as goal
 
 abbrev pub invariant-loop-at : goal.invariant-loop-at

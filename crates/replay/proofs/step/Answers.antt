@@ -1,4 +1,3 @@
-use borrow.Author.Tests.{eqb-true}
 use mathlib.Core.Path.{refl}
 use Rattle.replay.proofs.Calling.{step-flat, step_call}
 use Rattle.replay.proofs.step.Goals as goal

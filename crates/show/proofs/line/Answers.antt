@@ -1,14 +1,8 @@
-use Rattle.show.proofs.Printing.{lining_starts, lining_more, lining_ends}
+use Rattle.show.proofs.Printing.{lining_more, lining_ends}
 use Rattle.show.proofs.line.Goals as goal
-
-pub loop-i-init : goal.loop-i-init
-loop-i-init c = lining_starts _ _ _ _ _ c.requires.0
 
 pub loop-i-preserved : goal.loop-i-preserved
 loop-i-preserved c = lining_more c.loop-i.invariant c.requires.1 c.loop-i-test.true c.separator.ensures c.word.ensures
-
-pub shape_of-out : goal.shape_of-out
-shape_of-out c = c.loop-i.invariant.kept
 
 pub returns : goal.returns
 returns c = lining_ends c.loop-i.invariant c.loop-i-test.false

@@ -1,8 +1,7 @@
+use Prim.Native.Nat.{◌-◌}
+use lib.ListN.{get_or}
 use Rattle.show.proofs.Going.{Going}
 use Rattle.show.proofs.lines.Given as goal
 
-abbrev pub invariant-loop-left : goal.invariant-loop-left
-invariant-loop-left l = Going l.words l.initial.out l.out l.from l.left l.at
-
-abbrev pub decreases-loop-left : goal.decreases-loop-left
-decreases-loop-left l = l.left
+abbrev pub invariant-loop : goal.invariant-loop
+invariant-loop l = Going l.words l.initial.out l.out l.from (get_or l.words 0 0 - l.counter) l.at

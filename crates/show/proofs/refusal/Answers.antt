@@ -1,6 +1,4 @@
 use mathlib.Core.Path.{refl}
-use native.Mathlib.Omega.{arith}
-use lib.ListN.{length-set}
 use Rattle.show.specs.Lines.{refusal_text}
 use Rattle.show.proofs.Stores.{sets_over}
 use Rattle.show.proofs.Showing.{shows, refusal-hides}
@@ -8,9 +6,6 @@ use Rattle.show.proofs.refusal.Goals as goal
 
 pub returns-then-out-lt3 : goal.returns-then-out-lt3
 returns-then-out-lt3 c = refusal-hides _ _ c.if-out-lt3.true c.clear.ensures
-
-pub bounds-out-1 : goal.bounds-out-1
-bounds-out-1 c = simp length-set (omega arith)
 
 pub returns : goal.returns
 unfolding refusal_text

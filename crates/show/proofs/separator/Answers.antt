@@ -6,6 +6,6 @@ pub returns-then-next-to : goal.returns-then-next-to
 unfolding pick
 returns-then-next-to c = simp (eq-eqb _ _ c.if-next-to.true)
 
-pub returns : goal.returns
+pub returns-else-next-to : goal.returns-else-next-to
 unfolding pick
-returns c = simp (ne_eqb _ _ c.if-next-to.false)
+returns-else-next-to c = simp (ne_eqb _ _ c.if-next-to.false)

@@ -2,8 +2,5 @@ use mathlib.Core.Path.{sym, ◌∙◌}
 use Rattle.show.proofs.Showing.{hides}
 use Rattle.show.proofs.solution.Goals as goal
 
-pub lines-requires : goal.lines-requires
-lines-requires c = sym c.fits.ensures ∙ c.if-fits.true
-
 pub returns : goal.returns
 returns c = hides _ _ (sym c.fits.ensures ∙ c.if-fits.false) c.clear.ensures

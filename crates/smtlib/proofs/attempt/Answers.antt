@@ -1,23 +1,24 @@
-use mathlib.Core.Path.{sym, ◌∙◌}
+use Rattle.std.proofs.lemmas.Result.{err_from_is_err_and}
 use Rattle.smtlib.proofs.Whole.{not-judged, vars-gone, term-gone, term-over, term-done}
 use Rattle.smtlib.proofs.attempt.Goals as goal
 
--- src/lib.rt:46:29
-pub returns-then-out-e : goal.returns-then-out-e
-returns-then-out-e c = term-over _ _ _ (sym c.in-At.is ∙ c.solution.ensures) (λ limit bs m s. c.vars.ensures limit bs m (rw c.word_at.ensures s)) c.in-At-vars.is c.byte-q.ensures c.term.ensures c.in-At-term.is c.if-out-e.true
+pub returns-in_err-solution : goal.returns-in_err-solution
+returns-in_err-solution c =
+    let p = err_from_is_err_and c.from_residual.result c.from_residual.ensures.1 in
+    rw (p.1, p.2) (not-judged _ _ _ c.in_err-solution.ensures)
 
--- src/lib.rt:33:1
-pub returns-in-No : goal.returns-in-No
-returns-in-No c = not-judged _ _ _ (sym c.in-No.is ∙ c.solution.ensures)
+pub returns-in_err-list : goal.returns-in_err-list
+returns-in_err-list c =
+    let p = err_from_is_err_and c.from_residual-in_err-list.result c.from_residual-in_err-list.ensures.1 in
+    rw (p.1, p.2) (vars-gone _ _ _ c.in_ok-solution.ensures (λ limit bs m s. c.vars.ensures limit bs m (rw c.word_at.ensures s)) c.in_err-list.was)
 
--- src/lib.rt:33:1
-pub returns-in-No-vars : goal.returns-in-No-vars
-returns-in-No-vars c = vars-gone _ _ _ (sym c.in-At.is ∙ c.solution.ensures) (λ limit bs m s. c.vars.ensures limit bs m (rw c.word_at.ensures s)) c.in-No-vars.is
+pub returns-in_err-body : goal.returns-in_err-body
+returns-in_err-body c =
+    let p = err_from_is_err_and c.from_residual-in_err-body.result c.from_residual-in_err-body.ensures.1 in
+    rw (p.1, p.2) (term-gone _ _ _ c.in_ok-solution.ensures (λ limit bs m s. c.vars.ensures limit bs m (rw c.word_at.ensures s)) c.in_ok-list.was c.byte-place.ensures c.term.ensures c.in_err-body.was)
 
--- src/lib.rt:33:1
-pub returns-in-No-term : goal.returns-in-No-term
-returns-in-No-term c = term-gone _ _ _ (sym c.in-At.is ∙ c.solution.ensures) (λ limit bs m s. c.vars.ensures limit bs m (rw c.word_at.ensures s)) c.in-At-vars.is c.byte-q.ensures c.term.ensures c.in-No-term.is
+pub returns-then-out-body : goal.returns-then-out-body
+returns-then-out-body c = term-over _ _ _ c.in_ok-solution.ensures (λ limit bs m s. c.vars.ensures limit bs m (rw c.word_at.ensures s)) c.in_ok-list.was c.byte-place.ensures c.term.ensures c.in_ok-body.was c.if-out-body.true
 
--- src/lib.rt:33:1
-pub returns-else-out-e : goal.returns-else-out-e
-returns-else-out-e c = term-done _ _ _ (sym c.in-At.is ∙ c.solution.ensures) (λ limit bs m s. c.vars.ensures limit bs m (rw c.word_at.ensures s)) c.in-At-vars.is c.byte-q.ensures c.term.ensures c.in-At-term.is c.if-out-e.false
+pub returns : goal.returns
+returns c = term-done _ _ _ c.in_ok-solution.ensures (λ limit bs m s. c.vars.ensures limit bs m (rw c.word_at.ensures s)) c.in_ok-list.was c.byte-place.ensures c.term.ensures c.in_ok-body.was c.if-out-body.false

@@ -1,7 +1,6 @@
 use mathlib.Core.Path.{refl}
 use Rattle.writing.proofs.Wrote.{wrote_then, wrote_as}
 use Rattle.solsmt.proofs.Pieces.{comment-is}
-use borrow.Author.Rules.{rules}
 use Rattle.solsmt.proofs.comment.Goals as goal
 
 pub returns : goal.returns

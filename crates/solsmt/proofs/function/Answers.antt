@@ -1,7 +1,4 @@
-use mathlib.Core.Path.{sym}
-use lib.Seq.{length-take-le}
 use Rattle.solsmt.proofs.Pieces.{function-wrote}
-use borrow.Author.Rules.{rules}
 use Rattle.solsmt.proofs.function.Goals as goal
 
 pub returns : goal.returns

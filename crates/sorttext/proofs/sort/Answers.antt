@@ -1,3 +1,4 @@
+use Rattle.std.proofs.lemmas.Result.{err_from_is_err_and}
 use Rattle.judging.proofs.Spell.{Low}
 use Prim.Native.Nat.{ℕ}
 use mathlib.Core.Path.{refl, ap, ◌∙◌}
@@ -9,7 +10,7 @@ use Rattle.sorttext.proofs.EndTexts.{size-some, size_few}
 use Rattle.smtlevels.proofs.Levels.{within_as}
 use Rattle.sorttext.proofs.SortLoop.{state_start, state_inside, state_few, state_end, state_put, state_gone, state_past, state_into, state_as}
 use Rattle.sorttext.proofs.sort.Goals as goal
-use Rattle.sorttext.proofs.sort.Goals.{then-n-eq0, else-n-eq0}
+use Rattle.sorttext.proofs.sort.Goals.{then-n-eq0, else-n-eq0, then-words-a-via-then-words-a, then-words-a-via-else-words-a+then-words-left}
 
 pub loop-left-init : goal.loop-left-init
 loop-left-init c =
@@ -20,13 +21,12 @@ pub shape_of-out-then-words-a : goal.shape_of-out-then-words-a
 shape_of-out-then-words-a c = c.loop-left.invariant.0
 
 pub returns-then-words-a : goal.returns-then-words-a
-returns-then-words-a c limit s n e = absurd (omega (arith, state_inside (c.loop-left.invariant.2 limit s n e) c.loop-left-test.true, c.if-words-a.true))
-
-pub shape_of-out-then-words-left : goal.shape_of-out-then-words-left
-shape_of-out-then-words-left c = c.loop-left.invariant.0
-
-pub returns-then-words-left : goal.returns-then-words-left
-returns-then-words-left c limit s n e = absurd (omega (arith, state_few (c.loop-left.invariant.2 limit s n e) c.loop-left-test.true, c.if-words-left.true))
+returns-then-words-a c limit s n e =
+    let z = c.loop-left.invariant.2 limit s n e in
+    elim c.then-words-a.branch [
+      | then-words-a-via-then-words-a w ↦ absurd (omega (arith, state_inside z c.loop-left-test.true, w.if-words-a.true))
+      | then-words-a-via-else-words-a+then-words-left w ↦ absurd (omega (arith, state_few z c.loop-left-test.true, w.if-words-left.true))
+    ]
 
 pub endings_known-e-requires : goal.endings_known-e-requires
 endings_known-e-requires c = c.loop-left.invariant.1
@@ -42,7 +42,7 @@ loop-left-smaller c = omega (arith, c.size-a.ensures, size-some c.sort_at-node.r
 
 pub loop-left-preserved : goal.loop-left-preserved
 loop-left-preserved c =
-    let f = piece_put c.opened.ensures c.in-To.is in
+    let f = piece_put c.opened.ensures c.in_ok-q.was in
     elim c.if-n-eq0.branch [
       | then-n-eq0 w ↦ (
         ap length w.out-is ∙ w.ended-p.auto.out ∙ c.opened.auto.out ∙ c.loop-left.invariant.0,
@@ -62,8 +62,10 @@ loop-left-preserved c =
       )
     ]
 
-pub returns-in-No : goal.returns-in-No
-returns-in-No c limit s n e = gone-told (state_gone (c.loop-left.invariant.2 limit s n e) c.loop-left-test.true c.sort_at-node.ensures (piece_gone c.opened.ensures c.in-No.is))
+pub returns-in_err-q : goal.returns-in_err-q
+returns-in_err-q c limit s n e =
+    let p = err_from_is_err_and c.from_residual.result c.from_residual.ensures.1 in
+    rw (p.1, p.2) (gone-told (state_gone (c.loop-left.invariant.2 limit s n e) c.loop-left-test.true c.sort_at-node.ensures (piece_gone c.opened.ensures c.in_err-q.was)))
 
 pub shape_of-out : goal.shape_of-out
 shape_of-out c = c.loop-left.invariant.0

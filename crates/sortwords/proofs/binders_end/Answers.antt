@@ -1,19 +1,23 @@
-use mathlib.Core.Path.{refl, sym, ◌∙◌}
+use native.Mathlib.Omega.{arith}
+use mathlib.Core.Path.{sym, ap, ◌∙◌}
+use Prim.Native.Nat.{ℕ}
+use Rattle.judging.specs.Judge.{binders_at}
+use Rattle.judging.specs.Ends.{end_of}
+use Rattle.judging.proofs.Exits.{exits}
 use Rattle.sortwords.proofs.SortRead.{binders-done, binders-next, binders-two, binders-sort}
 use Rattle.sortwords.proofs.binders_end.Goals as goal
 
-pub loop-left-init : goal.loop-left-init
-loop-left-init c = refl
+pub loop-init : goal.loop-init
+loop-init c = ap (λ (m : ℕ). end_of (binders_at c.args.limit m c.args.words.now c.args.at)) (omega arith)
 
-pub returns-in-No-sort_end : goal.returns-in-No-sort_end
-returns-in-No-sort_end c = sym (c.loop-left.invariant ∙ binders-sort _ _ _ _ c.loop-left-test.true (sym c.in-At.is ∙ c.two_end.ensures) (sym c.in-No-sort_end.is ∙ c.sort_end.ensures))
+pub returns-in_err-sort : goal.returns-in_err-sort
+returns-in_err-sort c = exits _ _ c.from_residual.ensures (sym (c.loop.invariant ∙ binders-two _ _ _ _ (omega (arith, c.loop-test.true)) c.in_err-sort.ensures))
 
-pub returns-in-No : goal.returns-in-No
-returns-in-No c = sym (c.loop-left.invariant ∙ binders-two _ _ _ _ c.loop-left-test.true (sym c.in-No.is ∙ c.two_end.ensures))
+pub returns-in_err-a : goal.returns-in_err-a
+returns-in_err-a c = exits _ _ c.from_residual-in_err-a.ensures (sym (c.loop.invariant ∙ binders-sort _ _ _ _ (omega (arith, c.loop-test.true)) c.in_ok-sort.ensures c.in_err-a.ensures))
 
-pub loop-left-preserved : goal.loop-left-preserved
-loop-left-preserved c =
-    c.loop-left.invariant ∙ binders-next _ _ _ _ c.loop-left-test.true (sym c.in-At.is ∙ c.two_end.ensures) (sym c.in-At-sort_end.is ∙ c.sort_end.ensures)
+pub loop-preserved : goal.loop-preserved
+loop-preserved c = c.loop.invariant ∙ binders-next _ _ _ _ _ (omega (arith, c.loop-test.true)) c.in_ok-sort.ensures c.in_ok-a.ensures
 
 pub returns : goal.returns
-returns c = sym (c.loop-left.invariant ∙ binders-done _ _ _ _ c.loop-left-test.false)
+returns c = sym (c.loop.invariant ∙ binders-done _ _ _ _ (omega (arith, c.loop-test.false)))

@@ -5,10 +5,13 @@ use mathlib.Core.Path.{◌≡◌, refl, sym, ap, subst, ◌∙◌}
 use mathlib.Core.List.{List, [], ◌∷◌, ◌++◌}
 use native.Mathlib.Numerals.{add-one}
 use native.Mathlib.Omega.{arith}
+use lib.Dec.{ltb}
 use lib.ListN.{length, set, get_or, take, drop, length-append, length-set, length-drop, drop_of_length-le}
 use lib.Seq.{sets, drop-cons, drop-drop}
+use borrow.Author.Tests.{lt-ltb}
+use Rattle.std.specs.Prelude.{Ok, Err}
 use Rattle.reading.specs.Limits.{max_lists}
-use Rattle.reading.specs.Answer.{Refusal, number, ends_early, stray_close, unclosed, too_deep, got, bad, over}
+use Rattle.reading.specs.Answer.{Refusal, ends_early, stray_close, unclosed, too_deep, got, bad, over}
 use Rattle.reading.specs.Tree.{Tree, Trees, atom, list, tnil, trees, atom_words, tree_words, trees_words}
 use Rattle.reading.specs.Token.{Token, token_at}
 use Rattle.lexing.specs.TokenWords.{as_token}
@@ -16,7 +19,8 @@ use Rattle.reading.specs.Reading.{may_follow}
 use Rattle.text.specs.Scanned.{scan_of, Scanned}
 use Rattle.lexing.specs.declared.tokens.Words.{Words}
 use Rattle.lexing.specs.declared.tokens.Token.TheVariants as Tokens
-use Rattle.text.specs.declared.scan.Outcome.TheVariants as Outcomes
+use Rattle.words.specs.Refusals.{refusal_of}
+use Rattle.words.specs.declared.refusal.Refusal.TheVariants as refusals
 use Rattle.reading.proofs.Token.{atom-size, blank_le, word_le}
 use Rattle.reading.proofs.Over.{over-more, over-sets, over-length}
 use Rattle.text.proofs.Looping.WhichToken.{five, is-blank, is-opens, is-closes, is-unfinished, is_leaf}
@@ -63,10 +67,10 @@ start all text out offs counts p q z =
       };
     }
 
-refused : (all : Bool) (text out₀ out : List ℕ) (r : Refusal) → scan_of all text ≡ bad r → Scanned all text out₀ out (Outcomes.Refused (number r))
+refused : (all : Bool) (text out₀ out : List ℕ) (r : Refusal) → scan_of all text ≡ bad r → Scanned all text out₀ out (Err (refusal_of r))
 refused all text out₀ out r e = record { answer = rw e; left = rw e tt }
 
-accepted : (all : Bool) (text out₀ out : List ℕ) (ts : Trees) (n w at : ℕ) → scan_of all text ≡ got (record { read = ts; next = at }) → n ≡ trees ts → w ≡ length (trees_words ts) → out ≡ over (trees_words ts) out₀ → Scanned all text out₀ out (Outcomes.Found n w at)
+accepted : (all : Bool) (text out₀ out : List ℕ) (ts : Trees) (n w at : ℕ) → scan_of all text ≡ got (record { read = ts; next = at }) → n ≡ trees ts → w ≡ length (trees_words ts) → out ≡ over (trees_words ts) out₀ → Scanned all text out₀ out (Ok (record { trees = n; words = w; next = at }))
 accepted all text out₀ out ts n w at e p q o = record { answer = rw (e, p, q); left = rw e o }
 
 -- The text from a position on.
@@ -95,11 +99,11 @@ module _ {more all : Bool} {text out₀ out : List ℕ} {at words depth : ℕ} {
   goes_on e = subst (λ (b : Bool). Stands b all text out₀ out at words depth offs counts) e v
 
   -- Behind the one expression that was wanted.
-  pub one-read : more ≡ may_follow all depth → more ≡ false → Scanned all text out₀ out (Outcomes.Found (get_or counts 0 0) words at)
+  pub one-read : more ≡ may_follow all depth → more ≡ false → Scanned all text out₀ out (Ok (record { trees = get_or counts 0 0; words = words; next = at }))
   unfolding stack_words may_follow
   one-read m e = go v.read v.open_lists v.holds
     where
-      go : (f : Trees) (st : List Trees) → Holds more all text out₀ out at words depth offs counts f st → Scanned all text out₀ out (Outcomes.Found (get_or counts 0 0) words at)
+      go : (f : Trees) (st : List Trees) → Holds more all text out₀ out at words depth offs counts f st → Scanned all text out₀ out (Ok (record { trees = get_or counts 0 0; words = words; next = at }))
       go f [] w =
           accepted all text out₀ out f (get_or counts 0 0) words at
           (w.goes ∙ ap (λ (b : Bool). to_come all b f [] at (drop at text)) e ∙ come_done all f at (drop at text)) (held-count f [] offs counts 0 refl w.held) w.sized w.lies
@@ -154,7 +158,7 @@ module _ {all : Bool} {text out₀ out : List ℕ} {at words depth : ℕ} {offs 
       )
 
   -- A string or an `@` that does not end.
-  pub broken : at < length text → as_token at token ≡ Tokens.Unfinished → Scanned all text out₀ out (Outcomes.Refused 5)
+  pub broken : at < length text → as_token at token ≡ Tokens.Unfinished → Scanned all text out₀ out (Err refusals.Unclosed)
   broken h e =
       refused all text out₀ out unclosed (at_byte v.read v.open_lists v.holds h ∙ come_unfinished all at byte rest v.read v.open_lists (is-unfinished at token e))
 
@@ -184,15 +188,15 @@ module _ {all : Bool} {text out₀ out : List ℕ} {at words depth : ℕ} {offs 
       }
 
   -- A list too many.
-  pub too_deep_lem : at < length text → as_token at token ≡ Tokens.Opens → max_lists ≤ depth → Scanned all text out₀ out (Outcomes.Refused 6)
+  pub too_deep_lem : at < length text → as_token at token ≡ Tokens.Opens → max_lists ≤ depth → Scanned all text out₀ out (Err refusals.TooDeep)
   too_deep_lem h e l =
       refused all text out₀ out too_deep (at_byte v.read v.open_lists v.holds h ∙ come_deep all at byte rest v.read v.open_lists (is-opens at token e) (omega arith))
 
   -- A `)` outside of all lists.
-  pub unopened : at < length text → as_token at token ≡ Tokens.Closes → depth ≡ 0 → Scanned all text out₀ out (Outcomes.Refused 4)
+  pub unopened : at < length text → as_token at token ≡ Tokens.Closes → depth ≡ 0 → Scanned all text out₀ out (Err refusals.StrayClose)
   unopened h e z = go v.read v.open_lists v.holds
     where
-      go : (f : Trees) (st : List Trees) → H f st → Scanned all text out₀ out (Outcomes.Refused 4)
+      go : (f : Trees) (st : List Trees) → H f st → Scanned all text out₀ out (Err refusals.StrayClose)
       go f [] w = refused all text out₀ out stray_close (at_byte f [] w h ∙ come_stray all at byte rest f (is-closes at token e))
       go f (g ∷ st) w = absurd (omega arith)
 
@@ -303,37 +307,38 @@ module _ {all : Bool} {text out₀ out : List ℕ} {at words depth : ℕ} {offs 
   at-end f st w h = w.goes ∙ ap (to_come all true f st at) (drop_of_length-le text h)
 
   -- The text ends inside a list.
-  pub ended-inside : length text ≤ at → (depth ≡ 0 → ⊥) → Scanned all text out₀ out (Outcomes.Refused 3)
+  pub ended-inside : length text ≤ at → (depth ≡ 0 → ⊥) → Scanned all text out₀ out (Err refusals.EndsEarly)
   ended-inside h z = go v.read v.open_lists v.holds
     where
-      go : (f : Trees) (st : List Trees) → H f st → Scanned all text out₀ out (Outcomes.Refused 3)
+      go : (f : Trees) (st : List Trees) → H f st → Scanned all text out₀ out (Err refusals.EndsEarly)
       go f [] w = absurd (z w.deep)
       go f (g ∷ st) w = refused all text out₀ out ends_early (at-end f (g ∷ st) w h ∙ come_inside all f g st at)
 
   -- The text ends outside of all lists, and all expressions were wanted.
-  pub ended-all : length text ≤ at → all ≡ true → depth ≡ 0 → Scanned all text out₀ out (Outcomes.Found (get_or counts 0 0) words at)
+  pub ended-all : length text ≤ at → all ≡ true → depth ≡ 0 → Scanned all text out₀ out (Ok (record { trees = get_or counts 0 0; words = words; next = at }))
   unfolding stack_words
   ended-all h e z = go v.read v.open_lists v.holds
     where
-      go : (f : Trees) (st : List Trees) → H f st → Scanned all text out₀ out (Outcomes.Found (get_or counts 0 0) words at)
+      go : (f : Trees) (st : List Trees) → H f st → Scanned all text out₀ out (Ok (record { trees = get_or counts 0 0; words = words; next = at }))
       go f [] w =
           accepted all text out₀ out f (get_or counts 0 0) words at
           (at-end f [] w h ∙ ap (λ (b : Bool). to_come b true f [] at []) e ∙ come_all f at) (held-count f [] offs counts 0 refl w.held) w.sized w.lies
       go f (g ∷ st) w = absurd (omega arith)
 
   -- The text ends, and one expression was wanted.
-  pub ended-none : length text ≤ at → all ≡ false → Scanned all text out₀ out (Outcomes.Refused 3)
+  pub ended-none : length text ≤ at → all ≡ false → Scanned all text out₀ out (Err refusals.EndsEarly)
   ended-none h e =
       refused all text out₀ out ends_early
       (at-end v.read v.open_lists v.holds h ∙ ap (λ (b : Bool). to_come b true v.read v.open_lists at []) e ∙ come_none v.read at v.open_lists)
 
--- Outside of all lists, an expression may follow where all are wanted.
-pub follows-outside : (all : Bool) (depth : ℕ) → depth ≡ 0 → all ≡ may_follow all depth
+-- Where all expressions are wanted, one may follow.
+pub follows-all : (all : Bool) (depth : ℕ) → all ≡ true → true ≡ may_follow all depth
 unfolding may_follow
-follows-outside all depth e = rw e
+follows-all all zero e = rw e
+follows-all all (suc depth) e = refl
 
--- Inside a list, one may follow.
-pub follows-inside : (all : Bool) (depth : ℕ) → (depth ≡ 0 → ⊥) → true ≡ may_follow all depth
+-- Where one is wanted, another may follow inside a list.
+pub follows-inside : (all : Bool) (depth : ℕ) → all ≡ false → ltb 0 depth ≡ may_follow all depth
 unfolding may_follow
-follows-inside all zero h = absurd (h refl)
-follows-inside all (suc depth) h = refl
+follows-inside all zero e = rw e
+follows-inside all (suc depth) e = lt-ltb 0 (suc depth) (omega arith)

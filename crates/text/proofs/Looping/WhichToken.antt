@@ -2,7 +2,6 @@
 use Prim.Native.Nat.{ℕ, suc, ◌+◌}
 use mathlib.Core.Path.{◌≡◌, refl, ap, ◌∙◌}
 use mathlib.Core.List.{List, [], ◌∷◌}
-use native.Mathlib.Omega.{arith}
 use lib.ListN.{length, take}
 use Rattle.reading.specs.Tree.{Atom, symbol, quoted, integer, decimal, boolean, atom_words}
 use Rattle.reading.specs.Token.{Token, blank, opens, closes, word, unfinished}
@@ -13,33 +12,33 @@ use Rattle.lexing.specs.declared.tokens.Token.TheVariants as Tokens
 -- White space.
 pub is-blank : (at next : ℕ) (t : Token) → as_token at t ≡ Tokens.Blank next → (m : ℕ) × (t ≡ blank m) × (next ≡ at + suc m)
 is-blank at next (blank m) e = (m, refl, cc)
-is-blank at next opens e = let z : ◌≡◌ {A = ℕ} 0 1 = cc in absurd (omega arith)
-is-blank at next closes e = let z : ◌≡◌ {A = ℕ} 0 1 = cc in absurd (omega arith)
-is-blank at next (word a m) e = let z : ◌≡◌ {A = ℕ} 0 1 = cc in absurd (omega arith)
-is-blank at next unfinished e = let z : ◌≡◌ {A = ℕ} 0 1 = cc in absurd (omega arith)
+is-blank at next opens e = absurd cc
+is-blank at next closes e = absurd cc
+is-blank at next (word a m) e = absurd cc
+is-blank at next unfinished e = absurd cc
 
 -- A `(`.
 pub is-opens : (at : ℕ) (t : Token) → as_token at t ≡ Tokens.Opens → t ≡ opens
-is-opens at (blank m) e = let z : ◌≡◌ {A = ℕ} 0 1 = cc in absurd (omega arith)
+is-opens at (blank m) e = absurd cc
 is-opens at opens e = refl
-is-opens at closes e = let z : ◌≡◌ {A = ℕ} 0 1 = cc in absurd (omega arith)
-is-opens at (word a m) e = let z : ◌≡◌ {A = ℕ} 0 1 = cc in absurd (omega arith)
-is-opens at unfinished e = let z : ◌≡◌ {A = ℕ} 0 1 = cc in absurd (omega arith)
+is-opens at closes e = absurd cc
+is-opens at (word a m) e = absurd cc
+is-opens at unfinished e = absurd cc
 
 -- A `)`.
 pub is-closes : (at : ℕ) (t : Token) → as_token at t ≡ Tokens.Closes → t ≡ closes
-is-closes at (blank m) e = let z : ◌≡◌ {A = ℕ} 0 1 = cc in absurd (omega arith)
-is-closes at opens e = let z : ◌≡◌ {A = ℕ} 0 1 = cc in absurd (omega arith)
+is-closes at (blank m) e = absurd cc
+is-closes at opens e = absurd cc
 is-closes at closes e = refl
-is-closes at (word a m) e = let z : ◌≡◌ {A = ℕ} 0 1 = cc in absurd (omega arith)
-is-closes at unfinished e = let z : ◌≡◌ {A = ℕ} 0 1 = cc in absurd (omega arith)
+is-closes at (word a m) e = absurd cc
+is-closes at unfinished e = absurd cc
 
 -- A string or an `@` that does not end.
 pub is-unfinished : (at : ℕ) (t : Token) → as_token at t ≡ Tokens.Unfinished → t ≡ unfinished
-is-unfinished at (blank m) e = let z : ◌≡◌ {A = ℕ} 0 1 = cc in absurd (omega arith)
-is-unfinished at opens e = let z : ◌≡◌ {A = ℕ} 0 1 = cc in absurd (omega arith)
-is-unfinished at closes e = let z : ◌≡◌ {A = ℕ} 0 1 = cc in absurd (omega arith)
-is-unfinished at (word a m) e = let z : ◌≡◌ {A = ℕ} 0 1 = cc in absurd (omega arith)
+is-unfinished at (blank m) e = absurd cc
+is-unfinished at opens e = absurd cc
+is-unfinished at closes e = absurd cc
+is-unfinished at (word a m) e = absurd cc
 is-unfinished at unfinished e = refl
 
 -- The five words that the code has for an atom.
@@ -65,9 +64,9 @@ pub record IsLeaf (at next n : ℕ) (w : Words) (t : Token) : Type 0 where
   pub words : take n (five w) ≡ atom_words which
 
 pub is_leaf : (at next n : ℕ) (w : Words) (t : Token) → as_token at t ≡ Tokens.Leaf next n w → IsLeaf at next n w t
-is_leaf at next n w (blank m) e = let z : ◌≡◌ {A = ℕ} 0 1 = cc in absurd (omega arith)
-is_leaf at next n w opens e = let z : ◌≡◌ {A = ℕ} 0 1 = cc in absurd (omega arith)
-is_leaf at next n w closes e = let z : ◌≡◌ {A = ℕ} 0 1 = cc in absurd (omega arith)
+is_leaf at next n w (blank m) e = absurd cc
+is_leaf at next n w opens e = absurd cc
+is_leaf at next n w closes e = absurd cc
 is_leaf at next n w (word a m) e =
     let p : n ≡ length (atom_words a) = cc in
     let r : w ≡ as_words a = cc in
@@ -79,4 +78,4 @@ is_leaf at next n w (word a m) e =
       size = p;
       words = ap (λ (x : Words). take n (five x)) r ∙ ap (λ (k : ℕ). take k (five (as_words a))) p ∙ words-atom a;
     }
-is_leaf at next n w unfinished e = let z : ◌≡◌ {A = ℕ} 0 1 = cc in absurd (omega arith)
+is_leaf at next n w unfinished e = absurd cc

@@ -1,5 +1,5 @@
 use Rattle.reading.specs.Number.{value_of}
-use Rattle.writing.specs.Quads.{as_wide}
+use Rattle.words.specs.Quads.{as_wide}
 use Rattle.writing.proofs.Pieces.{Counted}
 use Rattle.writing.proofs.figures.Given as goal
 

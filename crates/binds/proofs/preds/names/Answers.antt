@@ -1,12 +1,8 @@
-use mathlib.Core.Path.{refl}
 use native.Mathlib.Omega.{arith}
 use borrow.Author.Rules.{rules}
 use Rattle.places.proofs.Spots.{two-there}
-use Rattle.binds.proofs.PredNames.{naming_start, naming_end, naming_bad, naming_more, name-spot, name-room, symbol-there}
+use Rattle.binds.proofs.PredNames.{naming_end, naming_bad, naming_more, name-spot, name-room, symbol-there}
 use Rattle.binds.proofs.preds.names.Goals as goal
-
-pub loop-i-init : goal.loop-i-init
-loop-i-init c = (refl, λ h. naming_start)
 
 pub offset_bounds-tree-p : goal.offset_bounds-tree-p
 offset_bounds-tree-p c = omega (arith, two-there (name-spot (c.loop-i.invariant.1 c.requires) c.loop-i-test.true))
@@ -14,26 +10,11 @@ offset_bounds-tree-p c = omega (arith, two-there (name-spot (c.loop-i.invariant.
 pub bounds-tree-p : goal.bounds-tree-p
 bounds-tree-p c = omega (arith, two-there (name-spot (c.loop-i.invariant.1 c.requires) c.loop-i-test.true))
 
-pub shape_of-out-then-tree-p-ne-SYMBOL : goal.shape_of-out-then-tree-p-ne-SYMBOL
-shape_of-out-then-tree-p-ne-SYMBOL c = search (rules, c.loop-i.invariant.0)
-
 pub returns-then-tree-p-ne-SYMBOL : goal.returns-then-tree-p-ne-SYMBOL
 returns-then-tree-p-ne-SYMBOL c h = naming_bad (c.loop-i.invariant.1 h) c.loop-i-test.true c.if-tree-p-ne-SYMBOL.true
 
-pub overflow_add-p : goal.overflow_add-p
-overflow_add-p c = omega (arith, symbol-there (name-spot (c.loop-i.invariant.1 c.requires) c.loop-i-test.true) c.if-tree-p-ne-SYMBOL.false)
-
-pub offset_bounds-tree-p-in-loop-i : goal.offset_bounds-tree-p-in-loop-i
-offset_bounds-tree-p-in-loop-i c = omega (arith, symbol-there (name-spot (c.loop-i.invariant.1 c.requires) c.loop-i-test.true) c.if-tree-p-ne-SYMBOL.false)
-
 pub bounds-tree-p-in-loop-i : goal.bounds-tree-p-in-loop-i
 bounds-tree-p-in-loop-i c = omega (arith, symbol-there (name-spot (c.loop-i.invariant.1 c.requires) c.loop-i-test.true) c.if-tree-p-ne-SYMBOL.false)
-
-pub overflow_add-p-in-loop-i : goal.overflow_add-p-in-loop-i
-overflow_add-p-in-loop-i c = omega (arith, symbol-there (name-spot (c.loop-i.invariant.1 c.requires) c.loop-i-test.true) c.if-tree-p-ne-SYMBOL.false)
-
-pub offset_bounds-tree-p-in-loop-i-2 : goal.offset_bounds-tree-p-in-loop-i-2
-offset_bounds-tree-p-in-loop-i-2 c = omega (arith, symbol-there (name-spot (c.loop-i.invariant.1 c.requires) c.loop-i-test.true) c.if-tree-p-ne-SYMBOL.false)
 
 pub bounds-tree-p-in-loop-i-2 : goal.bounds-tree-p-in-loop-i-2
 bounds-tree-p-in-loop-i-2 c = omega (arith, symbol-there (name-spot (c.loop-i.invariant.1 c.requires) c.loop-i-test.true) c.if-tree-p-ne-SYMBOL.false)
@@ -41,17 +22,8 @@ bounds-tree-p-in-loop-i-2 c = omega (arith, symbol-there (name-spot (c.loop-i.in
 pub put_name-v-requires : goal.put_name-v-requires
 put_name-v-requires c = omega (arith, name-room (c.loop-i.invariant.1 c.requires) c.loop-i-test.true)
 
-pub overflow_add-p-in-loop-i-2 : goal.overflow_add-p-in-loop-i-2
-overflow_add-p-in-loop-i-2 c = omega (arith, symbol-there (name-spot (c.loop-i.invariant.1 c.requires) c.loop-i-test.true) c.if-tree-p-ne-SYMBOL.false)
-
-pub loop-i-smaller : goal.loop-i-smaller
-loop-i-smaller c = omega (arith, c.loop-i-test.true)
-
 pub loop-i-preserved : goal.loop-i-preserved
 loop-i-preserved c = (search (rules, c.loop-i.invariant.0), λ h. naming_more (c.loop-i.invariant.1 h) c.loop-i-test.true c.if-tree-p-ne-SYMBOL.false c.put_name-v.ensures)
 
-pub shape_of-out : goal.shape_of-out
-shape_of-out c = search (rules, c.loop-i.invariant.0)
-
 pub returns : goal.returns
-returns c h = naming_end (c.loop-i.invariant.1 h) c.loop-i-test.false
+returns c h = naming_end (c.loop-i.invariant.1 h) (omega arith)

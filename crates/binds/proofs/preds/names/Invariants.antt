@@ -1,12 +1,8 @@
 use lib.ListN.{length}
 use mathlib.Core.Path.{◌≡◌}
-use Prim.Native.Nat.{◌-◌}
 use Rattle.binds.specs.PredWords.{NameRow}
 use Rattle.binds.proofs.PredNames.{Naming}
 use Rattle.binds.proofs.preds.names.Given as goal
 
 abbrev pub invariant-loop-i : goal.invariant-loop-i
-invariant-loop-i l = (length l.out ≡ length l.initial.out) × ((h : NameRow l.tree l.at l.n l.w) → Naming l.text l.tree l.at l.n l.w h l.initial.out l.out l.i l.p l.v)
-
-abbrev pub decreases-loop-i : goal.decreases-loop-i
-decreases-loop-i l = l.n - l.i
+invariant-loop-i l = (length l.out ≡ length l.initial.out) × ((h : NameRow l.tree l.at l.n l.w) → Naming l.text l.tree l.at l.n l.w h l.initial.out l.out l._i l.p l.v)

@@ -11,7 +11,4 @@ abbrev pub decreases-operands : goal.decreases-operands
 decreases-operands l = 2 * (length l.tree.now - l.at) + 1
 
 abbrev pub invariant-operands-loop-i : goal.invariant-operands-loop-i
-invariant-operands-loop-i l = (length l.out ≡ length l.initial.out) × (length l.scopes ≡ length l.initial.scopes) × (Kept l.initial.scopes l.scopes l.depth) × ((h : Row l.text l.tree l.at l.have l.initial.scopes l.depth l.w l.next) → Going l.text l.count l.tree l.at l.have l.want l.initial.scopes l.depth l.w l.next h l.initial.out l.out l.i l.p l.n l.v)
-
-abbrev pub decreases-operands-loop-i : goal.decreases-operands-loop-i
-decreases-operands-loop-i l = l.want - l.i
+invariant-operands-loop-i l = (length l.out ≡ length l.initial.out) × (length l.scopes ≡ length l.initial.scopes) × (Kept l.initial.scopes l.scopes l.depth) × ((h : Row l.text l.tree l.at l.have l.initial.scopes l.depth l.w l.next) → Going l.text l.count l.tree l.at l.have l.want l.initial.scopes l.depth l.w l.next h l.initial.out l.out l.i l.p l.read.next l.read.words)

@@ -21,5 +21,5 @@ overflow_add-result c = omega (arith, c.requires.number)
 pub returns : goal.returns
 unfolding filled taken pick
 returns c =
-    rw (ne_eqb c.args.pair 0 c.if-pair-eq0.false, low_wrapped (c.args.count + c.args.next) _ c.wrapping_add_u64-k.ensures.value, high_wrapped (c.args.count + c.args.next) _ c.wrapping_add_u64-k.ensures.value, sym c.low.ensures, sym c.high.ensures)
+    rw (ne_eqb c.args.pair 0 c.if-pair-eq0.false, low_wrapped (c.args.count + c.args.next) _ refl, high_wrapped (c.args.count + c.args.next) _ refl, sym c.low.ensures, sym c.high.ensures)
     (c.opened.ensures.0, c.put2.ensures.words, c.opened.ensures.1, refl)

@@ -1,4 +1,5 @@
-use mathlib.Core.Path.{refl}
+use Rattle.std.proofs.Common.{◌≡◌, refl, drop, rules}
+use Rattle.reading.specs.Bytes.{lookup}
 use Rattle.reading.proofs.Bytes.{lookup-here, lookup-later}
 use Rattle.grammar.specs.Expr.{k_bin, op_add, op_div, op_mod, op_mul, kind_items}
 use Rattle.grammar.specs.Names.{keywords}
@@ -7,24 +8,26 @@ use Rattle.forms.proofs.keywords.arithmetic.Goals as goal
 
 pub returns-then-same : goal.returns-then-same
 unfolding keywords kind_items
-returns-then-same c = record { kind = k_bin op_add; is = keyword_is _ (lookup-here _ _ _ _ c.if-same.true c.same.ensures); words = refl }
+returns-then-same c = record { kind = k_bin op_add; is = search (rules, keyword_is, lookup-here, lookup-later) depth 12; words = refl }
 
 pub returns-then-same-2 : goal.returns-then-same-2
 unfolding keywords
-returns-then-same-2 c = keyword_is _ ((lookup-later _ _ _ _ c.if-same.false c.same.ensures (lookup-here _ _ _ _ c.if-same-2.true c.same-2.ensures)))
+returns-then-same-2 c = search (rules, keyword_is, lookup-here, lookup-later) depth 12
 
 pub returns-then-same-3 : goal.returns-then-same-3
 unfolding keywords kind_items
-returns-then-same-3 c = record { kind = k_bin op_mul; is = keyword_is _ (((lookup-later _ _ _ _ c.if-same.false c.same.ensures (lookup-later _ _ _ _ c.if-same-2.false c.same-2.ensures (lookup-here _ _ _ _ c.if-same-3.true c.same-3.ensures))))); words = refl }
+returns-then-same-3 c = record { kind = k_bin op_mul; is = search (rules, keyword_is, lookup-here, lookup-later) depth 12; words = refl }
 
 pub returns-then-same-4 : goal.returns-then-same-4
 unfolding keywords kind_items
-returns-then-same-4 c = record { kind = k_bin op_div; is = keyword_is _ ((((lookup-later _ _ _ _ c.if-same.false c.same.ensures (lookup-later _ _ _ _ c.if-same-2.false c.same-2.ensures (lookup-later _ _ _ _ c.if-same-3.false c.same-3.ensures (lookup-here _ _ _ _ c.if-same-4.true c.same-4.ensures))))))); words = refl }
+returns-then-same-4 c = record { kind = k_bin op_div; is = search (rules, keyword_is, lookup-here, lookup-later) depth 12; words = refl }
 
 pub returns-then-same-5 : goal.returns-then-same-5
 unfolding keywords kind_items
-returns-then-same-5 c = record { kind = k_bin op_mod; is = keyword_is _ (((((lookup-later _ _ _ _ c.if-same.false c.same.ensures (lookup-later _ _ _ _ c.if-same-2.false c.same-2.ensures (lookup-later _ _ _ _ c.if-same-3.false c.same-3.ensures (lookup-later _ _ _ _ c.if-same-4.false c.same-4.ensures (lookup-here _ _ _ _ c.if-same-5.true c.same-5.ensures))))))))); words = refl }
+returns-then-same-5 c = record { kind = k_bin op_mod; is = search (rules, keyword_is, lookup-here, lookup-later) depth 12; words = refl }
 
 pub returns : goal.returns
 unfolding keywords
-returns c = rest-says _ c.relation.result ((((((lookup-later _ _ _ _ c.if-same.false c.same.ensures (lookup-later _ _ _ _ c.if-same-2.false c.same-2.ensures (lookup-later _ _ _ _ c.if-same-3.false c.same-3.ensures (lookup-later _ _ _ _ c.if-same-4.false c.same-4.ensures (lookup-later _ _ _ _ c.if-same-5.false c.same-5.ensures refl)))))))))) c.relation.ensures
+returns c =
+    let e : lookup (drop 13 keywords) c.args.name.now ≡ lookup (drop 8 keywords) c.args.name.now = search (rules, lookup-later) depth 12 in
+    rest-says _ c.relation.result e c.relation.ensures

@@ -1,43 +1,44 @@
-use Rattle.reading.proofs.Bytes.{lookup-here, lookup-later}
+use Rattle.std.proofs.Common.{rules}
+use Rattle.reading.proofs.Bytes.{lookup-here, lookup-later, lookup-none}
 use Rattle.grammar.specs.Names.{theory}
 use Rattle.forms.proofs.theory.bitwise_function.Goals as goal
 
 pub returns-then-same : goal.returns-then-same
 unfolding theory
-returns-then-same c = lookup-here _ _ _ _ c.if-same.true c.same.ensures
+returns-then-same c = search (rules, lookup-here, lookup-later, lookup-none) depth 12
 
 pub returns-then-same-2 : goal.returns-then-same-2
 unfolding theory
-returns-then-same-2 c = (lookup-later _ _ _ _ c.if-same.false c.same.ensures (lookup-here _ _ _ _ c.if-same-2.true c.same-2.ensures))
+returns-then-same-2 c = search (rules, lookup-here, lookup-later, lookup-none) depth 12
 
 pub returns-then-same-3 : goal.returns-then-same-3
 unfolding theory
-returns-then-same-3 c = ((lookup-later _ _ _ _ c.if-same.false c.same.ensures (lookup-later _ _ _ _ c.if-same-2.false c.same-2.ensures (lookup-here _ _ _ _ c.if-same-3.true c.same-3.ensures))))
+returns-then-same-3 c = search (rules, lookup-here, lookup-later, lookup-none) depth 12
 
 pub returns-then-same-4 : goal.returns-then-same-4
 unfolding theory
-returns-then-same-4 c = (((lookup-later _ _ _ _ c.if-same.false c.same.ensures (lookup-later _ _ _ _ c.if-same-2.false c.same-2.ensures (lookup-later _ _ _ _ c.if-same-3.false c.same-3.ensures (lookup-here _ _ _ _ c.if-same-4.true c.same-4.ensures))))))
+returns-then-same-4 c = search (rules, lookup-here, lookup-later, lookup-none) depth 12
 
 pub returns-then-same-5 : goal.returns-then-same-5
 unfolding theory
-returns-then-same-5 c = ((((lookup-later _ _ _ _ c.if-same.false c.same.ensures (lookup-later _ _ _ _ c.if-same-2.false c.same-2.ensures (lookup-later _ _ _ _ c.if-same-3.false c.same-3.ensures (lookup-later _ _ _ _ c.if-same-4.false c.same-4.ensures (lookup-here _ _ _ _ c.if-same-5.true c.same-5.ensures))))))))
+returns-then-same-5 c = search (rules, lookup-here, lookup-later, lookup-none) depth 12
 
 pub returns-then-same-6 : goal.returns-then-same-6
 unfolding theory
-returns-then-same-6 c = (((((lookup-later _ _ _ _ c.if-same.false c.same.ensures (lookup-later _ _ _ _ c.if-same-2.false c.same-2.ensures (lookup-later _ _ _ _ c.if-same-3.false c.same-3.ensures (lookup-later _ _ _ _ c.if-same-4.false c.same-4.ensures (lookup-later _ _ _ _ c.if-same-5.false c.same-5.ensures (lookup-here _ _ _ _ c.if-same-6.true c.same-6.ensures))))))))))
+returns-then-same-6 c = search (rules, lookup-here, lookup-later, lookup-none) depth 12
 
 pub returns-then-same-7 : goal.returns-then-same-7
 unfolding theory
-returns-then-same-7 c = ((((((lookup-later _ _ _ _ c.if-same.false c.same.ensures (lookup-later _ _ _ _ c.if-same-2.false c.same-2.ensures (lookup-later _ _ _ _ c.if-same-3.false c.same-3.ensures (lookup-later _ _ _ _ c.if-same-4.false c.same-4.ensures (lookup-later _ _ _ _ c.if-same-5.false c.same-5.ensures (lookup-later _ _ _ _ c.if-same-6.false c.same-6.ensures (lookup-here _ _ _ _ c.if-same-7.true c.same-7.ensures))))))))))))
+returns-then-same-7 c = search (rules, lookup-here, lookup-later, lookup-none) depth 12
 
 pub returns-then-same-8 : goal.returns-then-same-8
 unfolding theory
-returns-then-same-8 c = (((((((lookup-later _ _ _ _ c.if-same.false c.same.ensures (lookup-later _ _ _ _ c.if-same-2.false c.same-2.ensures (lookup-later _ _ _ _ c.if-same-3.false c.same-3.ensures (lookup-later _ _ _ _ c.if-same-4.false c.same-4.ensures (lookup-later _ _ _ _ c.if-same-5.false c.same-5.ensures (lookup-later _ _ _ _ c.if-same-6.false c.same-6.ensures (lookup-later _ _ _ _ c.if-same-7.false c.same-7.ensures (lookup-here _ _ _ _ c.if-same-8.true c.same-8.ensures))))))))))))))
+returns-then-same-8 c = search (rules, lookup-here, lookup-later, lookup-none) depth 12
 
 pub returns-then-same-9 : goal.returns-then-same-9
 unfolding theory
-returns-then-same-9 c = ((((((((lookup-later _ _ _ _ c.if-same.false c.same.ensures (lookup-later _ _ _ _ c.if-same-2.false c.same-2.ensures (lookup-later _ _ _ _ c.if-same-3.false c.same-3.ensures (lookup-later _ _ _ _ c.if-same-4.false c.same-4.ensures (lookup-later _ _ _ _ c.if-same-5.false c.same-5.ensures (lookup-later _ _ _ _ c.if-same-6.false c.same-6.ensures (lookup-later _ _ _ _ c.if-same-7.false c.same-7.ensures (lookup-later _ _ _ _ c.if-same-8.false c.same-8.ensures (lookup-here _ _ _ _ c.if-same-9.true c.same-9.ensures))))))))))))))))
+returns-then-same-9 c = search (rules, lookup-here, lookup-later, lookup-none) depth 12
 
 pub returns : goal.returns
 unfolding theory
-returns c = (((((((((lookup-later _ _ _ _ c.if-same.false c.same.ensures (lookup-later _ _ _ _ c.if-same-2.false c.same-2.ensures (lookup-later _ _ _ _ c.if-same-3.false c.same-3.ensures (lookup-later _ _ _ _ c.if-same-4.false c.same-4.ensures (lookup-later _ _ _ _ c.if-same-5.false c.same-5.ensures (lookup-later _ _ _ _ c.if-same-6.false c.same-6.ensures (lookup-later _ _ _ _ c.if-same-7.false c.same-7.ensures (lookup-later _ _ _ _ c.if-same-8.false c.same-8.ensures (lookup-later _ _ _ _ c.if-same-9.false c.same-9.ensures c.set_function.ensures)))))))))))))))))
+returns c = search (rules, lookup-here, lookup-later, lookup-none) depth 12

@@ -1,23 +1,16 @@
-use mathlib.Core.Path.{sym, ◌∙◌}
-use Rattle.judge.proofs.ReadExpr.{solution-none, solution-params, solution-body, solution-left, solution-all}
+use borrow.Author.Tests.{true-eqb, false-eqb}
+use Rattle.judging.proofs.Exits.{exits}
+use Rattle.judge.proofs.ReadExpr.{solution-none, solution-params, solution-body, solution-all}
 use Rattle.judge.proofs.expr_words.solution.Goals as goal
 
--- src/expr_words.rt:244:9
-pub returns-then-words-eq0 : goal.returns-then-words-eq0
-returns-then-words-eq0 c = solution-none _ _ c.if-words-eq0.true
+pub returns-then-is_empty : goal.returns-then-is_empty
+returns-then-is_empty c = solution-none _ _ (true-eqb _ _ c.if-is_empty.ensures)
 
--- src/expr_words.rt:240:1
-pub returns-then-n-words : goal.returns-then-n-words
-returns-then-n-words c = solution-all _ _ c.if-words-eq0.false (sym c.in-At.is ∙ c.binders_end.ensures) (sym c.in-At-expr_end.is ∙ c.expr_end.ensures) c.if-n-words.true
+pub returns-in_err-body : goal.returns-in_err-body
+returns-in_err-body c = exits _ _ c.from_residual.ensures (solution-params _ _ (false-eqb _ _ c.if-is_empty.ensures) c.in_err-body.ensures)
 
--- src/expr_words.rt:240:1
-pub returns-else-n-words : goal.returns-else-n-words
-returns-else-n-words c = solution-left _ _ c.if-words-eq0.false (sym c.in-At.is ∙ c.binders_end.ensures) (sym c.in-At-expr_end.is ∙ c.expr_end.ensures) c.if-n-words.false
+pub returns-in_err-end : goal.returns-in_err-end
+returns-in_err-end c = exits _ _ c.from_residual-in_err-end.ensures (solution-body _ _ (false-eqb _ _ c.if-is_empty.ensures) c.in_ok-body.ensures c.in_err-end.ensures)
 
--- src/expr_words.rt:240:1
-pub returns-in-No-expr_end : goal.returns-in-No-expr_end
-returns-in-No-expr_end c = solution-body _ _ c.if-words-eq0.false (sym c.in-At.is ∙ c.binders_end.ensures) (sym c.in-No-expr_end.is ∙ c.expr_end.ensures)
-
--- src/expr_words.rt:240:1
-pub returns-in-No : goal.returns-in-No
-returns-in-No c = solution-params _ _ c.if-words-eq0.false (sym c.in-No.is ∙ c.binders_end.ensures)
+pub returns : goal.returns
+returns c = solution-all _ _ (false-eqb _ _ c.if-is_empty.ensures) c.in_ok-body.ensures c.in_ok-end.ensures c.whole.ensures

@@ -1,11 +1,7 @@
-use mathlib.Core.Path.{refl}
 use native.Mathlib.Omega.{arith}
 use Rattle.reading.specs.Bytes.{starts_with}
-use Rattle.reading.proofs.Bytes.{before_stop, before_more, before-end, starts-yes, starts-no}
+use Rattle.reading.proofs.Bytes.{before_stop, before_more, starts-yes, starts-no}
 use Rattle.lexing.proofs.byte.find.Goals as goal
-
-pub loop-i-init : goal.loop-i-init
-loop-i-init c = (c.requires, refl)
 
 pub returns-then-text-i : goal.returns-then-text-i
 returns-then-text-i c =
@@ -15,9 +11,4 @@ returns-then-text-i c =
 pub loop-i-preserved : goal.loop-i-preserved
 loop-i-preserved c =
     let a = c.args in
-    (omega arith, omega (arith, before_more (starts_with a.byte) a.text.now c.loop-i.i (omega arith) (starts-no a.text.now c.loop-i.i a.byte c.if-text-i.false)))
-
-pub returns : goal.returns
-returns c =
-    let a = c.args in
-    (omega (arith, before-end (starts_with a.byte) a.text.now c.loop-i.i (omega arith)), omega arith)
+    omega (arith, before_more (starts_with a.byte) a.text.now c.loop-i.i (omega arith) (starts-no a.text.now c.loop-i.i a.byte c.if-text-i.false))

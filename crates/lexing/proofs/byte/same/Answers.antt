@@ -1,4 +1,4 @@
-use mathlib.Core.Path.{refl, sym, ◌∙◌}
+use mathlib.Core.Path.{sym, ◌∙◌}
 use native.Mathlib.Omega.{arith}
 use Rattle.reading.proofs.Bytes.{same_length, same-apart, same_more, same_differ, same_end, same-last}
 use Rattle.lexing.proofs.byte.same.Goals as goal
@@ -11,9 +11,6 @@ returns-then-n-eq0 c = sym (same_end _ _ 0 (omega arith) (omega arith))
 
 pub returns-then-a-last : goal.returns-then-a-last
 returns-then-a-last c = sym (same-apart _ _ _ c.if-a-last.true)
-
-pub loop-i-init : goal.loop-i-init
-loop-i-init c = (omega arith, c.if-n-b.false, c.if-a-last.false, omega arith, refl)
 
 pub returns-then-a-i : goal.returns-then-a-i
 returns-then-a-i c =

@@ -1,19 +1,16 @@
 use mathlib.Core.Bool.{not}
-use mathlib.Core.Path.{sym, ap, ◌∙◌}
+use mathlib.Core.Path.{refl, sym, ap, ◌∙◌}
 use native.Mathlib.Omega.{arith}
 use Rattle.reading.specs.Decimal.{no_digit}
 use Rattle.reading.proofs.Bytes.{before_stop, before_more, before-end}
 use Rattle.lexing.proofs.Lexing.Decimals.{no_digit_lem}
 use Rattle.lexing.proofs.decimal.leading_digits.Goals as goal
 
-pub loop-i-init : goal.loop-i-init
-loop-i-init c = (omega arith, omega arith)
-
 pub returns-then-not-is_digit : goal.returns-then-not-is_digit
-returns-then-not-is_digit c = (omega (arith, before_stop no_digit c.args.t.now c.loop-i.i (omega arith) (ap not (sym c.if-not-is_digit.true) ∙ ap not c.is_digit.ensures ∙ no_digit_lem _ c.loop-i.i _ c.byte_to_long.ensures.0)), omega arith)
+returns-then-not-is_digit c = (omega (arith, before_stop no_digit c.args.t.now c.loop-i.i (omega arith) (ap not (sym c.if-not-is_digit.true ∙ c.is_digit.ensures) ∙ no_digit_lem _ c.loop-i.i _ refl)), omega arith)
 
 pub loop-i-preserved : goal.loop-i-preserved
-loop-i-preserved c = (omega arith, omega (arith, before_more no_digit c.args.t.now c.loop-i.i (omega arith) (ap not (sym c.if-not-is_digit.false) ∙ ap not c.is_digit.ensures ∙ no_digit_lem _ c.loop-i.i _ c.byte_to_long.ensures.0)))
+loop-i-preserved c = omega (arith, before_more no_digit c.args.t.now c.loop-i.i (omega arith) (ap not (sym c.if-not-is_digit.false ∙ c.is_digit.ensures) ∙ no_digit_lem _ c.loop-i.i _ refl))
 
 pub returns : goal.returns
 returns c = (omega (arith, before-end no_digit c.args.t.now c.loop-i.i (omega arith)), omega arith)

@@ -1,12 +1,11 @@
+use mathlib.Core.Path.{ap, ◌∙◌}
 use native.Mathlib.Omega.{arith}
-use Rattle.lexing.proofs.Lexing.Mags.{words_in_lem, words-out, value_higher}
+use Rattle.std.specs.Prelude.{Some}
+use Rattle.lexing.proofs.Lexing.Mags.{word_in, word_out}
 use Rattle.lexing.proofs.number.low_words.Goals as goal
 
 pub returns-then-q-ne0 : goal.returns-then-q-ne0
-returns-then-q-ne0 c = words-out _ (value_higher _ (omega arith))
-
-pub returns-then-q-ne0-2 : goal.returns-then-q-ne0-2
-returns-then-q-ne0-2 c = words-out _ (value_higher _ (omega arith))
+returns-then-q-ne0 c = word_out _ (omega (arith, c.then-q-ne0.either))
 
 pub returns : goal.returns
-returns c = words_in_lem _ (omega arith) (omega arith) (omega arith)
+returns c = ap Some c.words_to_long.ensures ∙ word_in _ (omega arith) c.if-q-ne0.false c.if-q-ne0-2.false

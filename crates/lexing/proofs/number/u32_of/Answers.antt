@@ -1,15 +1,18 @@
 use Prim.Native.Nat.{◌^◌}
-use mathlib.Core.Path.{refl, sym, ap, ◌∙◌}
+use mathlib.Core.Path.{refl, ap, ◌∙◌}
 use borrow.Author.Tests.{leb-true}
-use Rattle.reading.specs.Number.{below}
-use Rattle.lexing.specs.Quads.{as_word32, number_of}
-use Rattle.lexing.specs.declared.number.Mag.{Mag}
-use Rattle.lexing.proofs.Lexing.Signs.{unsigned-words}
+use Rattle.std.specs.Prelude.{Some, None}
+use Rattle.reading.specs.Number.{below, unsigned}
+use Rattle.lexing.specs.Quads.{as_word}
+use Rattle.lexing.proofs.Lexing.Mags.{narrowed, tried}
 use Rattle.lexing.proofs.number.u32_of.Goals as goal
 
-pub returns-in-Is : goal.returns-in-Is
-returns-in-Is c = c.low_word.ensures ∙ ap (λ (m : Mag). as_word32 (below (2 ^ 32) (number_of m))) (sym c.in-Is.is) ∙ ap as_word32 (unsigned-words _ 10 (2 ^ 32) _ (leb-true (2 ^ 32) (2 ^ 128) refl) c.unsigned-m.ensures)
+pub returns-in_err-u64_of : goal.returns-in_err-u64_of
+unfolding below unsigned
+returns-in_err-u64_of c = c.from_residual.ensures ∙ ap as_word (narrowed (2 ^ 32) (2 ^ 64) (leb-true (2 ^ 32) (2 ^ 64) refl) _ None c.in_err-u64_of.ensures)
 
-pub returns-in-No : goal.returns-in-No
-unfolding below
-returns-in-No c = ap (λ (m : Mag). as_word32 (below (2 ^ 32) (number_of m))) (sym c.in-No.is) ∙ ap as_word32 (unsigned-words _ 10 (2 ^ 32) _ (leb-true (2 ^ 32) (2 ^ 128) refl) c.unsigned-m.ensures)
+pub returns : goal.returns
+unfolding unsigned
+returns c =
+    tried c.try_from.result c.in_ok-u64_of.field-0 (2 ^ 32) _ c.try_from.ensures c.ok.ensures.value
+    ∙ ap as_word (narrowed (2 ^ 32) (2 ^ 64) (leb-true (2 ^ 32) (2 ^ 64) refl) _ (Some c.in_ok-u64_of.field-0) c.in_ok-u64_of.ensures)

@@ -1,5 +1,5 @@
 use mathlib.Core.Path.{ap}
-use Rattle.lexing.specs.Quads.{as_quad, as_wide}
+use Rattle.words.specs.Quads.{as_quad, as_wide}
 use Rattle.lexing.proofs.Lexing.Limbs.{flipped}
 use Rattle.lexing.proofs.quad.negate.Goals as goal
 

@@ -1,27 +1,30 @@
-use mathlib.Core.Path.{refl, sym, ◌∙◌}
+use mathlib.Core.Path.{refl, ap, ◌∙◌}
 use native.Mathlib.Omega.{arith}
-use Rattle.lexing.proofs.Lexing.White.{between, white-ascii, space-blank, space-ascii, space_graphic, space_middle, space-two, space-three}
+use lib.ListN.{get_or}
+use Rattle.reading.specs.Space.{is_white}
+use Rattle.reading.proofs.Picks.{picks}
+use Rattle.lexing.proofs.Lexing.White.{between, by_first, space-told, space-byte}
 use Rattle.lexing.proofs.space.space_bytes.Goals as goal
 
+pub returns-then-b-lt128 : goal.returns-then-b-lt128
+returns-then-b-lt128 c = c.from-then-b-lt128.ensures ∙ space-byte _ c.args.at _ refl c.requires c.if-b-lt128.true _ (c.is_white.ensures ∙ ap is_white c.from.ensures)
+
 pub returns-then-b-eq32 : goal.returns-then-b-eq32
-returns-then-b-eq32 c = space-blank _ c.args.at _ refl c.requires c.if-b-eq32.true
+unfolding by_first
+returns-then-b-eq32 c = space-told _ c.args.at c.requires (search (picks, arith) depth 24)
 
 pub returns-then-b : goal.returns-then-b
-returns-then-b c =
-    let b = between _ _ _ c.if-b.true in
-    space_graphic _ c.args.at _ refl c.requires b.1 (white-ascii _ b.0 b.1)
+unfolding by_first
+returns-then-b c = let b = between 32 (get_or c.args.text.now c.args.at 0) 0x80 c.if-b.true in space-told _ c.args.at c.requires (search (picks, arith) depth 24)
 
-pub returns-then-white_byte : goal.returns-then-white_byte
-returns-then-white_byte c = space-ascii _ c.args.at _ refl c.requires c.if-b-lt128.true (sym c.if-white_byte.true ∙ c.white_byte.ensures)
+pub returns-in_default : goal.returns-in_default
+unfolding by_first
+returns-in_default c = space-told _ c.args.at c.requires (search (picks, arith) depth 24)
 
-pub returns-then-b-lt128 : goal.returns-then-b-lt128
-returns-then-b-lt128 c = space_graphic _ c.args.at _ refl c.requires c.if-b-lt128.true (sym c.if-white_byte.false ∙ c.white_byte.ensures)
+pub returns-in_default-2 : goal.returns-in_default-2
+unfolding by_first
+returns-in_default-2 c = space-told _ c.args.at c.requires (search (picks, arith) depth 24)
 
-pub returns-then-b-lt192 : goal.returns-then-b-lt192
-returns-then-b-lt192 c = space_middle _ c.args.at _ refl c.requires (omega arith) (omega arith)
-
-pub returns-then-b-lt224 : goal.returns-then-b-lt224
-returns-then-b-lt224 c = space-two _ c.args.at _ refl c.requires (omega arith) (omega arith)
-
-pub returns-then-b-lt240 : goal.returns-then-b-lt240
-returns-then-b-lt240 c = space-three _ c.args.at _ refl c.requires (omega arith) (omega arith)
+pub returns-in_default-3 : goal.returns-in_default-3
+unfolding by_first
+returns-in_default-3 c = space-told _ c.args.at c.requires (search (picks, arith) depth 24)

@@ -4,14 +4,14 @@ use Rattle.lexing.proofs.Lexing.Leaves.{coded-integer, coded-decimal, coded-symb
 use Rattle.lexing.proofs.Lexing.Letters.{letter_integer, letter_decimal}
 use Rattle.lexing.proofs.tokens.number_or_symbol.Goals as goal
 
-pub returns-then-t-gt57 : goal.returns-then-t-gt57
-returns-then-t-gt57 c = c.spanned.ensures ∙ coded-symbol _ _ _ (ap as_integer (letter_integer _ c.if-t-gt57.true)) (letter_decimal _ c.if-t-gt57.true)
+pub returns-then-first-gt57 : goal.returns-then-first-gt57
+returns-then-first-gt57 c = c.spanned.ensures ∙ coded-symbol _ _ _ (ap as_integer (letter_integer _ c.if-first-gt57.true)) (letter_decimal _ c.if-first-gt57.true)
 
-pub returns-then-is_decimal : goal.returns-then-is_decimal
-returns-then-is_decimal c = c.spanned-then-is_decimal.ensures ∙ coded-decimal _ _ _ (sym c.in-No.is ∙ c.integer-m.ensures) (sym c.if-is_decimal.true ∙ c.is_decimal.ensures)
+pub returns-in-Some : goal.returns-in-Some
+returns-in-Some c = coded-integer _ _ _ _ c.in-Some.ensures
 
-pub returns-in-Is : goal.returns-in-Is
-returns-in-Is c = coded-integer _ _ _ _ (sym c.in-Is.is ∙ c.integer-m.ensures)
+pub returns-in-None : goal.returns-in-None
+returns-in-None c = c.spanned-in-None.ensures ∙ coded-decimal _ _ _ c.in-None.ensures (sym c.if-is_decimal.true ∙ c.is_decimal.ensures)
 
-pub returns-else-is_decimal : goal.returns-else-is_decimal
-returns-else-is_decimal c = c.spanned-in-No.ensures ∙ coded-symbol _ _ _ (sym c.in-No.is ∙ c.integer-m.ensures) (sym c.if-is_decimal.false ∙ c.is_decimal.ensures)
+pub returns-in-None-2 : goal.returns-in-None-2
+returns-in-None-2 c = c.spanned-in-None-2.ensures ∙ coded-symbol _ _ _ c.in-None-2.ensures (sym c.if-is_decimal.false ∙ c.is_decimal.ensures)

@@ -1,7 +1,7 @@
 use mathlib.Core.Path.{sym, ◌∙◌}
 use native.Mathlib.Omega.{arith}
 use Rattle.reading.specs.Utf8.{utf8}
-use Rattle.lexing.proofs.Lexing.WellFormed.{formed-end, ends-false, ends-first, ascii-formed}
+use Rattle.lexing.proofs.Lexing.WellFormed.{formed-end, ascii-formed}
 use Rattle.lexing.proofs.utf8.is_utf8.Goals as goal
 
 pub returns-then-is_ascii : goal.returns-then-is_ascii
@@ -11,13 +11,10 @@ returns-then-is_ascii c = ascii-formed _ (sym c.is_ascii.ensures ∙ c.if-is_asc
 pub loop-i-init : goal.loop-i-init
 loop-i-init c = (c.ascii_end-i.ensures.2, c.ascii_end-i.ensures.0)
 
-pub returns-then-n-eq0 : goal.returns-then-n-eq0
-unfolding utf8
-returns-then-n-eq0 c = sym (c.loop-i.invariant.1 ∙ ends-false _ _ _ _ c.character-n.ensures c.if-n-eq0.true)
-
-pub loop-i-preserved : goal.loop-i-preserved
-loop-i-preserved c = (c.ascii_end-i-in-loop-i.ensures.2, c.loop-i.invariant.1 ∙ ends-first _ _ _ _ c.character-n.ensures c.if-n-eq0.false ∙ c.ascii_end-i-in-loop-i.ensures.0)
-
 pub returns : goal.returns
 unfolding utf8
 returns c = sym (c.loop-i.invariant.1 ∙ formed-end _ c.loop-i.i _ (omega arith))
+
+pub returns-in_default : goal.returns-in_default
+unfolding utf8
+returns-in_default c = sym (c.loop-i.invariant.1 ∙ c.in_default.ensures)

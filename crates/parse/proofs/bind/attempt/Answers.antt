@@ -1,3 +1,4 @@
+use Rattle.std.proofs.lemmas.Result.{err_from_is_err_and}
 use native.Mathlib.Omega.{arith}
 use lib.ListN.{length-take}
 use Rattle.parse.proofs.ReadTree.{there-is, there-none}
@@ -5,19 +6,21 @@ use Rattle.parse.proofs.Ended.{ended, whole_in, bind-final, bind-none}
 use Rattle.parse.proofs.bind.attempt.Goals as goal
 
 pub slice_bounds-bind_at-end : goal.slice_bounds-bind_at-end
-slice_bounds-bind_at-end c = (there-is c.tree_of.ensures c.in-Done.is).within
+slice_bounds-bind_at-end c = (there-is c.tree_of.ensures c.in_ok-words.was).within
 
-pub slice_bounds-bind_at-end-in-Done : goal.slice_bounds-bind_at-end-in-Done
-slice_bounds-bind_at-end-in-Done c = let x = there-is c.tree_of.ensures c.in-Done.is in rw length-take (omega (arith, x.within))
+pub slice_bounds-bind_at-end-2 : goal.slice_bounds-bind_at-end-2
+slice_bounds-bind_at-end-2 c = let x = there-is c.tree_of.ensures c.in_ok-words.was in rw length-take (omega (arith, x.within))
 
-pub bind_at-p-requires : goal.bind_at-p-requires
-bind_at-p-requires c = whole_in (there-is c.tree_of.ensures c.in-Done.is)
+pub bind_at-parsed-requires : goal.bind_at-parsed-requires
+bind_at-parsed-requires c = whole_in (there-is c.tree_of.ensures c.in_ok-words.was)
 
-pub returns-in-Refused : goal.returns-in-Refused
-returns-in-Refused c = bind-none _ _ _ _ (there-none _ c.tree_of.ensures c.in-Refused.is)
+pub returns-in_err-words : goal.returns-in_err-words
+returns-in_err-words c =
+    let p = err_from_is_err_and c.from_residual.result c.from_residual.ensures.1 in
+    rw (p.1, p.2) (bind-none _ _ _ _ (there-none _ c.tree_of.ensures c.in_err-words.was))
 
-pub returns-in-Done : goal.returns-in-Done
-returns-in-Done c =
-    let x = there-is c.tree_of.ensures c.in-Done.is in
+pub returns : goal.returns
+returns c =
+    let x = there-is c.tree_of.ensures c.in_ok-words.was in
     rw (c.finished.ensures, bind-final c.args.text.now c.args.tree.now c.args.out.now c.args.count x.it x.is)
-    (ended _ _ _ _ (omega arith) _ (c.bind_at-p.ensures (whole_in x)) c.bind_at-p.auto.out)
+    (ended _ _ _ _ (omega arith) _ (c.bind_at-parsed.ensures (whole_in x)) c.bind_at-parsed.auto.out)

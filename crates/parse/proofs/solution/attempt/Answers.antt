@@ -1,3 +1,4 @@
+use Rattle.std.proofs.lemmas.Result.{err_from_is_err_and}
 use native.Mathlib.Omega.{arith}
 use lib.ListN.{length-take}
 use Rattle.parse.proofs.ReadTree.{there-is, there-none}
@@ -6,19 +7,21 @@ use Rattle.parse.proofs.Drafts.{draft-ended, draft-final, draft-none}
 use Rattle.parse.proofs.solution.attempt.Goals as goal
 
 pub slice_bounds-parts_at-end : goal.slice_bounds-parts_at-end
-slice_bounds-parts_at-end c = (there-is c.tree_of.ensures c.in-Done.is).within
+slice_bounds-parts_at-end c = (there-is c.tree_of.ensures c.in_ok-words.was).within
 
-pub slice_bounds-parts_at-end-in-Done : goal.slice_bounds-parts_at-end-in-Done
-slice_bounds-parts_at-end-in-Done c = let x = there-is c.tree_of.ensures c.in-Done.is in rw length-take (omega (arith, x.within))
+pub slice_bounds-parts_at-end-2 : goal.slice_bounds-parts_at-end-2
+slice_bounds-parts_at-end-2 c = let x = there-is c.tree_of.ensures c.in_ok-words.was in rw length-take (omega (arith, x.within))
 
-pub parts_at-p-requires : goal.parts_at-p-requires
-parts_at-p-requires c = whole_in (there-is c.tree_of.ensures c.in-Done.is)
+pub parts_at-parsed-requires : goal.parts_at-parsed-requires
+parts_at-parsed-requires c = whole_in (there-is c.tree_of.ensures c.in_ok-words.was)
 
-pub returns-in-Refused : goal.returns-in-Refused
-returns-in-Refused c = draft-none _ _ _ _ (there-none _ c.tree_of.ensures c.in-Refused.is)
+pub returns-in_err-words : goal.returns-in_err-words
+returns-in_err-words c =
+    let p = err_from_is_err_and c.from_residual.result c.from_residual.ensures.1 in
+    rw (p.1, p.2) (draft-none _ _ _ _ (there-none _ c.tree_of.ensures c.in_err-words.was))
 
-pub returns-in-Done : goal.returns-in-Done
-returns-in-Done c =
-    let x = there-is c.tree_of.ensures c.in-Done.is in
+pub returns : goal.returns
+returns c =
+    let x = there-is c.tree_of.ensures c.in_ok-words.was in
     rw (c.judged.ensures, draft-final c.args.text.now c.args.tree.now c.args.draft.now c.args.count x.it x.is)
-    (draft-ended _ _ _ _ _ (omega arith) _ (c.parts_at-p.ensures (whole_in x)) c.parts_at-p.auto.draft)
+    (draft-ended _ _ _ _ _ (omega arith) _ (c.parts_at-parsed.ensures (whole_in x)) c.parts_at-parsed.auto.draft)

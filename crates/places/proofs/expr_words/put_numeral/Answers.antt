@@ -1,6 +1,6 @@
 use mathlib.Core.List.{[], ◌∷◌}
 use native.Mathlib.Omega.{arith}
-use Rattle.lexing.specs.Quads.{as_wide}
+use Rattle.words.specs.Quads.{as_wide}
 use Rattle.lexing.proofs.Lexing.Signs.{value-under, value-over}
 use Rattle.places.proofs.Numerals.{numeral-plus, numeral-minus}
 use Rattle.places.proofs.Puts.{put_append}

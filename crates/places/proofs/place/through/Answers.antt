@@ -20,8 +20,8 @@ offset_bounds-tree-p-in-loop-p c = omega (arith, two-there (c.loop-p.invariant c
 pub bounds-tree-p-in-loop-p : goal.bounds-tree-p-in-loop-p
 bounds-tree-p-in-loop-p c = omega (arith, two-there (c.loop-p.invariant c.requires).spot)
 
-pub returns-then-tree-p-ne1 : goal.returns-then-tree-p-ne1
-returns-then-tree-p-ne1 c s = in_many _ _ _ s _ (c.loop-p.invariant s) c.loop-p-test.true c.if-tree-p-ne1.true
+pub returns-else-tree-p-eq1 : goal.returns-else-tree-p-eq1
+returns-else-tree-p-eq1 c s = in_many _ _ _ s _ (c.loop-p.invariant s) c.loop-p-test.true c.if-tree-p-eq1.false
 
 pub overflow_add-p-in-loop-p : goal.overflow_add-p-in-loop-p
 overflow_add-p-in-loop-p c = omega (arith, list-there (c.loop-p.invariant c.requires).spot c.loop-p-test.true)
@@ -30,7 +30,7 @@ pub loop-p-smaller : goal.loop-p-smaller
 loop-p-smaller c = omega (arith, list-there (c.loop-p.invariant c.requires).spot c.loop-p-test.true)
 
 pub loop-p-preserved : goal.loop-p-preserved
-loop-p-preserved c = λ s. in_one _ _ _ s _ (c.loop-p.invariant s) c.loop-p-test.true c.if-tree-p-ne1.false
+loop-p-preserved c = λ s. in_one _ _ _ s _ (c.loop-p.invariant s) c.loop-p-test.true c.if-tree-p-eq1.true
 
-pub returns : goal.returns
-returns c s = in_atom_lem _ _ _ s _ (c.loop-p.invariant s) c.loop-p-test.false
+pub returns-after-loop-p : goal.returns-after-loop-p
+returns-after-loop-p c s = in_atom_lem _ _ _ s _ (c.loop-p.invariant s) c.loop-p-test.false

@@ -13,23 +13,11 @@ bounds-tree-at c = omega (arith, two-there c.requires)
 pub returns-then-tree-at-ne-SYMBOL : goal.returns-then-tree-at-ne-SYMBOL
 returns-then-tree-at-ne-SYMBOL c p = apply-other c.args.text.now p c.if-tree-at-ne-SYMBOL.true
 
-pub overflow_add-at : goal.overflow_add-at
-overflow_add-at c = omega (arith, (symbol-there c.args.text.now c.requires c.if-tree-at-ne-SYMBOL.false))
-
-pub offset_bounds-tree-at-2 : goal.offset_bounds-tree-at-2
-offset_bounds-tree-at-2 c = omega (arith, (symbol-there c.args.text.now c.requires c.if-tree-at-ne-SYMBOL.false))
-
 pub bounds-tree-at-2 : goal.bounds-tree-at-2
 bounds-tree-at-2 c = omega (arith, (symbol-there c.args.text.now c.requires c.if-tree-at-ne-SYMBOL.false))
-
-pub overflow_add-at-2 : goal.overflow_add-at-2
-overflow_add-at-2 c = omega (arith, (symbol-there c.args.text.now c.requires c.if-tree-at-ne-SYMBOL.false))
-
-pub offset_bounds-tree-at-3 : goal.offset_bounds-tree-at-3
-offset_bounds-tree-at-3 c = omega (arith, (symbol-there c.args.text.now c.requires c.if-tree-at-ne-SYMBOL.false))
 
 pub bounds-tree-at-3 : goal.bounds-tree-at-3
 bounds-tree-at-3 c = omega (arith, (symbol-there c.args.text.now c.requires c.if-tree-at-ne-SYMBOL.false))
 
 pub returns : goal.returns
-returns c p = c.same.ensures ∙ ap (λ l. same_bytes l (ascii "apply")) c.bytes_at.ensures ∙ apply-here c.args.text.now p c.if-tree-at-ne-SYMBOL.false
+returns c p = c.same.ensures ∙ ap (λ l. same_bytes l (ascii "apply")) c.bytes.ensures ∙ apply-here c.args.text.now p c.if-tree-at-ne-SYMBOL.false

@@ -1,4 +1,5 @@
-use Rattle.plans.specs.declared.plan.Plan.TheVariants.{Stop}
+use Rattle.std.specs.Prelude.{Err}
+use Rattle.words.specs.declared.refusal.Refusal.TheVariants.{Malformed}
 use Rattle.std.proofs.Common.{arith}
 use Rattle.plans.proofs.ListPlans.{list-within, first-there, some-headed, some-filled, read_none, read_named, read-applied}
 use Rattle.plans.proofs.lists.list_plan.Goals as goal
@@ -13,13 +14,7 @@ pub bounds-tree-at : goal.bounds-tree-at
 bounds-tree-at c = omega (arith, list-within c.requires.listed)
 
 pub returns-then-tree-at-eq0 : goal.returns-then-tree-at-eq0
-returns-then-tree-at-eq0 c items h = read_none _ _ _ _ _ _ _ _ (Stop 8) items h c.if-tree-at-eq0.true
-
-pub overflow_add-at-2 : goal.overflow_add-at-2
-overflow_add-at-2 c = omega (arith, first-there c.requires.items c.requires.listed c.if-tree-at-eq0.false)
-
-pub offset_bounds-tree-at-2 : goal.offset_bounds-tree-at-2
-offset_bounds-tree-at-2 c = omega (arith, first-there c.requires.items c.requires.listed c.if-tree-at-eq0.false)
+returns-then-tree-at-eq0 c items h = read_none _ _ _ _ _ _ _ _ (Err Malformed) items h c.if-tree-at-eq0.true
 
 pub bounds-tree-at-2 : goal.bounds-tree-at-2
 bounds-tree-at-2 c = omega (arith, first-there c.requires.items c.requires.listed c.if-tree-at-eq0.false)

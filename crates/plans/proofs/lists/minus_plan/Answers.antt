@@ -12,9 +12,6 @@ offset_bounds-tree-at c = omega (arith, head-within c.requires.name c.requires.o
 pub bounds-tree-at : goal.bounds-tree-at
 bounds-tree-at c = omega (arith, head-within c.requires.name c.requires.others c.requires.listed)
 
-pub behind-requires : goal.behind-requires
-behind-requires c = (omega (arith, head-count c.requires.name c.requires.others c.requires.listed), omega (arith, head-within c.requires.name c.requires.others c.requires.listed))
-
 pub returns-then-n-eq2 : goal.returns-then-n-eq2
 returns-then-n-eq2 c s us h count = rw c.behind.ensures (minus_neg _ count _ _ _ _ s us h _ _ c.if-n-eq2.true c.put1.ensures)
 

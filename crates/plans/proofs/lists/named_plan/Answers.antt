@@ -16,8 +16,8 @@ offset_bounds-tree-at c = omega (arith, head-within c.requires.name c.requires.o
 pub bounds-tree-at : goal.bounds-tree-at
 bounds-tree-at c = omega (arith, head-within c.requires.name c.requires.others c.requires.listed)
 
-pub overflow_add-start : goal.overflow_add-start
-overflow_add-start c = omega (arith, head-within c.requires.name c.requires.others c.requires.listed)
+pub overflow_add-name : goal.overflow_add-name
+overflow_add-name c = omega (arith, head-within c.requires.name c.requires.others c.requires.listed)
 
 pub offset_bounds-tree-at-2 : goal.offset_bounds-tree-at-2
 offset_bounds-tree-at-2 c = omega (arith, head-within c.requires.name c.requires.others c.requires.listed)
@@ -25,8 +25,8 @@ offset_bounds-tree-at-2 c = omega (arith, head-within c.requires.name c.requires
 pub bounds-tree-at-2 : goal.bounds-tree-at-2
 bounds-tree-at-2 c = omega (arith, head-within c.requires.name c.requires.others c.requires.listed)
 
-pub overflow_add-len : goal.overflow_add-len
-overflow_add-len c = omega (arith, head-within c.requires.name c.requires.others c.requires.listed)
+pub overflow_add-name-2 : goal.overflow_add-name-2
+overflow_add-name-2 c = omega (arith, head-within c.requires.name c.requires.others c.requires.listed)
 
 pub offset_bounds-tree-at-3 : goal.offset_bounds-tree-at-3
 offset_bounds-tree-at-3 c = omega (arith, head-within c.requires.name c.requires.others c.requires.listed)
@@ -34,14 +34,8 @@ offset_bounds-tree-at-3 c = omega (arith, head-within c.requires.name c.requires
 pub bounds-tree-at-3 : goal.bounds-tree-at-3
 bounds-tree-at-3 c = omega (arith, head-within c.requires.name c.requires.others c.requires.listed)
 
-pub put1-requires : goal.put1-requires
-put1-requires c = omega (arith, c.requires.listed.room)
-
 pub behind-requires : goal.behind-requires
 behind-requires c = (omega (arith, head-count c.requires.name c.requires.others c.requires.listed), omega (arith, head-within c.requires.name c.requires.others c.requires.listed))
-
-pub put2-requires : goal.put2-requires
-put2-requires c = omega (arith, c.requires.listed.room)
 
 pub behind-requires-in-Two : goal.behind-requires-in-Two
 behind-requires-in-Two c = (omega (arith, head-count c.requires.name c.requires.others c.requires.listed), omega (arith, head-within c.requires.name c.requires.others c.requires.listed))
@@ -52,69 +46,51 @@ overflow_sub-n c = omega (arith, head-count c.requires.name c.requires.others c.
 pub overflow_sub-n-in-Many : goal.overflow_sub-n-in-Many
 overflow_sub-n-in-Many c = omega (arith, head-count c.requires.name c.requires.others c.requires.listed)
 
-pub put2-requires-in-Many : goal.put2-requires-in-Many
-put2-requires-in-Many c = omega (arith, c.requires.listed.room)
-
 pub behind-requires-in-Many : goal.behind-requires-in-Many
 behind-requires-in-Many c = (omega (arith, head-count c.requires.name c.requires.others c.requires.listed), omega (arith, head-within c.requires.name c.requires.others c.requires.listed))
 
 pub only-requires : goal.only-requires
 only-requires c = omega (arith, head-within c.requires.name c.requires.others c.requires.listed)
 
-pub overflow_add-start-in-IsCtor : goal.overflow_add-start-in-IsCtor
-overflow_add-start-in-IsCtor c = omega (arith, (ctor-room c.args.text.now 0 c.args.tree.now c.args.at c.args.w c.args.next c.requires.name c.requires.others c.requires.listed (subst (FormIs (form_of c.args.text.now c.requires.name)) c.in-IsCtor.is (form_of_lem c.args.text.now 0 c.args.tree.now c.args.at c.args.w c.args.next c.requires.name c.requires.others c.requires.listed c.form_named.result c.bytes_at.ensures c.form_named.ensures))).0)
+pub overflow_add-ctor : goal.overflow_add-ctor
+overflow_add-ctor c = omega (arith, (ctor-room c.args.text.now 0 c.args.tree.now c.args.at c.args.w c.args.next c.requires.name c.requires.others c.requires.listed (subst (FormIs (form_of c.args.text.now c.requires.name)) c.in-IsCtor.is (form_of_lem c.args.text.now 0 c.args.tree.now c.args.at c.args.w c.args.next c.requires.name c.requires.others c.requires.listed c.form_named.result c.bytes.ensures c.form_named.ensures))).0)
 
-pub overflow_sub-len : goal.overflow_sub-len
-overflow_sub-len c = omega (arith, (ctor-room c.args.text.now 0 c.args.tree.now c.args.at c.args.w c.args.next c.requires.name c.requires.others c.requires.listed (subst (FormIs (form_of c.args.text.now c.requires.name)) c.in-IsCtor.is (form_of_lem c.args.text.now 0 c.args.tree.now c.args.at c.args.w c.args.next c.requires.name c.requires.others c.requires.listed c.form_named.result c.bytes_at.ensures c.form_named.ensures))).1)
-
-pub put_name-requires : goal.put_name-requires
-put_name-requires c = omega (arith, c.requires.listed.room)
+pub overflow_sub-ctor : goal.overflow_sub-ctor
+overflow_sub-ctor c = omega (arith, (ctor-room c.args.text.now 0 c.args.tree.now c.args.at c.args.w c.args.next c.requires.name c.requires.others c.requires.listed (subst (FormIs (form_of c.args.text.now c.requires.name)) c.in-IsCtor.is (form_of_lem c.args.text.now 0 c.args.tree.now c.args.at c.args.w c.args.next c.requires.name c.requires.others c.requires.listed c.form_named.result c.bytes.ensures c.form_named.ensures))).1)
 
 pub only-requires-in-IsCtor : goal.only-requires-in-IsCtor
 only-requires-in-IsCtor c = omega (arith, head-within c.requires.name c.requires.others c.requires.listed)
 
-pub minus_plan-requires : goal.minus_plan-requires
-minus_plan-requires c = c.requires
-
-pub exists_plan-requires : goal.exists_plan-requires
-exists_plan-requires c = c.requires
-
-pub let_plan-requires : goal.let_plan-requires
-let_plan-requires c = c.requires
-
-pub lit_plan-requires : goal.lit_plan-requires
-lit_plan-requires c = c.requires
-
 pub returns-in-One : goal.returns-in-One
-returns-in-One c s us h = rw c.behind.ensures (made_one _ _ _ _ _ _ s us h _ _ (subst (FormIs (form_of c.args.text.now s)) c.in-One.is (form_of_lem c.args.text.now 0 c.args.tree.now c.args.at c.args.w c.args.next s us h c.form_named.result c.bytes_at.ensures c.form_named.ensures)) c.put1.ensures)
+returns-in-One c s us h = rw c.behind.ensures (made_one _ _ _ _ _ _ s us h _ _ (subst (FormIs (form_of c.args.text.now s)) c.in-One.is (form_of_lem c.args.text.now 0 c.args.tree.now c.args.at c.args.w c.args.next s us h c.form_named.result c.bytes.ensures c.form_named.ensures)) c.put1.ensures)
 
 pub returns-in-Two : goal.returns-in-Two
-returns-in-Two c s us h = rw c.behind-in-Two.ensures (made-two _ _ _ _ _ _ s us h _ _ (subst (FormIs (form_of c.args.text.now s)) c.in-Two.is (form_of_lem c.args.text.now 0 c.args.tree.now c.args.at c.args.w c.args.next s us h c.form_named.result c.bytes_at.ensures c.form_named.ensures)) c.put2.ensures)
+returns-in-Two c s us h = rw c.behind-in-Two.ensures (made-two _ _ _ _ _ _ s us h _ _ (subst (FormIs (form_of c.args.text.now s)) c.in-Two.is (form_of_lem c.args.text.now 0 c.args.tree.now c.args.at c.args.w c.args.next s us h c.form_named.result c.bytes.ensures c.form_named.ensures)) c.put2.ensures)
 
 pub returns-in-Many : goal.returns-in-Many
-returns-in-Many c s us h = rw c.behind-in-Many.ensures (made-many _ _ _ _ _ _ s us h _ _ (subst (FormIs (form_of c.args.text.now s)) c.in-Many.is (form_of_lem c.args.text.now 0 c.args.tree.now c.args.at c.args.w c.args.next s us h c.form_named.result c.bytes_at.ensures c.form_named.ensures)) c.word_to_length.ensures.0 c.put2-in-Many.ensures)
+returns-in-Many c s us h = rw c.behind-in-Many.ensures (made-many _ _ _ _ _ _ s us h _ _ (subst (FormIs (form_of c.args.text.now s)) c.in-Many.is (form_of_lem c.args.text.now 0 c.args.tree.now c.args.at c.args.w c.args.next s us h c.form_named.result c.bytes.ensures c.form_named.ensures)) refl c.put2-in-Many.ensures)
 
 pub returns-in-Cast : goal.returns-in-Cast
-returns-in-Cast c s us h = made-cast _ _ _ _ _ _ s us h _ _ (subst (FormIs (form_of c.args.text.now s)) c.in-Cast.is (form_of_lem c.args.text.now 0 c.args.tree.now c.args.at c.args.w c.args.next s us h c.form_named.result c.bytes_at.ensures c.form_named.ensures)) refl refl c.only.ensures
+returns-in-Cast c s us h = made-cast _ _ _ _ _ _ s us h _ _ (subst (FormIs (form_of c.args.text.now s)) c.in-Cast.is (form_of_lem c.args.text.now 0 c.args.tree.now c.args.at c.args.w c.args.next s us h c.form_named.result c.bytes.ensures c.form_named.ensures)) refl refl c.only.ensures
 
 pub returns-in-IsCtor : goal.returns-in-IsCtor
-returns-in-IsCtor c s us h = made-ctor _ _ _ _ _ _ s us h _ _ (subst (FormIs (form_of c.args.text.now s)) c.in-IsCtor.is (form_of_lem c.args.text.now 0 c.args.tree.now c.args.at c.args.w c.args.next s us h c.form_named.result c.bytes_at.ensures c.form_named.ensures)) c.put_name.ensures c.only-in-IsCtor.ensures
+returns-in-IsCtor c s us h = made-ctor _ _ _ _ _ _ s us h _ _ (subst (FormIs (form_of c.args.text.now s)) c.in-IsCtor.is (form_of_lem c.args.text.now 0 c.args.tree.now c.args.at c.args.w c.args.next s us h c.form_named.result c.bytes.ensures c.form_named.ensures)) c.put_name.ensures c.only-in-IsCtor.ensures
 
 pub returns-in-Minus : goal.returns-in-Minus
 unfolding ParseExpr.parse_form
-returns-in-Minus c s us h = made_other _ _ _ _ _ _ s us h _ _ c.minus_plan.result minus (subst (FormIs (form_of c.args.text.now s)) c.in-Minus.is (form_of_lem c.args.text.now 0 c.args.tree.now c.args.at c.args.w c.args.next s us h c.form_named.result c.bytes_at.ensures c.form_named.ensures)) (c.minus_plan.ensures s us h _)
+returns-in-Minus c s us h = made_other _ _ _ _ _ _ s us h _ _ c.minus_plan.result minus (subst (FormIs (form_of c.args.text.now s)) c.in-Minus.is (form_of_lem c.args.text.now 0 c.args.tree.now c.args.at c.args.w c.args.next s us h c.form_named.result c.bytes.ensures c.form_named.ensures)) (c.minus_plan.ensures s us h _)
 
 pub returns-in-Exists : goal.returns-in-Exists
 unfolding ParseExpr.parse_form
-returns-in-Exists c s us h = made_other _ _ _ _ _ _ s us h _ _ c.exists_plan.result exists (subst (FormIs (form_of c.args.text.now s)) c.in-Exists.is (form_of_lem c.args.text.now 0 c.args.tree.now c.args.at c.args.w c.args.next s us h c.form_named.result c.bytes_at.ensures c.form_named.ensures)) (c.exists_plan.ensures s us h)
+returns-in-Exists c s us h = made_other _ _ _ _ _ _ s us h _ _ c.exists_plan.result exists (subst (FormIs (form_of c.args.text.now s)) c.in-Exists.is (form_of_lem c.args.text.now 0 c.args.tree.now c.args.at c.args.w c.args.next s us h c.form_named.result c.bytes.ensures c.form_named.ensures)) (c.exists_plan.ensures s us h)
 
 pub returns-in-Let : goal.returns-in-Let
 unfolding ParseExpr.parse_form
-returns-in-Let c s us h = made_other _ _ _ _ _ _ s us h _ _ c.let_plan.result let_in (subst (FormIs (form_of c.args.text.now s)) c.in-Let.is (form_of_lem c.args.text.now 0 c.args.tree.now c.args.at c.args.w c.args.next s us h c.form_named.result c.bytes_at.ensures c.form_named.ensures)) (c.let_plan.ensures s us h _)
+returns-in-Let c s us h = made_other _ _ _ _ _ _ s us h _ _ c.let_plan.result let_in (subst (FormIs (form_of c.args.text.now s)) c.in-Let.is (form_of_lem c.args.text.now 0 c.args.tree.now c.args.at c.args.w c.args.next s us h c.form_named.result c.bytes.ensures c.form_named.ensures)) (c.let_plan.ensures s us h _)
 
 pub returns-in-Lit : goal.returns-in-Lit
 unfolding ParseExpr.parse_form
-returns-in-Lit c s us h = made_other _ _ _ _ _ _ s us h _ _ c.lit_plan.result lit (subst (FormIs (form_of c.args.text.now s)) c.in-Lit.is (form_of_lem c.args.text.now 0 c.args.tree.now c.args.at c.args.w c.args.next s us h c.form_named.result c.bytes_at.ensures c.form_named.ensures)) (c.lit_plan.ensures s us h _)
+returns-in-Lit c s us h = made_other _ _ _ _ _ _ s us h _ _ c.lit_plan.result lit (subst (FormIs (form_of c.args.text.now s)) c.in-Lit.is (form_of_lem c.args.text.now 0 c.args.tree.now c.args.at c.args.w c.args.next s us h c.form_named.result c.bytes.ensures c.form_named.ensures)) (c.lit_plan.ensures s us h _)
 
 pub returns-in-Apply : goal.returns-in-Apply
-returns-in-Apply c s us h = made-apply _ _ _ _ _ _ s us h _ _ (subst (FormIs (form_of c.args.text.now s)) c.in-Apply.is (form_of_lem c.args.text.now 0 c.args.tree.now c.args.at c.args.w c.args.next s us h c.form_named.result c.bytes_at.ensures c.form_named.ensures))
+returns-in-Apply c s us h = made-apply _ _ _ _ _ _ s us h _ _ (subst (FormIs (form_of c.args.text.now s)) c.in-Apply.is (form_of_lem c.args.text.now 0 c.args.tree.now c.args.at c.args.w c.args.next s us h c.form_named.result c.bytes.ensures c.form_named.ensures))

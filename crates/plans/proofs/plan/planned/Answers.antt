@@ -10,106 +10,49 @@ pub bounds-tree-at : goal.bounds-tree-at
 bounds-tree-at c = omega (arith, two-there c.requires.spot)
 
 pub list_plan-requires : goal.list_plan-requires
-list_plan-requires c = here-list _ _ _ _ _ _ _ c.requires c.if-kind-eq-LIST.true
+list_plan-requires c = here-list _ _ _ _ _ _ _ c.requires c.in-21.is
 
-pub returns-then-kind-eq-LIST : goal.returns-then-kind-eq-LIST
-returns-then-kind-eq-LIST c h = planned-list _ _ _ _ _ _ _ h _ _ _ c.list_plan.result c.if-kind-eq-LIST.true c.list_plan.ensures
+pub bounds-tree-at-in-16 : goal.bounds-tree-at-in-16
+bounds-tree-at-in-16 c = omega (arith, three-there c.requires.spot (λ e. omega arith))
 
-pub overflow_add-name : goal.overflow_add-name
-overflow_add-name c = omega (arith, three-there c.requires.spot (λ e. omega (arith, c.if-kind-eq-SYMBOL.true)))
+pub bounds-tree-at-in-16-2 : goal.bounds-tree-at-in-16-2
+bounds-tree-at-in-16-2 c = omega (arith, three-there c.requires.spot (λ e. omega arith))
 
-pub offset_bounds-tree-at-then-kind-eq-SYMBOL : goal.offset_bounds-tree-at-then-kind-eq-SYMBOL
-offset_bounds-tree-at-then-kind-eq-SYMBOL c = omega (arith, three-there c.requires.spot (λ e. omega (arith, c.if-kind-eq-SYMBOL.true)))
+pub bounds-tree-at-in-18 : goal.bounds-tree-at-in-18
+bounds-tree-at-in-18 c = omega (arith, five-there c.requires.spot c.in-18.is)
 
-pub bounds-tree-at-then-kind-eq-SYMBOL : goal.bounds-tree-at-then-kind-eq-SYMBOL
-bounds-tree-at-then-kind-eq-SYMBOL c = omega (arith, three-there c.requires.spot (λ e. omega (arith, c.if-kind-eq-SYMBOL.true)))
+pub bounds-tree-at-in-18-2 : goal.bounds-tree-at-in-18-2
+bounds-tree-at-in-18-2 c = omega (arith, five-there c.requires.spot c.in-18.is)
 
-pub overflow_add-name-then-kind-eq-SYMBOL : goal.overflow_add-name-then-kind-eq-SYMBOL
-overflow_add-name-then-kind-eq-SYMBOL c = omega (arith, three-there c.requires.spot (λ e. omega (arith, c.if-kind-eq-SYMBOL.true)))
+pub bounds-tree-at-in-18-3 : goal.bounds-tree-at-in-18-3
+bounds-tree-at-in-18-3 c = omega (arith, five-there c.requires.spot c.in-18.is)
 
-pub offset_bounds-tree-at-then-kind-eq-SYMBOL-2 : goal.offset_bounds-tree-at-then-kind-eq-SYMBOL-2
-offset_bounds-tree-at-then-kind-eq-SYMBOL-2 c = omega (arith, three-there c.requires.spot (λ e. omega (arith, c.if-kind-eq-SYMBOL.true)))
+pub bounds-tree-at-in-18-4 : goal.bounds-tree-at-in-18-4
+bounds-tree-at-in-18-4 c = omega (arith, five-there c.requires.spot c.in-18.is)
 
-pub bounds-tree-at-then-kind-eq-SYMBOL-2 : goal.bounds-tree-at-then-kind-eq-SYMBOL-2
-bounds-tree-at-then-kind-eq-SYMBOL-2 c = omega (arith, three-there c.requires.spot (λ e. omega (arith, c.if-kind-eq-SYMBOL.true)))
+pub bounds-tree-at-in-20 : goal.bounds-tree-at-in-20
+bounds-tree-at-in-20 c = omega (arith, two-there c.requires.spot)
 
-pub variable-requires : goal.variable-requires
-variable-requires c = (here-scopes _ _ _ _ _ _ _ c.requires, omega (arith, c.requires.room))
+pub bounds-tree-at-in-17 : goal.bounds-tree-at-in-17
+bounds-tree-at-in-17 c = omega (arith, three-there c.requires.spot (λ e. omega arith))
 
-pub returns-then-kind-eq-SYMBOL : goal.returns-then-kind-eq-SYMBOL
-returns-then-kind-eq-SYMBOL c h = let v = c.variable.ensures (here-scopes _ _ _ _ _ _ _ h) in planned-symbol _ _ _ _ _ _ _ h _ _ _ _ c.if-kind-eq-SYMBOL.true v.0 v.1
+pub bounds-tree-at-in-17-2 : goal.bounds-tree-at-in-17-2
+bounds-tree-at-in-17-2 c = omega (arith, three-there c.requires.spot (λ e. omega arith))
 
-pub overflow_add-q : goal.overflow_add-q
-overflow_add-q c = omega (arith, five-there c.requires.spot c.if-kind-eq-INTEGER.true)
+pub returns-in-21 : goal.returns-in-21
+returns-in-21 c h = planned-list _ _ _ _ _ _ _ h _ _ _ c.list_plan.result c.in-21.is c.list_plan.ensures
 
-pub offset_bounds-tree-at-then-kind-eq-INTEGER : goal.offset_bounds-tree-at-then-kind-eq-INTEGER
-offset_bounds-tree-at-then-kind-eq-INTEGER c = omega (arith, five-there c.requires.spot c.if-kind-eq-INTEGER.true)
+pub returns-in-16 : goal.returns-in-16
+returns-in-16 c h = let v = c.variable.ensures (here-scopes _ _ _ _ _ _ _ h) in planned-symbol _ _ _ _ _ _ _ h _ _ _ _ c.in-16.is v.0 v.1
 
-pub bounds-tree-at-then-kind-eq-INTEGER : goal.bounds-tree-at-then-kind-eq-INTEGER
-bounds-tree-at-then-kind-eq-INTEGER c = omega (arith, five-there c.requires.spot c.if-kind-eq-INTEGER.true)
+pub returns-in-18 : goal.returns-in-18
+returns-in-18 c h = let v = c.put_numeral.ensures c.args.count in planned-integer _ _ _ _ _ _ _ h _ _ _ _ c.in-18.is v.0 v.1
 
-pub overflow_add-q-then-kind-eq-INTEGER : goal.overflow_add-q-then-kind-eq-INTEGER
-overflow_add-q-then-kind-eq-INTEGER c = omega (arith, five-there c.requires.spot c.if-kind-eq-INTEGER.true)
+pub returns-in-20 : goal.returns-in-20
+returns-in-20 c h = planned-boolean _ _ _ _ _ _ _ h _ _ _ _ c.in-20.is c.put2.ensures
 
-pub offset_bounds-tree-at-then-kind-eq-INTEGER-2 : goal.offset_bounds-tree-at-then-kind-eq-INTEGER-2
-offset_bounds-tree-at-then-kind-eq-INTEGER-2 c = omega (arith, five-there c.requires.spot c.if-kind-eq-INTEGER.true)
+pub returns-in-17 : goal.returns-in-17
+returns-in-17 c h = planned-quoted _ _ _ _ _ _ _ h _ _ _ _ c.in-17.is c.put_name.ensures
 
-pub bounds-tree-at-then-kind-eq-INTEGER-2 : goal.bounds-tree-at-then-kind-eq-INTEGER-2
-bounds-tree-at-then-kind-eq-INTEGER-2 c = omega (arith, five-there c.requires.spot c.if-kind-eq-INTEGER.true)
-
-pub overflow_add-q-then-kind-eq-INTEGER-2 : goal.overflow_add-q-then-kind-eq-INTEGER-2
-overflow_add-q-then-kind-eq-INTEGER-2 c = omega (arith, five-there c.requires.spot c.if-kind-eq-INTEGER.true)
-
-pub offset_bounds-tree-at-then-kind-eq-INTEGER-3 : goal.offset_bounds-tree-at-then-kind-eq-INTEGER-3
-offset_bounds-tree-at-then-kind-eq-INTEGER-3 c = omega (arith, five-there c.requires.spot c.if-kind-eq-INTEGER.true)
-
-pub bounds-tree-at-then-kind-eq-INTEGER-3 : goal.bounds-tree-at-then-kind-eq-INTEGER-3
-bounds-tree-at-then-kind-eq-INTEGER-3 c = omega (arith, five-there c.requires.spot c.if-kind-eq-INTEGER.true)
-
-pub overflow_add-q-then-kind-eq-INTEGER-3 : goal.overflow_add-q-then-kind-eq-INTEGER-3
-overflow_add-q-then-kind-eq-INTEGER-3 c = omega (arith, five-there c.requires.spot c.if-kind-eq-INTEGER.true)
-
-pub offset_bounds-tree-at-then-kind-eq-INTEGER-4 : goal.offset_bounds-tree-at-then-kind-eq-INTEGER-4
-offset_bounds-tree-at-then-kind-eq-INTEGER-4 c = omega (arith, five-there c.requires.spot c.if-kind-eq-INTEGER.true)
-
-pub bounds-tree-at-then-kind-eq-INTEGER-4 : goal.bounds-tree-at-then-kind-eq-INTEGER-4
-bounds-tree-at-then-kind-eq-INTEGER-4 c = omega (arith, five-there c.requires.spot c.if-kind-eq-INTEGER.true)
-
-pub returns-then-kind-eq-INTEGER : goal.returns-then-kind-eq-INTEGER
-returns-then-kind-eq-INTEGER c h = let v = c.put_numeral.ensures c.args.count in planned-integer _ _ _ _ _ _ _ h _ _ _ _ c.if-kind-eq-INTEGER.true v.0 v.1
-
-pub overflow_add-at : goal.overflow_add-at
-overflow_add-at c = omega (arith, two-there c.requires.spot)
-
-pub offset_bounds-tree-at-then-kind-eq-BOOLEAN : goal.offset_bounds-tree-at-then-kind-eq-BOOLEAN
-offset_bounds-tree-at-then-kind-eq-BOOLEAN c = omega (arith, two-there c.requires.spot)
-
-pub bounds-tree-at-then-kind-eq-BOOLEAN : goal.bounds-tree-at-then-kind-eq-BOOLEAN
-bounds-tree-at-then-kind-eq-BOOLEAN c = omega (arith, two-there c.requires.spot)
-
-pub returns-then-kind-eq-BOOLEAN : goal.returns-then-kind-eq-BOOLEAN
-returns-then-kind-eq-BOOLEAN c h = planned-boolean _ _ _ _ _ _ _ h _ _ _ _ c.if-kind-eq-BOOLEAN.true c.put2.ensures
-
-pub overflow_add-name-then-kind-eq-QUOTED : goal.overflow_add-name-then-kind-eq-QUOTED
-overflow_add-name-then-kind-eq-QUOTED c = omega (arith, three-there c.requires.spot (λ e. omega (arith, c.if-kind-eq-QUOTED.true)))
-
-pub offset_bounds-tree-at-then-kind-eq-QUOTED : goal.offset_bounds-tree-at-then-kind-eq-QUOTED
-offset_bounds-tree-at-then-kind-eq-QUOTED c = omega (arith, three-there c.requires.spot (λ e. omega (arith, c.if-kind-eq-QUOTED.true)))
-
-pub bounds-tree-at-then-kind-eq-QUOTED : goal.bounds-tree-at-then-kind-eq-QUOTED
-bounds-tree-at-then-kind-eq-QUOTED c = omega (arith, three-there c.requires.spot (λ e. omega (arith, c.if-kind-eq-QUOTED.true)))
-
-pub overflow_add-name-then-kind-eq-QUOTED-2 : goal.overflow_add-name-then-kind-eq-QUOTED-2
-overflow_add-name-then-kind-eq-QUOTED-2 c = omega (arith, three-there c.requires.spot (λ e. omega (arith, c.if-kind-eq-QUOTED.true)))
-
-pub offset_bounds-tree-at-then-kind-eq-QUOTED-2 : goal.offset_bounds-tree-at-then-kind-eq-QUOTED-2
-offset_bounds-tree-at-then-kind-eq-QUOTED-2 c = omega (arith, three-there c.requires.spot (λ e. omega (arith, c.if-kind-eq-QUOTED.true)))
-
-pub bounds-tree-at-then-kind-eq-QUOTED-2 : goal.bounds-tree-at-then-kind-eq-QUOTED-2
-bounds-tree-at-then-kind-eq-QUOTED-2 c = omega (arith, three-there c.requires.spot (λ e. omega (arith, c.if-kind-eq-QUOTED.true)))
-
-pub returns-then-kind-eq-QUOTED : goal.returns-then-kind-eq-QUOTED
-returns-then-kind-eq-QUOTED c h = planned-quoted _ _ _ _ _ _ _ h _ _ _ _ c.if-kind-eq-QUOTED.true c.put_name.ensures
-
-pub returns : goal.returns
-returns c h = planned-decimal _ _ _ _ _ _ _ h _ _ _ c.if-kind-eq-LIST.false c.if-kind-eq-SYMBOL.false c.if-kind-eq-INTEGER.false c.if-kind-eq-BOOLEAN.false c.if-kind-eq-QUOTED.false
+pub returns-in_default : goal.returns-in_default
+returns-in_default c h = planned-decimal _ _ _ _ _ _ _ h _ _ _ (λ e. omega arith) (λ e. omega arith) (λ e. omega arith) (λ e. omega arith) (λ e. omega arith)

@@ -16,4 +16,4 @@ returns c =
     let small : a.self.next ≤ max_number = omega arith in
     let k = all_known a.text.now a.out.now a.self.next small in
     let q = read_told true a.text.now a.out.now _ a.self.next small k _ e.answer in
-    reply k (c.read.ensures ∙ q.0, q.1) refl refl e.output
+    reply k q refl refl e.output

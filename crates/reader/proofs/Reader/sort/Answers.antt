@@ -1,6 +1,7 @@
-use mathlib.Core.Path.{refl, ◌∙◌}
+use mathlib.Core.Path.{refl, ◌∙◌, ap}
 use Prim.Native.Nat.{◌≤◌}
 use native.Mathlib.Omega.{arith}
+use Rattle.words.specs.Answered.{heard}
 use Rattle.reading.specs.Limits.{max_number}
 use Rattle.replies.proofs.Outcomes.{sort-known}
 use Rattle.replies.proofs.Told.{sort-told, reply}
@@ -13,4 +14,4 @@ returns c =
     let small : a.self.next ≤ max_number = omega arith in
     let k = sort-known a.text.now a.out.now a.self.next small a.tree.now in
     let q = sort-told a.text.now a.tree.now a.out.now a.self.next small _ e.answer in
-    reply k (c.sized.ensures ∙ q.0, q.1) e.working refl e.output
+    reply k (ap heard c.sized.ensures ∙ q.0, q.1) e.working refl e.output

@@ -4,18 +4,16 @@ use lib.Seq.{length-take-le}
 use Rattle.replay.proofs.Calling.{spelled-there, long-words, long-tree, long-draft, long-out, lend_done}
 use borrow.Author.Rules.{rules}
 use Rattle.replay.proofs.call.lend.Goals as goal
+use Rattle.replay.proofs.call.lend.Goals.{then-n-gt-WORDS-via-then-n-gt-WORDS, then-n-gt-WORDS-via-else-n-gt-WORDS+then-line-gt-WORDS, then-n-gt-WORDS-via-else-n-gt-WORDS+else-line-gt-WORDS+then-line-gt-WORDS-2, then-n-gt-WORDS-via-else-n-gt-WORDS+else-line-gt-WORDS+else-line-gt-WORDS-2+then-line-gt-WORDS-3}
 
 pub returns-then-n-gt-WORDS : goal.returns-then-n-gt-WORDS
-returns-then-n-gt-WORDS c = long-words c.args.lines.now c.args.line c.args.text.now c.args.reader.next c.put_words-n.ensures.0 c.if-n-gt-WORDS.true
-
-pub returns-then-line-gt-WORDS : goal.returns-then-line-gt-WORDS
-returns-then-line-gt-WORDS c = long-tree c.args.lines.now c.args.line c.args.text.now c.args.reader.next c.if-line-gt-WORDS.true
-
-pub returns-then-line-gt-WORDS-2 : goal.returns-then-line-gt-WORDS-2
-returns-then-line-gt-WORDS-2 c = long-draft c.args.lines.now c.args.line c.args.text.now c.args.reader.next c.if-line-gt-WORDS-2.true
-
-pub returns-then-line-gt-WORDS-3 : goal.returns-then-line-gt-WORDS-3
-returns-then-line-gt-WORDS-3 c = long-out c.args.lines.now c.args.line c.args.text.now c.args.reader.next c.if-line-gt-WORDS-3.true
+returns-then-n-gt-WORDS c =
+    elim c.then-n-gt-WORDS.branch [
+      | then-n-gt-WORDS-via-then-n-gt-WORDS w ↦ long-words c.args.lines.now c.args.line c.args.text.now c.args.reader.next c.put_words-n.ensures.0 w.if-n-gt-WORDS.true
+      | then-n-gt-WORDS-via-else-n-gt-WORDS+then-line-gt-WORDS w ↦ long-tree c.args.lines.now c.args.line c.args.text.now c.args.reader.next w.if-line-gt-WORDS.true
+      | then-n-gt-WORDS-via-else-n-gt-WORDS+else-line-gt-WORDS+then-line-gt-WORDS-2 w ↦ long-draft c.args.lines.now c.args.line c.args.text.now c.args.reader.next w.if-line-gt-WORDS-2.true
+      | then-n-gt-WORDS-via-else-n-gt-WORDS+else-line-gt-WORDS+else-line-gt-WORDS-2+then-line-gt-WORDS-3 w ↦ long-out c.args.lines.now c.args.line c.args.text.now c.args.reader.next w.if-line-gt-WORDS-3.true
+    ]
 
 pub returns : goal.returns
 returns c =

@@ -1,5 +1,4 @@
 use Rattle.replay.proofs.Calling.{ran-one, ran-all, ran-sort, ran-expr, ran-bind, ran-solution}
-use borrow.Author.Rules.{rules}
 use Rattle.replay.proofs.call.run.Goals as goal
 
 pub returns-in-82 : goal.returns-in-82

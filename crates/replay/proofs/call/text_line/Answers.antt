@@ -1,6 +1,4 @@
 use native.Mathlib.Omega.{arith}
-use mathlib.Core.Path.{sym}
-use lib.Seq.{length-take-le}
 use Rattle.replay.proofs.Calling.{spelled-there, long-text, text-done}
 use borrow.Author.Rules.{rules}
 use Rattle.replay.proofs.call.text_line.Goals as goal

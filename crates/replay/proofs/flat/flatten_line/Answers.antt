@@ -4,15 +4,15 @@ use lib.Seq.{length-take-le}
 use Rattle.replay.proofs.Calling.{spelled-there, flat_given, flat-words, flat_out, flat-done}
 use borrow.Author.Rules.{rules}
 use Rattle.replay.proofs.flat.flatten_line.Goals as goal
+use Rattle.replay.proofs.flat.flatten_line.Goals.{then-n-gt-WORDS-via-then-n-gt-WORDS, then-n-gt-WORDS-via-else-n-gt-WORDS+then-m-gt-WORDS, then-n-gt-WORDS-via-else-n-gt-WORDS+else-m-gt-WORDS+then-line-gt-WORDS}
 
 pub returns-then-n-gt-WORDS : goal.returns-then-n-gt-WORDS
-returns-then-n-gt-WORDS c = flat_given c.args.lines.now c.args.line c.put_words-n.ensures.0 c.if-n-gt-WORDS.true
-
-pub returns-then-m-gt-WORDS : goal.returns-then-m-gt-WORDS
-returns-then-m-gt-WORDS c = flat-words c.args.lines.now c.args.line c.put_words-n.ensures.0 c.if-n-gt-WORDS.false c.put_words-m.ensures.0 c.if-m-gt-WORDS.true
-
-pub returns-then-line-gt-WORDS : goal.returns-then-line-gt-WORDS
-returns-then-line-gt-WORDS c = flat_out c.args.lines.now c.args.line c.put_words-n.ensures.0 c.if-n-gt-WORDS.false c.put_words-m.ensures.0 c.if-m-gt-WORDS.false c.if-line-gt-WORDS.true
+returns-then-n-gt-WORDS c =
+    elim c.then-n-gt-WORDS.branch [
+      | then-n-gt-WORDS-via-then-n-gt-WORDS w ↦ flat_given c.args.lines.now c.args.line c.put_words-n.ensures.0 w.if-n-gt-WORDS.true
+      | then-n-gt-WORDS-via-else-n-gt-WORDS+then-m-gt-WORDS w ↦ flat-words c.args.lines.now c.args.line c.put_words-n.ensures.0 w.if-n-gt-WORDS.false c.put_words-m.ensures.0 w.if-m-gt-WORDS.true
+      | then-n-gt-WORDS-via-else-n-gt-WORDS+else-m-gt-WORDS+then-line-gt-WORDS w ↦ flat_out c.args.lines.now c.args.line c.put_words-n.ensures.0 w.if-n-gt-WORDS.false c.put_words-m.ensures.0 w.if-m-gt-WORDS.false w.if-line-gt-WORDS.true
+    ]
 
 pub returns : goal.returns
 returns c =

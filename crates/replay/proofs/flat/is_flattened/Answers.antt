@@ -1,5 +1,4 @@
 use Rattle.replay.proofs.Calling.{flat-verdict}
-use borrow.Author.Rules.{rules}
 use Rattle.replay.proofs.flat.is_flattened.Goals as goal
 
 pub returns : goal.returns

@@ -8,11 +8,11 @@ unfolding pushed deeper pick
 returns-then-pairs-eq0 c = (rw (eq-eqb _ 0 c.if-pairs-eq0.true) refl, rw (eq-eqb _ 0 c.if-pairs-eq0.true) refl)
 
 pub bounds-scopes-depth-2 : goal.bounds-scopes-depth-2
-bounds-scopes-depth-2 c = omega (arith, c.requires, length-set c.args.scopes.now (3 * c.args.depth) c.length_to_long.result)
+bounds-scopes-depth-2 c = omega (arith, c.requires, length-set c.args.scopes.now (3 * c.args.depth) c.args.pairs)
 
 pub bounds-scopes-depth-3 : goal.bounds-scopes-depth-3
-bounds-scopes-depth-3 c = omega (arith, c.requires, length-set c.args.scopes.now (3 * c.args.depth) c.length_to_long.result, length-set (set c.args.scopes.now (3 * c.args.depth) c.length_to_long.result) (3 * c.args.depth + 1) c.args.n)
+bounds-scopes-depth-3 c = omega (arith, c.requires, length-set c.args.scopes.now (3 * c.args.depth) c.args.pairs, length-set (set c.args.scopes.now (3 * c.args.depth) c.args.pairs) (3 * c.args.depth + 1) c.args.n)
 
 pub returns : goal.returns
 unfolding pushed deeper pick
-returns c = (rw (ne_eqb _ 0 c.if-pairs-eq0.false, c.length_to_long.ensures) refl, rw (ne_eqb _ 0 c.if-pairs-eq0.false) refl)
+returns c = (rw (ne_eqb _ 0 c.if-pairs-eq0.false) refl, rw (ne_eqb _ 0 c.if-pairs-eq0.false) refl)

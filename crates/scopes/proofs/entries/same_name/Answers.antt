@@ -4,4 +4,4 @@ use Rattle.scopes.proofs.entries.same_name.Goals as goal
 
 pub returns : goal.returns
 unfolding same_name
-returns c = c.same.ensures ∙ rw (c.bytes_at.ensures, c.bytes_at-2.ensures) refl
+returns c = c.same.ensures ∙ rw (c.bytes.ensures, c.bytes-2.ensures) refl

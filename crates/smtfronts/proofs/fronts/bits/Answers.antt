@@ -7,11 +7,9 @@ use mathlib.Core.Path.{ap}
 use mathlib.Core.Bool.{not}
 use Rattle.smtfronts.proofs.fronts.bits.Goals as goal
 
--- src/fronts.rt:142:9
 pub returns-then-not-fits : goal.returns-then-not-fits
 returns-then-not-fits c = tells_as (sym (bits_refused _ _ c.fits.ensures (ap not c.if-not-fits.true))) (tells-no unwritable refl)
 
--- src/fronts.rt:138:1
 pub returns : goal.returns
 returns c =
     tells_as (sym (bits_taken _ _ c.fits.ensures (ap not c.if-not-fits.false)))

@@ -1,10 +1,11 @@
+use Rattle.std.proofs.lemmas.Result.{err_from_is_err_and}
 use Rattle.smtnames.proofs.Tells.{piece_put, piece_gone, tells_seq, tells-end, tells_stop}
 use Rattle.smtfronts.proofs.fronts.let_front.Goals as goal
 
--- src/fronts.rt:71:1
-pub returns-in-To : goal.returns-in-To
-returns-in-To c = tells_seq _ c.bytes-a.ensures (tells-end _ (piece_put c.name.ensures c.in-To.is) c.byte.ensures)
+pub returns : goal.returns
+returns c = tells_seq _ c.bytes-a.ensures (tells-end _ (piece_put c.name.ensures c.in_ok-b.was) c.byte.ensures)
 
--- src/fronts.rt:71:1
-pub returns-in-No : goal.returns-in-No
-returns-in-No c = tells_seq _ c.bytes-a.ensures (tells_stop _ (piece_gone c.name.ensures c.in-No.is))
+pub returns-in_err-b : goal.returns-in_err-b
+returns-in_err-b c =
+    let p = err_from_is_err_and c.from_residual.result c.from_residual.ensures.1 in
+    rw (p.1, p.2) (tells_seq _ c.bytes-a.ensures (tells_stop _ (piece_gone c.name.ensures c.in_err-b.was)))

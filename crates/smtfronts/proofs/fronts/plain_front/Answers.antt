@@ -1,6 +1,7 @@
 use mathlib.Core.Path.{refl}
 use Rattle.reading.specs.Answer.{unwritable}
-use Rattle.smtnames.proofs.Tells.{tells-to, tells-no}
+use Rattle.smtnames.proofs.Tells.{tells-to, tells-no, tells_as}
+use Rattle.smtfronts.proofs.FrontsRest.{unwritten}
 use Rattle.smtfronts.proofs.FrontsSteps.{node_as, numbered_as}
 use Rattle.smtfronts.proofs.fronts.plain_front.Goals as goal
 
@@ -53,16 +54,10 @@ pub returns-in-Let : goal.returns-in-Let
 returns-in-Let c h = node_as _ _ c.in-Let.is c.let_front.ensures
 
 pub returns-in-Theory : goal.returns-in-Theory
-returns-in-Theory c h = node_as _ _ c.in-Theory.is (tells-no unwritable refl)
+returns-in-Theory c h = tells_as (unwritten _ _ _ c.in-Theory.is) (tells-no unwritable refl)
 
 pub returns-in-IsCtor : goal.returns-in-IsCtor
 returns-in-IsCtor c h = node_as _ _ c.in-IsCtor.is c.test_front.ensures
 
-pub returns-in-Exists : goal.returns-in-Exists
-returns-in-Exists c h = node_as _ _ c.in-Exists.is (tells-no unwritable refl)
-
 pub returns-in-LetFresh : goal.returns-in-LetFresh
 returns-in-LetFresh c h = node_as _ _ c.in-LetFresh.is (tells-to c.fresh_let_front.ensures)
-
-pub returns-in-Other : goal.returns-in-Other
-returns-in-Other c h = node_as _ _ c.in-Other.is (tells-no unwritable refl)

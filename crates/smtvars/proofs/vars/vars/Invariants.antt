@@ -1,4 +1,4 @@
-use Prim.Native.Nat.{ℕ, ◌≤◌}
+use Prim.Native.Nat.{ℕ, ◌-◌}
 use mathlib.Core.Path.{◌≡◌}
 use mathlib.Core.List.{List}
 use lib.ListN.{length}
@@ -8,7 +8,4 @@ use Rattle.smtvars.proofs.VarLoop.{Coming}
 use Rattle.smtvars.proofs.vars.vars.Given as goal
 
 abbrev pub invariant-loop-i : goal.invariant-loop-i
-invariant-loop-i l = (l.i ≤ l.n) × (length l.out ≡ length l.initial.out) × ((limit : ℕ) (bs : List Binder) (m : ℕ) → binders_at limit l.n l.words l.at ≡ reads bs m → Coming l.text l.words limit l.n bs m l.initial.out l.initial.p l.out l.a l.p l.i)
-
-abbrev pub decreases-loop-i : goal.decreases-loop-i
-decreases-loop-i l = l.i
+invariant-loop-i l = (length l.out ≡ length l.initial.out) × ((limit : ℕ) (bs : List Binder) (m : ℕ) → binders_at limit l.n l.words l.at ≡ reads bs m → Coming l.text l.words limit l.n bs m l.initial.out l.initial.p l.out l.a l.p (l.n - l.i))

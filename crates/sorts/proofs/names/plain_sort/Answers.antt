@@ -1,39 +1,25 @@
+use Rattle.std.proofs.Common.{rules}
 use Rattle.reading.proofs.Bytes.{lookup-here, lookup-later, lookup-none}
 use Rattle.grammar.specs.Names.{plain_sorts}
 use Rattle.sorts.proofs.names.plain_sort.Goals as goal
+use Rattle.sorts.proofs.names.plain_sort.Goals.{then-same-via-then-same, then-same-via-else-same+then-same-2, then-same-3-via-then-same-3, then-same-3-via-else-same-3+then-same-4, then-same-5-via-then-same-5, then-same-5-via-else-same-5+then-same-6, then-same-7-via-then-same-7, then-same-7-via-else-same-7+then-same-8}
 
 pub returns-then-same : goal.returns-then-same
 unfolding plain_sorts
-returns-then-same c = lookup-here _ _ _ _ c.if-same.true c.same.ensures
-
-pub returns-then-same-2 : goal.returns-then-same-2
-unfolding plain_sorts
-returns-then-same-2 c = (lookup-later _ _ _ _ c.if-same.false c.same.ensures (lookup-here _ _ _ _ c.if-same-2.true c.same-2.ensures))
+returns-then-same c = elim c.then-same.branch [ then-same-via-then-same w ↦ search (rules, lookup-here, lookup-later) depth 12 | then-same-via-else-same+then-same-2 w ↦ search (rules, lookup-here, lookup-later) depth 12 ]
 
 pub returns-then-same-3 : goal.returns-then-same-3
 unfolding plain_sorts
-returns-then-same-3 c = ((lookup-later _ _ _ _ c.if-same.false c.same.ensures (lookup-later _ _ _ _ c.if-same-2.false c.same-2.ensures (lookup-here _ _ _ _ c.if-same-3.true c.same-3.ensures))))
-
-pub returns-then-same-4 : goal.returns-then-same-4
-unfolding plain_sorts
-returns-then-same-4 c = (((lookup-later _ _ _ _ c.if-same.false c.same.ensures (lookup-later _ _ _ _ c.if-same-2.false c.same-2.ensures (lookup-later _ _ _ _ c.if-same-3.false c.same-3.ensures (lookup-here _ _ _ _ c.if-same-4.true c.same-4.ensures))))))
+returns-then-same-3 c = elim c.then-same-3.branch [ then-same-3-via-then-same-3 w ↦ search (rules, lookup-here, lookup-later) depth 12 | then-same-3-via-else-same-3+then-same-4 w ↦ search (rules, lookup-here, lookup-later) depth 12 ]
 
 pub returns-then-same-5 : goal.returns-then-same-5
 unfolding plain_sorts
-returns-then-same-5 c = ((((lookup-later _ _ _ _ c.if-same.false c.same.ensures (lookup-later _ _ _ _ c.if-same-2.false c.same-2.ensures (lookup-later _ _ _ _ c.if-same-3.false c.same-3.ensures (lookup-later _ _ _ _ c.if-same-4.false c.same-4.ensures (lookup-here _ _ _ _ c.if-same-5.true c.same-5.ensures))))))))
-
-pub returns-then-same-6 : goal.returns-then-same-6
-unfolding plain_sorts
-returns-then-same-6 c = (((((lookup-later _ _ _ _ c.if-same.false c.same.ensures (lookup-later _ _ _ _ c.if-same-2.false c.same-2.ensures (lookup-later _ _ _ _ c.if-same-3.false c.same-3.ensures (lookup-later _ _ _ _ c.if-same-4.false c.same-4.ensures (lookup-later _ _ _ _ c.if-same-5.false c.same-5.ensures (lookup-here _ _ _ _ c.if-same-6.true c.same-6.ensures))))))))))
+returns-then-same-5 c = elim c.then-same-5.branch [ then-same-5-via-then-same-5 w ↦ search (rules, lookup-here, lookup-later) depth 12 | then-same-5-via-else-same-5+then-same-6 w ↦ search (rules, lookup-here, lookup-later) depth 12 ]
 
 pub returns-then-same-7 : goal.returns-then-same-7
 unfolding plain_sorts
-returns-then-same-7 c = ((((((lookup-later _ _ _ _ c.if-same.false c.same.ensures (lookup-later _ _ _ _ c.if-same-2.false c.same-2.ensures (lookup-later _ _ _ _ c.if-same-3.false c.same-3.ensures (lookup-later _ _ _ _ c.if-same-4.false c.same-4.ensures (lookup-later _ _ _ _ c.if-same-5.false c.same-5.ensures (lookup-later _ _ _ _ c.if-same-6.false c.same-6.ensures (lookup-here _ _ _ _ c.if-same-7.true c.same-7.ensures))))))))))))
-
-pub returns-then-same-8 : goal.returns-then-same-8
-unfolding plain_sorts
-returns-then-same-8 c = (((((((lookup-later _ _ _ _ c.if-same.false c.same.ensures (lookup-later _ _ _ _ c.if-same-2.false c.same-2.ensures (lookup-later _ _ _ _ c.if-same-3.false c.same-3.ensures (lookup-later _ _ _ _ c.if-same-4.false c.same-4.ensures (lookup-later _ _ _ _ c.if-same-5.false c.same-5.ensures (lookup-later _ _ _ _ c.if-same-6.false c.same-6.ensures (lookup-later _ _ _ _ c.if-same-7.false c.same-7.ensures (lookup-here _ _ _ _ c.if-same-8.true c.same-8.ensures))))))))))))))
+returns-then-same-7 c = elim c.then-same-7.branch [ then-same-7-via-then-same-7 w ↦ search (rules, lookup-here, lookup-later) depth 12 | then-same-7-via-else-same-7+then-same-8 w ↦ search (rules, lookup-here, lookup-later) depth 12 ]
 
 pub returns : goal.returns
 unfolding plain_sorts
-returns c = ((((((((lookup-later _ _ _ _ c.if-same.false c.same.ensures (lookup-later _ _ _ _ c.if-same-2.false c.same-2.ensures (lookup-later _ _ _ _ c.if-same-3.false c.same-3.ensures (lookup-later _ _ _ _ c.if-same-4.false c.same-4.ensures (lookup-later _ _ _ _ c.if-same-5.false c.same-5.ensures (lookup-later _ _ _ _ c.if-same-6.false c.same-6.ensures (lookup-later _ _ _ _ c.if-same-7.false c.same-7.ensures (lookup-later _ _ _ _ c.if-same-8.false c.same-8.ensures (lookup-none _))))))))))))))))
+returns c = search (rules, lookup-later, lookup-none) depth 12

@@ -1,5 +1,5 @@
 use mathlib.Core.Path.{ap}
-use Rattle.reading.specs.Answer.{got}
+use Rattle.words.specs.Spans.{as_span}
 use Rattle.reading.proofs.Bytes.{lookup-here, lookup-later, lookup-none}
 use Rattle.grammar.specs.Names.{three_items}
 use Rattle.grammar.specs.ParseSort.{or_applied}
@@ -7,8 +7,8 @@ use Rattle.sorts.proofs.names.three_items.Goals as goal
 
 pub returns-then-same : goal.returns-then-same
 unfolding three_items
-returns-then-same c = ap (λ m. got (or_applied (record { start = c.args.start; len = c.args.len }) m)) (lookup-here _ _ _ _ c.if-same.true c.same.ensures)
+returns-then-same c = ap (or_applied (as_span c.args.name)) (lookup-here _ _ _ _ c.if-same.true c.same.ensures)
 
 pub returns : goal.returns
 unfolding three_items
-returns c = ap (λ m. got (or_applied (record { start = c.args.start; len = c.args.len }) m)) (lookup-later _ _ _ _ c.if-same.false c.same.ensures (lookup-none _))
+returns c = ap (or_applied (as_span c.args.name)) (lookup-later _ _ _ _ c.if-same.false c.same.ensures (lookup-none _))

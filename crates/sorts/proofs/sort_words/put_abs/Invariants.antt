@@ -1,11 +1,7 @@
-use Prim.Native.Nat.{◌-◌, ◌≤◌}
 use mathlib.Core.Path.{◌≡◌}
 use Rattle.reading.specs.Answer.{over}
 use Rattle.sorts.specs.Rows.{abs_words}
 use Rattle.sorts.proofs.sort_words.put_abs.Given as goal
 
 abbrev pub invariant-loop-i : goal.invariant-loop-i
-invariant-loop-i l = (l.i ≤ l.n) × (l.index ≡ l.i) × (l.out ≡ over (abs_words 0 l.i) l.initial.out)
-
-abbrev pub decreases-loop-i : goal.decreases-loop-i
-decreases-loop-i l = l.n - l.i
+invariant-loop-i l = l.out ≡ over (abs_words 0 l.i) l.initial.out

@@ -3,6 +3,7 @@ use Prim.Native.Nat.{ℕ, ◌<◌, ◌-◌, ◌≤◌}
 use lib.ListN.{length, get_or}
 use mathlib.Core.Path.{◌≡◌, refl, sym, ap, ◌∙◌}
 use native.Mathlib.Omega.{arith}
+use Rattle.std.proofs.lemmas.Result.{err_from_is_err_and}
 use borrow.Rule.Slice.PartMut.{same_len_mid}
 use Rattle.reading.specs.Tree.{Trees, trees_words, trees, list, tree_words}
 use Rattle.lexing.proofs.Lexing.Parts.{tail}
@@ -12,7 +13,7 @@ use Rattle.sorts.proofs.RowLoop.{Turn, sort-short, left-start, left-some, turn, 
 use Rattle.reading.specs.Limits.{max_func}
 use Rattle.reading.specs.Answer.{got}
 use Rattle.grammar.specs.ParseSort.{func_number, form_sort, parse_sort, atom_sort, symbol_in, view}
-use Rattle.sorts.specs.SortNames.{arity_in, row_form, form_in}
+use Rattle.sorts.specs.SortNames.{row_form}
 use Rattle.sorts.proofs.Outcomes.{out-still, out-lent}
 use Rattle.reading.proofs.TreeHead.{three-trees, alone, head-two, is-symbol, is-list, size-symbol}
 use Rattle.sorts.proofs.FuncShape.{Shape, snoc_tree, wide_at, no_number, no-inputs, func-shape, func-outside, func-row, arity_most}
@@ -22,7 +23,7 @@ use Rattle.sorts.proofs.ListForms.{Headed, headed, bad-list, row_done, row-refus
 use mathlib.Core.List.{[]}
 use Rattle.grammar.proofs.TreeHead.{no-sort}
 use Rattle.sorts.proofs.sorts.+each_sort_func_sort_list_sort_sort.Goals as goal
-use Rattle.sorts.proofs.sorts.+each_sort_func_sort_list_sort_sort.Goals.{each_sort-After-node_words-k, func_sort-After-func_number, func_sort-In-In, func_sort-Start, list_sort-In-Func, list_sort-In-Row}
+use Rattle.sorts.proofs.sorts.+each_sort_func_sort_list_sort_sort.Goals.{each_sort-After-node_words-k, func_sort-After-func_number, func_sort-In_ok-n, func_sort-Start, list_sort-In-Func, list_sort-In-Row, func_sort-then-items-ne-INTEGER-via-then-items-ne-INTEGER, func_sort-then-items-ne-INTEGER-via-else-items-ne-INTEGER+then-items-ne-LIST}
 
 -- What the code of `each_sort` needs: a turn of its loop reads one tree, and what is left to do makes the whole.
 
@@ -58,10 +59,11 @@ each_sort-sort-requires t c =
     let u = this-turn t (goal.at.each_sort-sort-requires t c).After-node_words-k in
     (omega (arith, c.decreases, ap length u.part, u.size, u.fits), record { tree = u.next.first; words = u.part; small = omega (arith, ap length u.part, u.size, u.fits, c.requires.small) })
 
-pub each_sort-returns-in-Refused : goal.each_sort-returns-in-Refused
-each_sort-returns-in-Refused t c ts e =
-    let u = turn-of t (goal.at.each_sort-returns-in-Refused t c).After-node_words-k ts e in
-    left-refused _ ts _ _ _ _ _ _ _ (c.loop-at.invariant.2 ts e) u.next (c.sort.ensures u.next.first u.part) c.in-Refused.is
+pub each_sort-returns-in_err-v : goal.each_sort-returns-in_err-v
+each_sort-returns-in_err-v t c ts e =
+    let u = turn-of t (goal.at.each_sort-returns-in_err-v t c).After-node_words-k ts e in
+    let p = err_from_is_err_and c.from_residual.result c.from_residual.ensures.1 in
+    rw (p.1, p.2) (left-refused _ ts _ _ _ _ _ _ _ (c.loop-at.invariant.2 ts e) u.next (c.sort.ensures u.next.first u.part) c.in_err-v.was)
 
 pub each_sort-overflow_add-at : goal.each_sort-overflow_add-at
 each_sort-overflow_add-at t c =
@@ -71,7 +73,7 @@ pub each_sort-overflow_add-w : goal.each_sort-overflow_add-w
 each_sort-overflow_add-w t c =
     let a = c.requires in
     let u = this-turn t (goal.at.each_sort-overflow_add-w t c).After-node_words-k in
-    omega (arith, u.fits, u.size, a.small, (c.loop-at.invariant.2 a.items a.words).room, c.put_mark-next.ensures.0, mark-short c.loop-at.left, sort-short c.args.text.now u.next.first (c.sort.ensures u.next.first u.part) c.in-Done.is)
+    omega (arith, u.fits, u.size, a.small, (c.loop-at.invariant.2 a.items a.words).room, c.put_mark-next.ensures.0, mark-short c.loop-at.left, sort-short c.args.text.now u.next.first (c.sort.ensures u.next.first u.part) c.in_ok-v.was)
 
 pub each_sort-loop-at-smaller : goal.each_sort-loop-at-smaller
 each_sort-loop-at-smaller t c =
@@ -81,10 +83,10 @@ each_sort-loop-at-smaller t c =
 pub each_sort-loop-at-preserved : goal.each_sort-loop-at-preserved
 each_sort-loop-at-preserved t c = (
   (this-turn t (goal.at.each_sort-loop-at-preserved t c).After-node_words-k).fits,
-  same_len_mid {X = ℕ} c.least-from.result (length c.put_mark-next.new.out - c.least-from.result) c.put_mark-next.new.out c.sort.new.out c.sort.auto.out ∙ c.put_mark-next.auto.out ∙ c.loop-at.invariant.1,
+  same_len_mid {X = ℕ} c.min-from.result (length c.put_mark-next.new.out - c.min-from.result) c.put_mark-next.new.out c.sort.new.out c.sort.auto.out ∙ c.put_mark-next.auto.out ∙ c.loop-at.invariant.1,
   λ ts e.
       (let u = turn-of t (goal.at.each_sort-loop-at-preserved t c).After-node_words-k ts e in
-      rw c.fewer-left.ensures (left-more _ ts _ _ _ _ _ _ _ (c.loop-at.invariant.2 ts e) u.next _ _ _ _ _ c.put_mark-next.ensures.0 c.put_mark-next.ensures.1 c.least-from.ensures u.size (c.sort.ensures u.next.first u.part) c.in-Done.is)),
+      rw c.saturating_sub-left.ensures (left-more _ ts _ _ _ _ _ _ _ (c.loop-at.invariant.2 ts e) u.next _ _ _ _ _ c.put_mark-next.ensures.0 c.put_mark-next.ensures.1 c.min-from.ensures u.size (c.sort.ensures u.next.first u.part) c.in_ok-v.was)),
 )
 
 pub each_sort-returns : goal.each_sort-returns
@@ -108,23 +110,20 @@ parts t p =
     let a = p.requires in
     parts_of t p a.items a.words a.three
 
-number_is : (t : ℕ) (q : func_sort-In-In t) → got q.in-In.n ≡ func_number (wide_at q.args.items.now)
-number_is t q = ap arity_in (sym q.in-In.is) ∙ q.func_number.ensures
+number_is : (t : ℕ) (q : func_sort-In_ok-n t) → got q.in_ok-n.n ≡ func_number (wide_at q.args.items.now)
+number_is t q = q.in_ok-n.ensures
 
-number-most : (t : ℕ) (q : func_sort-In-In t) → q.in-In.n ≤ max_func
-number-most t q = arity_most (wide_at q.args.items.now) q.in-In.n (number_is t q)
+number-most : (t : ℕ) (q : func_sort-In_ok-n t) → q.in_ok-n.n ≤ max_func
+number-most t q = arity_most (wide_at q.args.items.now) q.in_ok-n.n (number_is t q)
 
 pub func_sort-bounds-items-0 : goal.func_sort-bounds-items-0
 func_sort-bounds-items-0 t c = omega (arith, long t (goal.at.func_sort-bounds-items-0 t c).Start)
 
 pub func_sort-returns-then-items-ne-INTEGER : goal.func_sort-returns-then-items-ne-INTEGER
-func_sort-returns-then-items-ne-INTEGER t c ts e h = rw (no_number _ ts (three-trees ts e h) c.if-items-ne-INTEGER.true) (refused refl)
+func_sort-returns-then-items-ne-INTEGER t c ts e h = elim c.then-items-ne-INTEGER.branch [ func_sort-then-items-ne-INTEGER-via-then-items-ne-INTEGER w ↦ rw (no_number _ ts (three-trees ts e h) w.if-items-ne-INTEGER.true) (refused refl) | func_sort-then-items-ne-INTEGER-via-else-items-ne-INTEGER+then-items-ne-LIST w ↦ rw (no-inputs _ ts (three-trees ts e h) w.if-items-ne-INTEGER.false w.if-items-ne-LIST.true) (refused refl) ]
 
 pub func_sort-bounds-items-5 : goal.func_sort-bounds-items-5
 func_sort-bounds-items-5 t c = omega (arith, long t (goal.at.func_sort-bounds-items-5 t c).Start)
-
-pub func_sort-returns-then-items-ne-LIST : goal.func_sort-returns-then-items-ne-LIST
-func_sort-returns-then-items-ne-LIST t c ts e h = rw (no-inputs _ ts (three-trees ts e h) c.if-items-ne-INTEGER.false c.if-items-ne-LIST.true) (refused refl)
 
 pub func_sort-bounds-items-1 : goal.func_sort-bounds-items-1
 func_sort-bounds-items-1 t c = omega (arith, long t (goal.at.func_sort-bounds-items-1 t c).Start)
@@ -139,10 +138,10 @@ pub func_sort-bounds-items-4 : goal.func_sort-bounds-items-4
 func_sort-bounds-items-4 t c = omega (arith, long t (goal.at.func_sort-bounds-items-4 t c).Start)
 
 pub func_sort-put_abs-requires : goal.func_sort-put_abs-requires
-func_sort-put_abs-requires t c = number-most t (goal.at.func_sort-put_abs-requires t c).In-In
+func_sort-put_abs-requires t c = number-most t (goal.at.func_sort-put_abs-requires t c).In_ok-n
 
 pub func_sort-overflow_mul-n : goal.func_sort-overflow_mul-n
-func_sort-overflow_mul-n t c = omega (arith, number-most t (goal.at.func_sort-overflow_mul-n t c).In-In)
+func_sort-overflow_mul-n t c = omega (arith, number-most t (goal.at.func_sort-overflow_mul-n t c).In_ok-n)
 
 pub func_sort-slice_bounds-each_sort-count : goal.func_sort-slice_bounds-each_sort-count
 func_sort-slice_bounds-each_sort-count t c = omega (arith, (parts t (goal.at.func_sort-slice_bounds-each_sort-count t c).After-func_number).size)
@@ -159,36 +158,38 @@ func_sort-each_sort-requires t c =
     (omega (arith, c.decreases, d.size, ap length d.part), record { items = snoc_tree d.inputs d.output; words = d.part; small = omega (arith, c.requires.small, d.size, ap length d.part) })
 
 pub func_sort-overflow_mul-result : goal.func_sort-overflow_mul-result
-func_sort-overflow_mul-result t c = omega (arith, number-most t (goal.at.func_sort-overflow_mul-result t c).In-In)
+func_sort-overflow_mul-result t c = omega (arith, number-most t (goal.at.func_sort-overflow_mul-result t c).In_ok-n)
 
 pub func_sort-overflow_add-result : goal.func_sort-overflow_add-result
 func_sort-overflow_add-result t c =
     let d = parts t (goal.at.func_sort-overflow_add-result t c).After-func_number in
     let row = snoc_tree d.inputs d.output in
-    omega (arith, number-most t (goal.at.func_sort-overflow_add-result t c).In-In, c.requires.small, d.size, row-bound c.args.text.now (get_or c.args.items.now 6 0) row (c.each_sort.ensures row d.part) c.in-Done.is)
+    omega (arith, number-most t (goal.at.func_sort-overflow_add-result t c).In_ok-n, c.requires.small, d.size, row-bound c.args.text.now (get_or c.args.items.now 6 0) row (c.each_sort.ensures row d.part) c.in_ok-v.was)
 
-pub func_sort-returns-in-Out : goal.func_sort-returns-in-Out
-func_sort-returns-in-Out t c ts e h =
-    rw (func-outside _ ts (parts_of t (goal.at.func_sort-returns-in-Out t c).After-func_number ts e h) (ap arity_in (sym c.in-Out.is) ∙ c.func_number.ensures)) (refused refl)
+pub func_sort-returns-in_err-n : goal.func_sort-returns-in_err-n
+func_sort-returns-in_err-n t c ts e h =
+    let p = err_from_is_err_and c.from_residual.result c.from_residual.ensures.1 in
+    rw (p.1, p.2) (func-outside _ ts (parts_of t (goal.at.func_sort-returns-in_err-n t c).After-func_number ts e h) c.in_err-n.ensures)
 
-pub func_sort-returns-in-Refused : goal.func_sort-returns-in-Refused
-func_sort-returns-in-Refused t c ts e h =
-    let d = parts_of t (goal.at.func_sort-returns-in-Refused t c).After-func_number ts e h in
-    func-row _ ts d (number_is t (goal.at.func_sort-returns-in-Refused t c).In-In) (out-still _ (c.each_sort.ensures (snoc_tree d.inputs d.output) d.part) c.in-Refused.is)
+pub func_sort-returns-in_err-v : goal.func_sort-returns-in_err-v
+func_sort-returns-in_err-v t c ts e h =
+    let d = parts_of t (goal.at.func_sort-returns-in_err-v t c).After-func_number ts e h in
+    let p = err_from_is_err_and c.from_residual-in_err-v.result c.from_residual-in_err-v.ensures.1 in
+    rw (p.1, p.2) (func-row _ ts d (number_is t (goal.at.func_sort-returns-in_err-v t c).In_ok-n) (out-still _ (c.each_sort.ensures (snoc_tree d.inputs d.output) d.part) c.in_err-v.was))
 
-pub func_sort-returns-in-Done : goal.func_sort-returns-in-Done
-func_sort-returns-in-Done t c ts e h =
-    let d = parts_of t (goal.at.func_sort-returns-in-Done t c).After-func_number ts e h in
-    func-row _ ts d (number_is t (goal.at.func_sort-returns-in-Done t c).In-In) (out-lent _ _ _ _ _ _ _ (sym (abs_length 0 c.in-In.n)) c.put_abs.ensures c.least-from.ensures (c.each_sort.ensures (snoc_tree d.inputs d.output) d.part) c.in-Done.is)
+pub func_sort-returns : goal.func_sort-returns
+func_sort-returns t c ts e h =
+    let d = parts_of t (goal.at.func_sort-returns t c).After-func_number ts e h in
+    func-row _ ts d (number_is t (goal.at.func_sort-returns t c).In_ok-n) (out-lent _ _ _ _ _ _ _ (sym (abs_length 0 c.in_ok-n.n)) c.put_abs.ensures c.min-from.ensures (c.each_sort.ensures (snoc_tree d.inputs d.output) d.part) c.in_ok-v.was)
 
 -- What the code of `list_sort` needs: the form that the list's head names, and the row of sorts behind it.
 
 -- The head and what stands behind it, whichever trees the words are of.
 func-headed : (t : ℕ) (f : list_sort-In-Func t) (ts : Trees) → f.args.tree.now ≡ tree_words (list ts) → Headed f.args.text.now f.args.tree.now ts func
-func-headed t f ts e = headed _ func ts e (ap form_in (sym f.in-Func.is) ∙ f.list_form.ensures ts e)
+func-headed t f ts e = headed _ func ts e (rw f.in-Func.is at (f.in_ok-list_form.ensures ts e))
 
 row-headed : (t : ℕ) (w : list_sort-In-Row t) (ts : Trees) → w.args.tree.now ≡ tree_words (list ts) → Headed w.args.text.now w.args.tree.now ts (row_form w.in-Row.row)
-row-headed t w ts e = headed _ (row_form w.in-Row.row) ts e (ap form_in (sym w.in-Row.is) ∙ w.list_form.ensures ts e)
+row-headed t w ts e = headed _ (row_form w.in-Row.row) ts e (rw w.in-Row.is at (w.in_ok-list_form.ensures ts e))
 
 -- The same for the trees that the words are said to be of.
 this-func : (t : ℕ) (f : list_sort-In-Func t) → Headed f.args.text.now f.args.tree.now f.requires.items func
@@ -235,11 +236,12 @@ list_sort-each_sort-requires t c =
 pub list_sort-overflow_add-w : goal.list_sort-overflow_add-w
 list_sort-overflow_add-w t c =
     let d = this-row t (goal.at.list_sort-overflow_add-w t c).In-Row in
-    omega (arith, c.requires.small, d.size, c.put_row-w.ensures.0, head-short c.in-Row.row (get_or c.args.tree.now 1 0 - 1), row-bound c.args.text.now _ d.others (c.each_sort.ensures d.others d.part) c.in-Done.is)
+    omega (arith, c.requires.small, d.size, c.put_row-w.ensures.0, head-short c.in-Row.row (get_or c.args.tree.now 1 0 - 1), row-bound c.args.text.now _ d.others (c.each_sort.ensures d.others d.part) c.in_ok-v-in-Row.was)
 
-pub list_sort-returns-in-Bad : goal.list_sort-returns-in-Bad
-list_sort-returns-in-Bad t c ts e =
-    rw (bad-list c.args.text.now ts (ap form_in (sym c.in-Bad.is) ∙ c.list_form.ensures ts e)) (refused refl)
+pub list_sort-returns-in_err-list_form : goal.list_sort-returns-in_err-list_form
+list_sort-returns-in_err-list_form t c ts e =
+    let p = err_from_is_err_and c.from_residual.result c.from_residual.ensures.1 in
+    rw (p.1, p.2) (bad-list c.args.text.now ts (c.in_err-list_form.ensures ts e))
 
 pub list_sort-returns-in-Func : goal.list_sort-returns-in-Func
 unfolding form_sort
@@ -247,17 +249,18 @@ list_sort-returns-in-Func t c ts e =
     let d = func-headed t (goal.at.list_sort-returns-in-Func t c).In-Func ts e in
     rw d.parsed (c.func_sort.ensures d.others d.part d.fits)
 
-pub list_sort-returns-in-Refused : goal.list_sort-returns-in-Refused
-list_sort-returns-in-Refused t c ts e =
-    let d = row-headed t (goal.at.list_sort-returns-in-Refused t c).In-Row ts e in
-    rw d.parsed (row-refused _ c.in-Row.row d.others d.fits (out-still _ (c.each_sort.ensures d.others d.part) c.in-Refused.is))
+pub list_sort-returns-in_err-v-in-Row : goal.list_sort-returns-in_err-v-in-Row
+list_sort-returns-in_err-v-in-Row t c ts e =
+    let d = row-headed t (goal.at.list_sort-returns-in_err-v-in-Row t c).In-Row ts e in
+    let p = err_from_is_err_and c.from_residual-in_err-v-in-Row.result c.from_residual-in_err-v-in-Row.ensures.1 in
+    rw (p.1, p.2, d.parsed) (row-refused _ c.in-Row.row d.others d.fits (out-still _ (c.each_sort.ensures d.others d.part) c.in_err-v-in-Row.was))
 
-pub list_sort-returns-in-Done : goal.list_sort-returns-in-Done
-list_sort-returns-in-Done t c ts e =
-    let d = row-headed t (goal.at.list_sort-returns-in-Done t c).In-Row ts e in
+pub list_sort-returns-in_ok-v-in-Row : goal.list_sort-returns-in_ok-v-in-Row
+list_sort-returns-in_ok-v-in-Row t c ts e =
+    let d = row-headed t (goal.at.list_sort-returns-in_ok-v-in-Row t c).In-Row ts e in
     let n : get_or c.args.tree.now 1 0 - 1 ≡ trees d.others = omega (arith, d.many) in
     let head = row_head (row_form c.in-Row.row) (trees d.others) in
-    rw (d.parsed, c.row_end.ensures d.others d.part) (row_done _ c.in-Row.row d.others d.fits (out-lent _ head _ _ _ _ _ (rw n at c.put_row-w.ensures.0) (rw n at c.put_row-w.ensures.1) c.least-from.ensures (c.each_sort.ensures d.others d.part) c.in-Done.is))
+    rw (d.parsed, c.row_end.ensures d.others d.part) (row_done _ c.in-Row.row d.others d.fits (out-lent _ head _ _ _ _ _ (rw n at c.put_row-w.ensures.0) (rw n at c.put_row-w.ensures.1) c.min-from.ensures (c.each_sort.ensures d.others d.part) c.in_ok-v-in-Row.was))
 
 -- What the code of `sort` needs: the tree is a symbol, a list, or neither.
 
@@ -269,27 +272,27 @@ sort-bounds-tree-0 t c =
 pub sort-bounds-tree-1 : goal.sort-bounds-tree-1
 sort-bounds-tree-1 t c =
     let a = c.requires in
-    omega (arith, (size-symbol [] a.tree (alone a.tree a.words) c.if-kind-eq-SYMBOL.true).0)
+    omega (arith, (size-symbol [] a.tree (alone a.tree a.words) c.in-16.is).0)
 
 pub sort-bounds-tree-2 : goal.sort-bounds-tree-2
 sort-bounds-tree-2 t c =
     let a = c.requires in
-    omega (arith, (size-symbol [] a.tree (alone a.tree a.words) c.if-kind-eq-SYMBOL.true).0)
+    omega (arith, (size-symbol [] a.tree (alone a.tree a.words) c.in-16.is).0)
 
-pub sort-returns-then-kind-eq-SYMBOL : goal.sort-returns-then-kind-eq-SYMBOL
+pub sort-returns-in-16 : goal.sort-returns-in-16
 unfolding parse_sort view atom_sort symbol_in
-sort-returns-then-kind-eq-SYMBOL t c u e = rw (is-symbol [] u (alone u e) c.if-kind-eq-SYMBOL.true) c.symbol_sort.ensures
+sort-returns-in-16 t c u e = rw (is-symbol [] u (alone u e) c.in-16.is) c.symbol_sort.ensures
 
 pub sort-list_sort-requires : goal.sort-list_sort-requires
 sort-list_sort-requires t c =
     let a = c.requires in
-    let l = is-list [] a.tree (alone a.tree a.words) c.if-kind-eq-LIST.true in
+    let l = is-list [] a.tree (alone a.tree a.words) c.in-21.is in
     (omega (arith, c.decreases), record { items = l.items; words = a.words ∙ ap tree_words l.is; small = a.small })
 
-pub sort-returns-then-kind-eq-LIST : goal.sort-returns-then-kind-eq-LIST
-sort-returns-then-kind-eq-LIST t c u e =
-    let l = is-list [] u (alone u e) c.if-kind-eq-LIST.true in
+pub sort-returns-in-21 : goal.sort-returns-in-21
+sort-returns-in-21 t c u e =
+    let l = is-list [] u (alone u e) c.in-21.is in
     rw l.is (c.list_sort.ensures l.items (e ∙ ap tree_words l.is))
 
-pub sort-returns : goal.sort-returns
-sort-returns t c u e = rw (no-sort c.args.text.now u e c.if-kind-eq-SYMBOL.false c.if-kind-eq-LIST.false) (refused refl)
+pub sort-returns-in_default : goal.sort-returns-in_default
+sort-returns-in_default t c u e = rw (no-sort c.args.text.now u e (λ k. omega arith) (λ k. omega arith)) (refused refl)

@@ -1,24 +1,25 @@
 use mathlib.Core.Path.{refl, sym, ap, ◌∙◌}
+use Rattle.std.specs.Prelude.{Some}
 use Rattle.grammar.specs.Sort.{s_int, s_bool, s_real, s_str, sort_words}
 use Rattle.sorts.specs.SortNames.{plain_in}
 use Rattle.sorts.proofs.NamedSorts.{symbol-plain, symbol-other}
 use Rattle.sorts.proofs.sorts.symbol_sort.Goals as goal
 
-pub returns-in-Int : goal.returns-in-Int
+pub returns-in-Some-Int : goal.returns-in-Some-Int
 unfolding sort_words
-returns-in-Int c = symbol-plain _ _ _ _ c.bytes_at-name.ensures s_int 1 (ap plain_in (sym c.in-Int.is) ∙ c.plain_sort.ensures) refl c.put_one.ensures.0 c.put_one.ensures.1
+returns-in-Some-Int c = symbol-plain _ _ _ _ c.bytes-bytes.ensures s_int 1 (ap (λ p. plain_in (Some p)) (sym c.in-Some-Int.field-0-is) ∙ c.in-Some-Int.ensures) refl c.put_one.ensures.0 c.put_one.ensures.1
 
-pub returns-in-Bool : goal.returns-in-Bool
+pub returns-in-Some-Bool : goal.returns-in-Some-Bool
 unfolding sort_words
-returns-in-Bool c = symbol-plain _ _ _ _ c.bytes_at-name.ensures s_bool 2 (ap plain_in (sym c.in-Bool.is) ∙ c.plain_sort.ensures) refl c.put_one-in-Bool.ensures.0 c.put_one-in-Bool.ensures.1
+returns-in-Some-Bool c = symbol-plain _ _ _ _ c.bytes-bytes.ensures s_bool 2 (ap (λ p. plain_in (Some p)) (sym c.in-Some-Bool.field-0-is) ∙ c.in-Some-Bool.ensures) refl c.put_one-in-Some-Bool.ensures.0 c.put_one-in-Some-Bool.ensures.1
 
-pub returns-in-Real : goal.returns-in-Real
+pub returns-in-Some-Real : goal.returns-in-Some-Real
 unfolding sort_words
-returns-in-Real c = symbol-plain _ _ _ _ c.bytes_at-name.ensures s_real 3 (ap plain_in (sym c.in-Real.is) ∙ c.plain_sort.ensures) refl c.put_one-in-Real.ensures.0 c.put_one-in-Real.ensures.1
+returns-in-Some-Real c = symbol-plain _ _ _ _ c.bytes-bytes.ensures s_real 3 (ap (λ p. plain_in (Some p)) (sym c.in-Some-Real.field-0-is) ∙ c.in-Some-Real.ensures) refl c.put_one-in-Some-Real.ensures.0 c.put_one-in-Some-Real.ensures.1
 
-pub returns-in-Str : goal.returns-in-Str
+pub returns-in-Some-Str : goal.returns-in-Some-Str
 unfolding sort_words
-returns-in-Str c = symbol-plain _ _ _ _ c.bytes_at-name.ensures s_str 4 (ap plain_in (sym c.in-Str.is) ∙ c.plain_sort.ensures) refl c.put_one-in-Str.ensures.0 c.put_one-in-Str.ensures.1
+returns-in-Some-Str c = symbol-plain _ _ _ _ c.bytes-bytes.ensures s_str 4 (ap (λ p. plain_in (Some p)) (sym c.in-Some-Str.field-0-is) ∙ c.in-Some-Str.ensures) refl c.put_one-in-Some-Str.ensures.0 c.put_one-in-Some-Str.ensures.1
 
-pub returns-in-Other : goal.returns-in-Other
-returns-in-Other c = symbol-other _ _ _ _ c.bytes_at-name.ensures (ap plain_in (sym c.in-Other.is) ∙ c.plain_sort.ensures) c.other_sort.ensures
+pub returns-in-None : goal.returns-in-None
+returns-in-None c = symbol-other _ _ _ _ c.bytes-bytes.ensures c.in-None.ensures c.other_sort.ensures

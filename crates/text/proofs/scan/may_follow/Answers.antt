@@ -1,8 +1,9 @@
-use Rattle.text.proofs.Looping.Turn.{follows-outside, follows-inside}
+use mathlib.Core.Path.{◌∙◌}
+use Rattle.text.proofs.Looping.Turn.{follows-all, follows-inside}
 use Rattle.text.proofs.scan.may_follow.Goals as goal
 
-pub returns-then-depth-eq0 : goal.returns-then-depth-eq0
-returns-then-depth-eq0 c = follows-outside _ _ c.if-depth-eq0.true
+pub returns-then-all : goal.returns-then-all
+returns-then-all c = c.if-all.true ∙ follows-all _ c.args.depth c.if-all.true
 
-pub returns-else-depth-eq0 : goal.returns-else-depth-eq0
-returns-else-depth-eq0 c = follows-inside _ _ c.if-depth-eq0.false
+pub returns-else-all : goal.returns-else-all
+returns-else-all c = follows-inside _ _ c.if-all.false

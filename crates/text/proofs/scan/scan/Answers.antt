@@ -1,21 +1,15 @@
 use mathlib.Core.Path.{refl, sym, ◌∙◌}
 use native.Mathlib.Omega.{arith}
-use Rattle.text.proofs.Looping.Turn.{start, kept, blanked, broken, opened, too_deep_lem, unopened, at-tree, at_close, closed, at_leaf, worded, goes_on, one-read, ended-inside, ended-all, ended-none}
+use Rattle.text.proofs.Looping.Turn.{start, blanked, broken, opened, too_deep_lem, unopened, at-tree, at_close, closed, at_leaf, worded, goes_on, one-read, ended-inside, ended-all, ended-none}
 use Rattle.text.proofs.scan.scan.Goals as goal
+use Rattle.text.proofs.scan.scan.Goals.{else-all-via-then-all+else-depth-eq0-2, else-all-via-else-all}
 
 pub loop-at-init : goal.loop-at-init
 loop-at-init c = start _ _ _ _ _ refl refl refl
 
-pub loop-at-smaller-in-Blank : goal.loop-at-smaller-in-Blank
-loop-at-smaller-in-Blank c =
-    omega (arith, (blanked c.loop-at.invariant c.loop-at-test.true (sym c.token_at.ensures ∙ c.in-Blank.is)).0)
-
 pub loop-at-preserved-in-Blank : goal.loop-at-preserved-in-Blank
 loop-at-preserved-in-Blank c =
     (blanked c.loop-at.invariant c.loop-at-test.true (sym c.token_at.ensures ∙ c.in-Blank.is)).1
-
-pub shape_of-out-then-depth-ge-MAX_LISTS : goal.shape_of-out-then-depth-ge-MAX_LISTS
-shape_of-out-then-depth-ge-MAX_LISTS c = kept c.loop-at.invariant
 
 pub returns-then-depth-ge-MAX_LISTS : goal.returns-then-depth-ge-MAX_LISTS
 returns-then-depth-ge-MAX_LISTS c =
@@ -24,9 +18,6 @@ returns-then-depth-ge-MAX_LISTS c =
 pub loop-at-preserved-in-Opens : goal.loop-at-preserved-in-Opens
 loop-at-preserved-in-Opens c =
     rw c.put_list.ensures (opened c.loop-at.invariant c.loop-at-test.true (sym c.token_at.ensures ∙ c.in-Opens.is) (omega arith))
-
-pub shape_of-out-then-depth-eq0 : goal.shape_of-out-then-depth-eq0
-shape_of-out-then-depth-eq0 c = kept c.loop-at.invariant
 
 pub returns-then-depth-eq0 : goal.returns-then-depth-eq0
 returns-then-depth-eq0 c =
@@ -43,9 +34,6 @@ put_list-requires-in-Closes c = omega (arith, at_close c.loop-at.invariant c.if-
 
 pub overflow_add-counts : goal.overflow_add-counts
 overflow_add-counts c = omega (arith, at_close c.loop-at.invariant c.if-depth-eq0.false)
-
-pub shape_of-out-then-not-may_follow : goal.shape_of-out-then-not-may_follow
-shape_of-out-then-not-may_follow c = omega (arith, kept c.loop-at.invariant, c.put_list-in-Closes.auto)
 
 pub returns-then-not-may_follow : goal.returns-then-not-may_follow
 returns-then-not-may_follow c =
@@ -66,41 +54,23 @@ overflow_add-words-in-Leaf c =
 pub overflow_add-counts-in-Leaf : goal.overflow_add-counts-in-Leaf
 overflow_add-counts-in-Leaf c = omega (arith, at-tree c.loop-at.invariant)
 
-pub shape_of-out-then-not-may_follow-2 : goal.shape_of-out-then-not-may_follow-2
-shape_of-out-then-not-may_follow-2 c = omega (arith, kept c.loop-at.invariant, c.put_words.auto)
-
 pub returns-then-not-may_follow-2 : goal.returns-then-not-may_follow-2
 returns-then-not-may_follow-2 c =
     rw c.put_words.ensures (one-read (worded c.loop-at.invariant c.loop-at-test.true (sym c.token_at.ensures ∙ c.in-Leaf.is)) refl (sym c.may_follow-in-Leaf.ensures ∙ c.if-not-may_follow-2.true))
-
-pub loop-at-smaller : goal.loop-at-smaller
-loop-at-smaller c =
-    omega (arith, at_leaf c.loop-at.invariant c.loop-at-test.true (sym c.token_at.ensures ∙ c.in-Leaf.is))
 
 pub loop-at-preserved : goal.loop-at-preserved
 loop-at-preserved c =
     rw c.put_words.ensures (goes_on (worded c.loop-at.invariant c.loop-at-test.true (sym c.token_at.ensures ∙ c.in-Leaf.is)) (sym c.may_follow-in-Leaf.ensures ∙ c.if-not-may_follow-2.false))
 
-pub shape_of-out-in-Unfinished : goal.shape_of-out-in-Unfinished
-shape_of-out-in-Unfinished c = kept c.loop-at.invariant
-
 pub returns-in-Unfinished : goal.returns-in-Unfinished
 returns-in-Unfinished c = broken c.loop-at.invariant c.loop-at-test.true (sym c.token_at.ensures ∙ c.in-Unfinished.is)
-
-pub shape_of-out-then-depth-eq0-2 : goal.shape_of-out-then-depth-eq0-2
-shape_of-out-then-depth-eq0-2 c = kept c.loop-at.invariant
 
 pub returns-then-depth-eq0-2 : goal.returns-then-depth-eq0-2
 returns-then-depth-eq0-2 c = ended-all c.loop-at.invariant c.loop-at-test.false c.if-all.true c.if-depth-eq0-2.true
 
-pub shape_of-out-else-depth-eq0-2 : goal.shape_of-out-else-depth-eq0-2
-shape_of-out-else-depth-eq0-2 c = kept c.loop-at.invariant
-
-pub returns-else-depth-eq0-2 : goal.returns-else-depth-eq0-2
-returns-else-depth-eq0-2 c = ended-inside c.loop-at.invariant c.loop-at-test.false c.if-depth-eq0-2.false
-
-pub shape_of-out-else-all : goal.shape_of-out-else-all
-shape_of-out-else-all c = kept c.loop-at.invariant
-
-pub returns-else-all : goal.returns-else-all
-returns-else-all c = ended-none c.loop-at.invariant c.loop-at-test.false c.if-all.false
+pub returns : goal.returns
+returns c =
+    elim c.else-all.branch [
+      | else-all-via-then-all+else-depth-eq0-2 w ↦ ended-inside c.loop-at.invariant c.loop-at-test.false w.if-depth-eq0-2.false
+      | else-all-via-else-all w ↦ ended-none c.loop-at.invariant c.loop-at-test.false w.if-all.false
+    ]

@@ -10,19 +10,18 @@ bounds-items-0 c =
 pub bounds-items-2 : goal.bounds-items-2
 bounds-items-2 c =
     let a = c.requires in
-    omega (arith, (size-list a.rest a.first a.words c.if-kind-eq-LIST.true).0)
+    omega (arith, (size-list a.rest a.first a.words c.in-21.is).0)
 
-pub word_to_length-requires : goal.word_to_length-requires
-word_to_length-requires c = tt
+pub returns-in-21 : goal.returns-in-21
+returns-in-21 c t rest e = omega (arith, (size-list rest t e c.in-21.is).1)
 
-pub returns-then-kind-eq-LIST : goal.returns-then-kind-eq-LIST
-returns-then-kind-eq-LIST c t rest e = omega (arith, (size-list rest t e c.if-kind-eq-LIST.true).1, c.word_to_length.ensures.0)
+pub returns-in-18 : goal.returns-in-18
+returns-in-18 c t rest e = size-integer rest t e c.in-18.is
 
-pub returns-then-kind-eq-INTEGER : goal.returns-then-kind-eq-INTEGER
-returns-then-kind-eq-INTEGER c t rest e = size-integer rest t e c.if-kind-eq-INTEGER.true
+pub returns-in-20 : goal.returns-in-20
+returns-in-20 c t rest e = size-boolean rest t e c.in-20.is
 
-pub returns-then-kind-eq-BOOLEAN : goal.returns-then-kind-eq-BOOLEAN
-returns-then-kind-eq-BOOLEAN c t rest e = size-boolean rest t e c.if-kind-eq-BOOLEAN.true
-
-pub returns : goal.returns
-returns c t rest e = size-other rest t e c.if-kind-eq-LIST.false c.if-kind-eq-INTEGER.false c.if-kind-eq-BOOLEAN.false
+pub returns-in_default : goal.returns-in_default
+returns-in_default c t rest e =
+    let r = c.in_default.in_default-own.rest in
+    size-other rest t e r.0.0.1 r.0.1 r.1
