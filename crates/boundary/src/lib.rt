@@ -4,7 +4,7 @@
 #![tactic(auto)]
 
 ghost use Rattle.std.specs.Prelude.{◌≡◌};
-ghost use Rattle.boundary.specs.Heard.{Tells};
+ghost use Rattle.boundary.specs.Heard.{numbers_of, said_of, Tells};
 ghost use Rattle.boundary.specs.Version.{version as versionOf};
 
 use words::refusal::Refusal;
@@ -18,22 +18,32 @@ pub struct Reported {
     pub second: u64,
 }
 
-// What is said, as numbers.
+// What is said, as numbers; a refusal may be any number.
+pub fn numbers(said: Result<Report, u32>) -> Reported
+    ensures { result ≡ numbers_of (said_of said) }
+{
+    match said {
+        Ok(report) => Reported {
+            refusal: 0,
+            first: report.first as u64,
+            second: report.second as u64,
+        },
+        Err(refusal) => Reported {
+            refusal,
+            first: 0,
+            second: 0,
+        },
+    }
+}
+
+// What is said, where a refusal is one by name.
 impl From<Result<Report, Refusal>> for Reported {
     ghost from_gives = { Tells };
 
     fn from(said: Result<Report, Refusal>) -> Reported {
         match said {
-            Ok(report) => Reported {
-                refusal: 0,
-                first: report.first as u64,
-                second: report.second as u64,
-            },
-            Err(refusal) => Reported {
-                refusal: u32::from(refusal),
-                first: 0,
-                second: 0,
-            },
+            Ok(report) => numbers(Ok(report)),
+            Err(refusal) => numbers(Err(u32::from(refusal))),
         }
     }
 }

@@ -1,16 +1,12 @@
 -- What the writer of flattened words does, step by step: each lemma is one way through the code.
 use Prim.Native.Nat.{ℕ, ◌+◌, ◌-◌, ◌≤◌, ◌<◌, min, max}
 use mathlib.Core.Bool.{Bool}
-use mathlib.Core.Path.{◌≡◌, refl, sym, ap, ◌∙◌}
+use mathlib.Core.Path.{◌≡◌, refl, sym, ap, subst, ◌∙◌}
 use mathlib.Core.List.{List, [], ◌∷◌, ◌++◌}
 use native.Mathlib.Omega.{arith}
-use lib.ListN.{length, take, drop}
-use borrow.Rule.Slice.PartMut.{put_mid}
+use lib.ListN.{length}
 use Rattle.std.specs.List.{slice_range}
-use Rattle.std.proofs.lemmas.List.{take_at, length-drop}
-use Rattle.reading.specs.Answer.{over}
-use Rattle.writing.specs.Laid.{laid}
-use Rattle.writing.proofs.Laid.{laid-over, length-laid}
+use Rattle.std.proofs.lemmas.List.{take_at}
 use Rattle.reading.specs.Bytes.{Maybe}
 use Rattle.reading.specs.Tree.{bit}
 use Rattle.reading.proofs.Placed.{at_drop}
@@ -45,6 +41,7 @@ use Rattle.judging.proofs.SpellKind.{operands-spelled, arguments-spelled}
 use Rattle.judging.proofs.SpellExpr.{out-spelled, several-count, exprs-spelled}
 use Rattle.judging.proofs.Taken.{read-no-room, read-no-header, read-operands, read-arguments, read_none, read_more}
 use Rattle.writing.proofs.Wrote.{wrote_none, wrote_seq, wrote-more, wrote_as}
+use Rattle.writing.proofs.Pieces.{Copied, copy_all}
 use Rattle.flatwriter.proofs.Counted.{wrote_patched}
 
 -- The words of flattened expressions, and their largest count.
@@ -56,13 +53,6 @@ flat_most es = most_operands_all (uncurry_all es)
 
 -- ---- copying
 
--- Laid over the front of words.
-over-front : (ws o : List ℕ) → length ws ≤ length o → over ws o ≡ ws ++ drop (length ws) o
-unfolding over
-over-front [] o h = refl
-over-front (w ∷ ws) [] h = absurd (omega (arith, h))
-over-front (w ∷ ws) (x ∷ o) h = ap (λ (l : List ℕ). w ∷ l) (over-front ws o (omega (arith, h)))
-
 -- The part of the words that is copied.
 part-is : {ws xs : List ℕ} {from to : ℕ} → Spelled ws from to xs → slice_range ws from to ≡ xs
 part-is {ws} {xs} {from} {to} s =
@@ -70,14 +60,10 @@ part-is {ws} {xs} {from} {to} s =
     rw (at_drop s.stands, e) (take_at xs s.stands.rest (length xs) refl)
 
 -- Words that are copied to a place where they have room.
-pub copied-all : {ws xs l part now : List ℕ} {from to place : ℕ} → Spelled ws from to xs → part ≡ slice_range ws from to → now ≡ part → place ≤ length l → length part ≤ length l - place → Wrote l place xs 0 (put_mid place (place + length part - place) l now) (place + length part)
-copied-all {ws} {xs} {l} {part} {now} {from} {to} {place} s p q h k =
-    let e : part ≡ xs = p ∙ part-is s in
-    let n : place + length xs - place ≡ length xs = omega arith in
-    let m : length part ≡ length xs = ap length e in
-    let w : put_mid place (place + length part - place) l now ≡ laid l place xs =
-    rw (q, e, n) (ap (λ (o : List ℕ). take place l ++ o) (sym (over-front xs (drop place l) (omega (arith, length-drop place l, h, k, m)))) ∙ laid-over xs l place) in
-    record { kept = ap length w ∙ length-laid xs l place; fits = λ _. (omega (arith, m), omega arith, w); full = λ f _ _. absurd (omega (arith, f, h, k)) }
+pub copied-all : {ws xs l part now : List ℕ} {from to place i : ℕ} → Spelled ws from to xs → part ≡ slice_range ws from to → Copied part l place now i → length part ≤ i → place + length part ≤ length l → Wrote l place xs 0 now (place + length part)
+copied-all {ws} {xs} {l} {part} {now} {from} {to} {place} {i} s p c h k =
+    let n : i ≡ length part = omega (arith, c.upto, h) in
+    subst (λ (ys : List ℕ). Wrote l place ys 0 now (place + length part)) (p ∙ part-is s) (rw n at (copy_all c h k))
 
 -- ---- the words and the largest count of joined expressions
 

@@ -45,9 +45,11 @@ fn copy(words: &[u32], from: usize, to: usize, out: &mut [u32], place: usize) ->
     if out.len() < place || out.len() - place < part.len() {
         return out.len() + 1;
     }
-    let end = place + part.len();
-    out[place..end].copy_from_slice(part);
-    end
+    // No `copy_from_slice`: with it an archive for C needs `memmove` from outside.
+    for i in 0..part.len() {
+        out[place + i] = part[i];
+    }
+    place + part.len()
 }
 
 // So many arguments more; no count grows past one that is too large.

@@ -16,7 +16,7 @@ use Rattle.parse.specs.Answers.{Laid, Attempted}
 use Rattle.std.specs.Prelude.{Result, Ok, Err}
 use Rattle.words.specs.declared.refusal.Refusal.{Refusal}
 use Rattle.words.specs.declared.refusal.Refusal.TheVariants as refusal
-use Rattle.words.specs.Refusals.{number_of, refusal_of}
+use Rattle.words.specs.Refusals.{number_of}
 use Rattle.words.specs.Answered.{answered, told, refused as answer_refused, sized_by}
 use Rattle.words.proofs.Numbered.{number_told}
 use Rattle.std.specs.Prelude.{is_err}

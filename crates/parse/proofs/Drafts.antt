@@ -24,8 +24,7 @@ use Rattle.parse.specs.DraftAnswers.{judged_by, AttemptedDraft}
 use Rattle.std.specs.Prelude.{Result, Ok, Err}
 use Rattle.words.specs.declared.refusal.Refusal.{Refusal}
 use Rattle.words.specs.declared.refusal.Refusal.TheVariants as refusal
-use Rattle.words.specs.Refusals.{number_of, refusal_of}
-use Rattle.words.specs.Answered.{answered, told, refused as answer_refused, sized_by}
+use Rattle.words.specs.Answered.{told, refused as answer_refused}
 use Rattle.words.proofs.Numbered.{number_told}
 use Rattle.solutions.specs.declared.parts.Parts.{Parts}
 use Rattle.grammar.proofs.Raise.{words-raise}

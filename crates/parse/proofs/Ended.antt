@@ -23,18 +23,26 @@ use Rattle.scopes.specs.Scopes.{slots}
 use Rattle.plans.specs.Plans.{Parsed, wrote, refused, Here}
 use Rattle.plans.specs.Whole.{Whole}
 use Rattle.grammar.specs.Item.{raised_words}
-use Rattle.parse.specs.Answers.{Laid, AttemptedAt, counted_by, with_count, finished_by, closed_by}
+use Rattle.parse.specs.Answers.{Laid, AttemptedAt, counted_by, with_count, finished_by, ValueOr, Finished, closed_by}
 use Rattle.parse.specs.declared.Counted.{Counted}
 use Rattle.std.specs.Prelude.{Result, Ok, Err}
 use Rattle.words.specs.declared.refusal.Refusal.{Refusal}
 use Rattle.words.specs.declared.refusal.Refusal.TheVariants as refusal
-use Rattle.words.specs.Refusals.{number_of, refusal_of}
-use Rattle.words.specs.Answered.{answered, told, refused as answer_refused, sized_by}
+use Rattle.words.specs.Answered.{answered, told, refused as answer_refused}
 use Rattle.words.proofs.Numbered.{number_told}
 use Rattle.plans.specs.declared.progress.Progress.{Progress}
 use Rattle.grammar.proofs.Raise.{words-raise}
 use Rattle.writing.proofs.Laid.{over-start}
 use Rattle.parse.specs.TreeOf.{TreeIn, NoTree}
+
+-- Where errors are refusals by name, a refusal of its own is that error.
+pub finished-named : {gives : Refusal → Refusal → Type 0} → ((x e : Refusal) → gives x e → e ≡ x) → (p : Result Progress Refusal) (c room : ℕ) (r : Result Counted Refusal) → Finished gives p c room r → r ≡ finished_by p c room
+finished-named same (Err e) c room r f = f
+finished-named {gives} same (Ok p) c room r f = go (finished_by (Ok p) c room) f
+  where
+    go : (q : Result Counted Refusal) → ValueOr gives q r → r ≡ q
+    go (Ok a) h = h
+    go (Err x) h = h.1 ∙ ap Err (same x h.0 h.2)
 
 -- ---- the end of an operation
 

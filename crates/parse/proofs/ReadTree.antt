@@ -13,7 +13,6 @@ use Rattle.reading.specs.Reading.{Read, read_text, read_words, read_report, read
 use Rattle.std.specs.Prelude.{Result, Ok, Err}
 use Rattle.words.specs.declared.refusal.Refusal.{Refusal as Told}
 use Rattle.words.specs.declared.report.Report.{Report}
-use Rattle.words.specs.Refusals.{number_of}
 use Rattle.words.specs.Answered.{heard}
 use Rattle.reading.proofs.Finish.{finish-short, finish-long}
 use Rattle.reading.proofs.Over.{over-fits, over-length}

@@ -58,6 +58,16 @@ abbrev pub finished_by : Result Progress Refusal → ℕ → ℕ → Result Coun
 finished_by (Err e) c room = Err e
 finished_by (Ok p) c room = with_count (λ k. record { words = p.words; count = k }) (count_on p.words p.next c room)
 
+-- A value, or an error that a refusal gives.
+abbrev pub ValueOr : {A E : Type 0} → (Refusal → E → Type 0) → Result A Refusal → Result A E → Type 0
+ValueOr gives (Ok a) r = r ≡ Ok a
+ValueOr gives (Err x) r = (e : _) × (r ≡ Err e) × gives x e
+
+-- The same as `finished_by`, whatever errors say refusals.
+abbrev pub Finished : {E : Type 0} → (Refusal → E → Type 0) → Result Progress E → ℕ → ℕ → Result Counted E → Type 0
+Finished gives (Err e) c room r = r ≡ Err e
+Finished gives (Ok p) c room r = ValueOr gives (finished_by (Ok p) c room) r
+
 -- The output is cleared after a refusal.
 abbrev pub closed_by : {E : Type 0} → Result Counted E → List ℕ → List ℕ
 closed_by (Ok a) out = out

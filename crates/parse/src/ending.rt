@@ -1,7 +1,7 @@
 // What an operation that takes fresh numbers decides in the end.
 ghost use Rattle.std.specs.Prelude.{◌≡◌};
 ghost use Rattle.reading.specs.Answer.{zeros};
-ghost use Rattle.parse.specs.Answers.{count_on, finished_by, closed_by};
+ghost use Rattle.parse.specs.Answers.{count_on, Finished, closed_by};
 
 use crate::Counted;
 use plans::progress::Progress;
@@ -27,13 +27,13 @@ pub(crate) fn count_behind(
     Ok(count + fresh)
 }
 
-// What was parsed, and then 13 and 7.
-pub(crate) fn finished(
-    parsed: Result<Progress, Refusal>,
+// What was parsed, and then 13 and 7, whatever errors say refusals.
+pub fn finished<E: Copy + From<Refusal>>(
+    parsed: Result<Progress, E>,
     count: u64,
     room: usize,
-) -> Result<Counted, Refusal>
-    ensures { result ≡ finished_by parsed count room }
+) -> Result<Counted, E>
+    ensures { Finished E.from_gives parsed count room result }
 {
     let end = parsed?;
     let after = count_behind(end.words, end.next, count, room)?;

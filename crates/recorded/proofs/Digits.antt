@@ -1,12 +1,12 @@
 -- Laws of digits and numbers.
-use Prim.Native.Nat.{ℕ, ◌+◌, ◌*◌, ◌≤◌, ◌<◌, min}
+use Prim.Native.Nat.{ℕ, ◌+◌, ◌-◌, ◌*◌, ◌≤◌, ◌<◌, min}
 use mathlib.Core.Bool.{Bool, true, false, true≢false}
 use mathlib.Core.Path.{◌≡◌, refl, sym, ap, ◌∙◌}
 use mathlib.Core.List.{List, [], ◌∷◌}
 use native.Mathlib.Nat.{mul-le-mul_right, le_trans}
 use native.Mathlib.Numerals.{add-one}
 use native.Mathlib.Omega.{arith}
-use borrow.Author.Tests.{leb-true, leb-false}
+use borrow.Author.Tests.{ltb-true, leb-true, leb-false}
 use lib.Dec.{ltb, leb}
 use lib.ListN.{length, get_or, drop, drop_of_length-le}
 use lib.Seq.{drop-cons}
@@ -14,6 +14,18 @@ use Rattle.reading.specs.Pick.{pick}
 use Rattle.reading.proofs.Picks.{pick_lt, pick_ge}
 use Rattle.std.specs.Prelude.{Option, Some, None, is_some}
 use Rattle.recorded.specs.Numbers.{DigitIs, digit, number_from}
+
+-- A digit is at most 16.
+pub digit-small : (b : ℕ) → digit b ≤ 16
+unfolding digit pick
+digit-small b = go (ltb b 48) (ltb b 58) refl (ltb b 97) (ltb b 103) refl
+  where
+    go : (t u : Bool) → ltb b 58 ≡ u → (v w : Bool) → ltb b 103 ≡ w → pick t 16 (pick u (b - 48) (pick v 16 (pick w (b - 87) 16))) ≤ 16
+    go true u e v w f = omega arith
+    go false true e v w f = omega (arith, ltb-true b 58 e)
+    go false false e true w f = omega arith
+    go false false e false true f = omega (arith, ltb-true b 103 f)
+    go false false e false false f = omega arith
 
 -- Whether a byte is a digit, as the code has it.
 pub digit_some : {d : ℕ} (o : Option ℕ) {t : Bool} → DigitIs d o → t ≡ is_some o → t ≡ true → d < 16

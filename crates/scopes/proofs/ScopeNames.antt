@@ -72,6 +72,14 @@ module _ (text ws : List ℕ) (at n : ℕ) (h : Pairs ws at n) (s : Span) where
   }
 
   module _ (i p : ℕ) (x : Walk text ws at n h s i p) where
+    pub walk_all : n ≤ i → i ≡ place_among text s h.names
+    unfolding place_among pick
+    walk_all e = omega (arith, x.place, ap (place_among text s) (nil_names x.left.names (omega (arith, x.left.many))))
+      where
+        nil_names : (l : List Span) → length l ≡ 0 → l ≡ []
+        nil_names [] k = refl
+        nil_names (y ∷ ys) k = absurd (omega arith)
+
     pub walk_end : n ≤ i → n ≤ place_among text s h.names
     unfolding place_among pick
     walk_end e = omega (arith, x.place, ap (place_among text s) (nil_names x.left.names (omega (arith, x.left.many))))

@@ -55,6 +55,10 @@ pub record Lining (words : List ℕ) (from to at : ℕ) (out₀ out : List ℕ) 
   pub kept : length out ≡ length out₀
   pub text : sets out a (line (between words i to)) ≡ sets out₀ at (line (between words from to))
 
+-- Nothing is written yet.
+pub lining_starts : (words : List ℕ) (from to at : ℕ) (out : List ℕ) → from ≤ to → Lining words from to at out out from at
+lining_starts words from to at out h = record { low = omega arith; high = h; place = omega arith; kept = refl; text = refl }
+
 -- One word more.
 pub lining_more : {words : List ℕ} {from to at : ℕ} {out₀ out out' : List ℕ} {i a sep : ℕ} → Lining words from to at out₀ out i a → to ≤ length words → i < to
     → sep ≡ pick (eqb (i + 1) to) 10 32 → out' ≡ sets out a (printed (get_or words i 0) sep) → Lining words from to at out₀ out' (i + 1) (a + 9)

@@ -5,7 +5,7 @@ use mathlib.Core.Path.{◌≡◌, refl, sym, ap, ◌∙◌}
 use mathlib.Core.List.{List, [], ◌∷◌}
 use native.Mathlib.Omega.{arith}
 use lib.Dec.{eqb, ltb}
-use lib.ListN.{length, set, get_or}
+use lib.ListN.{length, set, get_or, length-set}
 use lib.Seq.{get_or-set_same, get_or-set_other}
 use borrow.Author.Tests.{eqb-true, eqb-false}
 use Rattle.reading.specs.Pick.{pick}
@@ -38,14 +38,35 @@ known_kept bases i x zero cs h o = tt
 known_kept bases i x (suc k) [] h o = o
 known_kept bases i x (suc k) (c ∷ cs) h o = (get_or-set_other bases i k x 0 (λ e. omega (arith, h, e)) ∙ o.0, known_kept bases i x k cs (omega (arith, h)) o.1)
 
--- The lists that stand in the inner half, moved to the front of the array, are known as before.
-pub moved-known : (l₀ l : List ℕ) (k n : ℕ) (cs : List ℕ) → ((j : ℕ) → j < half → get_or l j 0 ≡ get_or l₀ (half + j) 0) → n ≡ k + half → k ≤ half → Known l₀ n cs → Known l k cs
+-- The inner half moves to the front of the array, so many of it.
+pub record Moved (l₀ l : List ℕ) (i : ℕ) : Type 0 where
+  pub long : length l ≡ length l₀
+  pub front : (j : ℕ) → j < i → get_or l j 0 ≡ get_or l₀ (j + half) 0
+  pub still : (j : ℕ) → i ≤ j → get_or l j 0 ≡ get_or l₀ j 0
+
+pub moved_none : (l : List ℕ) → Moved l l 0
+moved_none l = record { long = refl; front = λ j h. absurd (omega (arith, h)); still = λ j h. refl }
+
+pub moved-one : (l₀ l : List ℕ) (i : ℕ) → i < length l → Moved l₀ l i → Moved l₀ (set l i (get_or l (i + half) 0)) (i + 1)
+moved-one l₀ l i h m =
+    record {
+      long = length-set l i _ ∙ m.long;
+      front = λ j g. go j g (eqb j i) refl;
+      still = λ j g. get_or-set_other l i j _ 0 (λ e. omega (arith, g, e)) ∙ m.still j (omega (arith, g));
+    }
+  where
+    go : (j : ℕ) → j < i + 1 → (t : Bool) → eqb j i ≡ t → get_or (set l i (get_or l (i + half) 0)) j 0 ≡ get_or l₀ (j + half) 0
+    go j g true e = rw (eqb-true j i e) (get_or-set_same l i _ 0 h ∙ m.still (i + half) (omega arith))
+    go j g false e = get_or-set_other l i j _ 0 (eqb-false j i e) ∙ m.front j (omega (arith, g, eqb-false j i e))
+
+-- The lists that stand there are known as before.
+pub moved-known : (l₀ l : List ℕ) (k n : ℕ) (cs : List ℕ) → Moved l₀ l half → n ≡ k + half → k ≤ half → Known l₀ n cs → Known l k cs
 moved-known l₀ l zero n cs m e h o = tt
 moved-known l₀ l (suc k) zero cs m e h o = absurd (omega (arith, e))
 moved-known l₀ l (suc k) (suc n) [] m e h o = absurd o
 moved-known l₀ l (suc k) (suc n) (c ∷ cs) m e h o =
-    let f : half + k ≡ n = omega (arith, e) in
-    (m k (omega (arith, h)) ∙ ap (λ j. get_or l₀ j 0) f ∙ o.0, moved-known l₀ l k n cs m (omega (arith, f)) (omega (arith, h)) o.1)
+    let f : k + half ≡ n = omega (arith, e) in
+    (m.front k (omega (arith, h)) ∙ ap (λ j. get_or l₀ j 0) f ∙ o.0, moved-known l₀ l k n cs m (sym f) (omega (arith, h)) o.1)
 
 -- One list more.
 pub known_more : (bases : List ℕ) (k c : ℕ) (cs : List ℕ) {base : ℕ} → k < length bases → base ≡ total cs → Known bases k cs → Known (set bases k base) (k + 1) (c ∷ cs)

@@ -35,7 +35,10 @@ fn halved(bases: &mut [u64; MAX_LISTS], known: usize) -> usize
     if known < MAX_LISTS {
         return known;
     }
-    bases.copy_within(HALF.., 0);
+    // No `copy_within`: with it an archive for C needs `memmove` from outside.
+    for i in 0..HALF {
+        bases[i] = bases[i + HALF];
+    }
     HALF
 }
 

@@ -64,5 +64,9 @@ unfolding fresh_text
 fresh-text k = refl
 
 -- A number of 64 bits in words.
+pub quad_value : (n : ℕ) → value_of (record { a = n % 4294967296; b = n / 4294967296; c = 0; d = 0 }) ≡ n
+unfolding value_of
+quad_value n = omega arith
+
 pub four-value : (n : ℕ) (q : Quad) → n < 2 ^ 64 → InFour n q → value_of (as_wide q) ≡ n
 four-value n q h e = ap (λ (x : Quad). value_of (as_wide x)) e ∙ value-back n (lt_of_lt_of_le h (leb-true (2 ^ 64) (2 ^ 128) refl))

@@ -1,31 +1,47 @@
--- Bytes that are copied, and what the loops of this crate do, step by step: digits that are counted, and digits that are laid from the last to
--- the first.
-use Prim.Native.Nat.{ℕ, ◌+◌, ◌-◌, ◌≤◌, ◌<◌}
+-- What the loops of this crate do, step by step: bytes that are copied from the first to the last, digits that are counted, and digits that
+-- are laid from the last to the first.
+use Prim.Native.Nat.{ℕ, suc, ◌+◌, ◌-◌, ◌≤◌, ◌<◌}
 use mathlib.Core.Path.{◌≡◌, refl, sym, ap, ◌∙◌}
-use mathlib.Core.List.{List, [], ◌∷◌, ◌++◌}
+use mathlib.Core.List.{List, [], ◌∷◌}
 use native.Mathlib.Omega.{arith}
-use borrow.Rule.Slice.PartMut.{put_mid}
-use lib.ListN.{length, set, take, drop, length-set, length-drop}
-use Rattle.reading.proofs.Over.{over-fits}
+use native.Mathlib.Nat.{add-zero}
+use lib.ListN.{length, get_or, set, drop, length-set, drop_of_length-le}
+use lib.Seq.{drop-cons}
 use Rattle.writing.specs.Laid.{laid}
 use Rattle.writing.specs.Wrote.{Wrote}
 use Rattle.writing.specs.Digits.{decimal}
 use Rattle.writing.specs.Quads.{Tenths}
-use Rattle.writing.proofs.Laid.{laid_append, laid-over, set-behind}
+use Rattle.writing.proofs.Laid.{laid_append, set-behind}
 use Rattle.writing.proofs.Wrote.{wrote-all}
 use Rattle.writing.proofs.Decimals.{decimal-one, decimal-more, tenth_long, decimal-some, decimal-two, decimal-few, decimal-many}
 
 -- ---- copying
 
--- A part of the output becomes these bytes.
-pub copied : (from l part : List ℕ) (place n : ℕ) → n ≡ length from → place + length from ≤ length l → part ≡ from → Wrote l place from 0 (put_mid place n l part) (place + length from)
-copied from l part place n e h p =
-    let room : length from ≤ length (drop place l) = omega (arith, length-drop place l) in
-    wrote-all refl h
-    (ap (put_mid place n l) p
-    ∙ ap (λ (k : ℕ). put_mid place k l from) e
-    ∙ ap (λ (ws : List ℕ). take place l ++ ws) (sym (over-fits from (drop place l) room))
-    ∙ laid-over from l place)
+-- So many bytes are copied; with the others laid behind them, all are.
+pub record Copied (from l₀ : List ℕ) (place : ℕ) (l : List ℕ) (i : ℕ) : Type 0 where
+  pub kept : length l ≡ length l₀
+  pub upto : i ≤ length from
+  pub rest : laid l (place + i) (drop i from) ≡ laid l₀ place from
+
+pub copy_none : (from l : List ℕ) (place : ℕ) → Copied from l place l 0
+copy_none from l place = record { kept = refl; upto = omega arith; rest = rw (add-zero place) refl }
+
+module _ {from l₀ : List ℕ} {place : ℕ} {l : List ℕ} {i : ℕ} (c : Copied from l₀ place l i) where
+  pub copy_next : i < length from → Copied from l₀ place (set l (place + i) (get_or from i 0)) (i + 1)
+  unfolding laid
+  copy_next h =
+      let e : i + 1 ≡ suc i = omega arith in
+      let p : place + (i + 1) ≡ place + i + 1 = omega arith in
+      record {
+        kept = length-set l (place + i) (get_or from i 0) ∙ c.kept;
+        upto = omega (arith, h);
+        rest = rw (p, e) (ap (laid l (place + i)) (sym (drop-cons from i 0 h)) ∙ c.rest);
+      }
+
+  pub copy_all : length from ≤ i → place + length from ≤ length l₀ → Wrote l₀ place from 0 l (place + i)
+  unfolding laid
+  copy_all h k =
+      wrote-all (omega (arith, h, c.upto)) k (ap (laid l (place + i)) (sym (drop_of_length-le from {i = i} h)) ∙ c.rest)
 
 -- ---- counting digits
 

@@ -1,12 +1,12 @@
 -- Laws of numbers in four words.
 use Prim.Native.Nat.{ℕ, ◌+◌, ◌*◌, ◌/◌, ◌%◌, ◌^◌, ◌≤◌, ◌<◌}
-use mathlib.Core.Bool.{true}
+use mathlib.Core.Bool.{true, false}
 use mathlib.Core.Path.{◌≡◌, refl, sym, ap, ◌∙◌}
 use native.Mathlib.Omega.{arith}
 use native.Mathlib.Nat.{le_trans, pow-le-pow_right}
 use lib.Dec.{ltb}
 use lib.ListN.{length}
-use borrow.Author.Tests.{leb-true, ltb-true}
+use borrow.Author.Tests.{leb-true, ltb-true, ltb-false, lt-ltb, le-ltb}
 use Rattle.reading.specs.Number.{Wide, value_of}
 use Rattle.writing.specs.Digits.{decimal}
 use Rattle.reading.proofs.Values.{value-back}
@@ -34,7 +34,27 @@ pub quad_long : (w : Wide) → w.a < 2 ^ 32 → w.b < 2 ^ 32 → w.c < 2 ^ 32 �
 quad_long w ha hb hc hd =
     decimal-most 38 (value_of w) (below (value_of w) (2 ^ 128) (10 ^ 39) (quad_below w ha hb hc hd) (leb-true (2 ^ 128) (10 ^ 39) refl))
 
+-- A word that is not the lowest is not 0, or they all are.
 module _ (w : Wide) where
+  pub more-b : (w.b ≡ 0 → ⊥) → false ≡ ltb (value_of w) (2 ^ 32)
+  unfolding value_of
+  more-b h = sym (le-ltb (value_of w) (2 ^ 32) (omega (arith, h)))
+
+  pub more-c : (w.c ≡ 0 → ⊥) → false ≡ ltb (value_of w) (2 ^ 32)
+  unfolding value_of
+  more-c h = sym (le-ltb (value_of w) (2 ^ 32) (omega (arith, h)))
+
+  pub more-d : (w.d ≡ 0 → ⊥) → false ≡ ltb (value_of w) (2 ^ 32)
+  unfolding value_of
+  more-d h = sym (le-ltb (value_of w) (2 ^ 32) (omega (arith, h)))
+
+  pub none_more : w.a < 2 ^ 32 → w.b ≡ 0 → w.c ≡ 0 → w.d ≡ 0 → true ≡ ltb (value_of w) (2 ^ 32)
+  unfolding value_of
+  none_more h b c d = sym (lt-ltb (value_of w) (2 ^ 32) (omega (arith, h, b, c, d)))
+
+  pub digit-more : ltb (value_of w) (2 ^ 32) ≡ false → false ≡ ltb (value_of w) 10
+  digit-more h = sym (le-ltb (value_of w) 10 (omega (arith, ltb-false (value_of w) (2 ^ 32) h)))
+
   -- A number below 2^32 is its lowest word.
   pub lowest : value_of w < 2 ^ 32 → value_of w ≡ w.a
   unfolding value_of
@@ -54,6 +74,11 @@ module _ (w : Wide) where
   tenth_words t x y z last hd hc hb ha h = record { sum = omega (arith, hd, hc, hb, ha); digit = h }
 
 -- A word alone.
+-- A number of one word is that word.
+pub word_alone : (n : ℕ) → value_of (record { a = n; b = 0; c = 0; d = 0 }) ≡ n
+unfolding value_of
+word_alone n = omega arith
+
 pub word_value : (n : ℕ) (q : Quad) → n < 2 ^ 32 → InFour n q → value_of (as_wide q) ≡ n
 word_value n q h e =
     ap (λ (x : Quad). value_of (as_wide x)) e

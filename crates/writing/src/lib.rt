@@ -47,7 +47,10 @@ pub fn bytes(from: &[u8], out: &mut [u8], place: usize) -> usize
     if out.len() < place || out.len() - place < from.len() {
         return out.len() + 1;
     }
-    out[place..place + from.len()].copy_from_slice(from);
+    // No `copy_from_slice`: with it an archive for C needs `memmove` from outside.
+    for i in 0..from.len() {
+        out[place + i] = from[i];
+    }
     place + from.len()
 }
 
@@ -121,8 +124,11 @@ fn figures(q: Quad) -> usize
 pub fn decimal(q: Quad, out: &mut [u8], place: usize) -> usize
     ensures { WroteBytes out.old place (decimalOf (value_of (as_wide q))) out.new result }
 {
+    if out.len() < place {
+        return out.len() + 1;
+    }
     let many = figures(q);
-    if out.len() < place || out.len() - place < many {
+    if out.len() - place < many {
         return out.len() + 1;
     }
     let mut rest = q;

@@ -43,8 +43,16 @@ mag_back (just n) = go (ltb n (2 ^ 128)) refl
     go true e = ap just (value-back n (ltb-true n (2 ^ 128) e))
     go false e = refl
 
--- The number of four words, where only the lowest two are not 0.
+-- The number of four words, where only the lowest is not 0, or the lowest two.
 module _ (q : Quad) where
+  pub value-high : (q.b + q.c + q.d ≡ 0 → ⊥) → 2 ^ 32 ≤ value_of (as_wide q)
+  unfolding value_of
+  value-high h = omega arith
+
+  pub value_higher : (q.c + q.d ≡ 0 → ⊥) → 2 ^ 64 ≤ value_of (as_wide q)
+  unfolding value_of
+  value_higher h = omega arith
+
   pub word_out : (0 < q.c + q.d) → None ≡ as_word (below (2 ^ 64) (just (value_of (as_wide q))))
   unfolding value_of
   word_out h =

@@ -6,7 +6,7 @@ use mathlib.Core.List.{List}
 use native.Mathlib.Nat.{mul-le-mul_left, le_trans, le-add_left, le_refl}
 use native.Mathlib.Omega.{arith}
 use lib.Dec.{ltb, eqb}
-use lib.ListN.{length, get_or, take, drop, length-drop}
+use lib.ListN.{length, get_or, get_or-eq_default, take, drop, length-drop}
 use borrow.Author.Tests.{leb-true, ltb-true, ltb-false, eqb-true, eqb-false}
 use Rattle.std.specs.Prelude.{Option, Some, None}
 use Rattle.reading.specs.Pick.{pick}
@@ -20,6 +20,15 @@ use Rattle.lexing.proofs.Lexing.Parts.{tail}
 use Rattle.lexing.proofs.Lexing.Limbs.{wide_back}
 use Rattle.lexing.proofs.Lexing.Digits.{below-below, digits-none}
 use Rattle.lexing.proofs.Lexing.Mags.{mag_back}
+
+-- No sign stands in front of nothing.
+pub plus_none : (s : List ℕ) → length s ≡ 0 → 0 ≡ plus_bytes s
+unfolding plus_bytes pick
+plus_none s e = rw (get_or-eq_default s 0 {n = 0} (omega arith))
+
+pub sign-none : (s : List ℕ) → length s ≡ 0 → 0 ≡ sign_bytes s
+unfolding sign_bytes plus_bytes pick
+sign-none s e = rw (get_or-eq_default s 0 {n = 0} (omega arith))
 
 -- The number of four words against 2^127 and 2^32 K, by the words above the lowest.
 under : (K a y : ℕ) → a < 2 ^ 32 → y < K → a + 2 ^ 32 * y < 2 ^ 32 * K
@@ -58,6 +67,10 @@ module _ (w : Wide) where
       go true true false s ea eb ec ed h = absurd (true≢false (sym h))
       go true false r s ea eb ec ed h = absurd (true≢false (sym h))
       go false q r s ea eb ec ed h = absurd (true≢false (sym h))
+
+  pub value-above : 2 ^ 95 < w.b + 2 ^ 32 * (w.c + 2 ^ 32 * w.d) → 2 ^ 127 < value_of w
+  unfolding value_of
+  value-above h = beyond (2 ^ 95) w.a (w.b + 2 ^ 32 * (w.c + 2 ^ 32 * w.d)) h
 
   pub value-past : {t : Bool} → t ≡ (eqb w.a 0 && (eqb w.b 0 && (eqb w.c 0 && eqb w.d (2 ^ 31)))) → t ≡ false → 2 ^ 31 ≤ w.d → 2 ^ 127 < value_of w
   unfolding value_of

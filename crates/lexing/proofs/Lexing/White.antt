@@ -23,7 +23,7 @@ between m c n e =
     (ltb-true m c both.0, ltb-true c n both.1)
 
 -- What a number below U+1680 must not be, to be no white space.
-white_low : (c : ℕ) → 13 < c → (c ≡ 32 → ⊥) → (c ≡ 0x85 → ⊥) → (c ≡ 0xa0 → ⊥) → c < 0x1680 → false ≡ is_white c
+pub white_low : (c : ℕ) → 13 < c → (c ≡ 32 → ⊥) → (c ≡ 0x85 → ⊥) → (c ≡ 0xa0 → ⊥) → c < 0x1680 → false ≡ is_white c
 unfolding is_white
 white_low c h p q r k =
     let from : 9 ≤ c = omega arith in
@@ -32,13 +32,13 @@ white_low c h p q r k =
     search picks depth 24
 
 -- No white space lies among ASCII characters from U+0021 on, between U+00A0 and U+1680, and beyond U+3000.
-white-ascii : (c : ℕ) → 32 < c → c < 0x80 → false ≡ is_white c
+pub white-ascii : (c : ℕ) → 32 < c → c < 0x80 → false ≡ is_white c
 white-ascii c h k = white_low c (omega arith) (λ e. omega arith) (λ e. omega arith) (λ e. omega arith) (omega arith)
 
-white-between : (c : ℕ) → 0xa0 < c → c < 0x1680 → false ≡ is_white c
+pub white-between : (c : ℕ) → 0xa0 < c → c < 0x1680 → false ≡ is_white c
 white-between c h k = white_low c (omega arith) (λ e. omega arith) (λ e. omega arith) (λ e. omega arith) k
 
-white-beyond : (c : ℕ) → 0x3000 < c → false ≡ is_white c
+pub white-beyond : (c : ℕ) → 0x3000 < c → false ≡ is_white c
 unfolding is_white
 white-beyond c h =
     let not : (n : ℕ) → n ≤ 0x3000 → c ≡ n → ⊥ = λ n k e. omega arith in
@@ -100,7 +100,7 @@ space-other s t = rw (← t) (go (leb (char_bytes (get_or s 0 0)) (length s)))
     go true = refl
     go false = refl
 
-space-inside : (s : List ℕ) → char_bytes (get_or s 0 0) ≡ 0 → 0 ≡ space_bytes s
+pub space-inside : (s : List ℕ) → char_bytes (get_or s 0 0) ≡ 0 → 0 ≡ space_bytes s
 unfolding space_bytes pick
 space-inside s e = rw e (go (leb 0 (length s)) (is_white (char_at s)))
   where
@@ -111,30 +111,30 @@ space-inside s e = rw e (go (leb 0 (length s)) (is_white (char_at s)))
 
 -- What the first byte decides by itself.
 module _ (s : List ℕ) (at a : ℕ) (ea : a ≡ get_or s at 0) (h : at < length s) where
-  space-ascii : a < 0x80 → true ≡ is_white a → 1 ≡ space_bytes (drop at s)
+  pub space-ascii : a < 0x80 → true ≡ is_white a → 1 ≡ space_bytes (drop at s)
   unfolding char_bytes
   space-ascii k t =
       let n : 1 ≤ length s - at = omega arith in
       space-white s at 1 (rw (← ea) (pick_lt _ k refl)) n (t ∙ rw (← char_one s at a ea k))
 
-  space_graphic : a < 0x80 → false ≡ is_white a → 0 ≡ space_bytes (drop at s)
+  pub space_graphic : a < 0x80 → false ≡ is_white a → 0 ≡ space_bytes (drop at s)
   space_graphic k t = space-other (drop at s) (t ∙ rw (← char_one s at a ea k))
 
   pub space-byte : a < 0x80 → (t : Bool) → t ≡ is_white a → bool_byte t ≡ space_bytes (drop at s)
   space-byte k true e = space-ascii k e
   space-byte k false e = space_graphic k e
 
-  space_middle : 0x80 ≤ a → a < 0xc0 → 0 ≡ space_bytes (drop at s)
+  pub space_middle : 0x80 ≤ a → a < 0xc0 → 0 ≡ space_bytes (drop at s)
   unfolding char_bytes
   space_middle k l = space-inside (drop at s) (simp (get_or-drop, add-zero, ← ea) (sym (pick_ge _ k (pick_lt _ l refl))))
 
-  space-two : 0xc3 ≤ a → a < 0xe0 → 0 ≡ space_bytes (drop at s)
+  pub space-two : 0xc3 ≤ a → a < 0xe0 → 0 ≡ space_bytes (drop at s)
   space-two k l =
       let b : ℕ = get_or s (at + 1) 0 in
       let e : a % 32 * 64 + b % 64 ≡ char_at (drop at s) = char_two s at a ea b refl (omega arith) l in
       space-other (drop at s) (white-between (char_at (drop at s)) (omega (arith, e)) (omega (arith, e)))
 
-  space-three : 0xe4 ≤ a → a < 0xf0 → 0 ≡ space_bytes (drop at s)
+  pub space-three : 0xe4 ≤ a → a < 0xf0 → 0 ≡ space_bytes (drop at s)
   space-three k l =
       let b : ℕ = get_or s (at + 1) 0 in
       let c : ℕ = get_or s (at + 2) 0 in
@@ -195,21 +195,21 @@ space-told s at h e = e ∙ space_first s at h
 
 -- Whether an atom ends at a place where the byte is a.
 module _ (s : List ℕ) (at a : ℕ) (ea : a ≡ get_or s at 0) where
-  ends_open : a ≡ 40 → true ≡ ends_atom (drop at s)
+  pub ends_open : a ≡ 40 → true ≡ ends_atom (drop at s)
   unfolding ends_atom
   ends_open h = simp (get_or-drop, add-zero, ← ea) (pick_eq _ h refl)
 
   module _ (n₁ : a ≡ 40 → ⊥) where
-    ends_close : a ≡ 41 → true ≡ ends_atom (drop at s)
+    pub ends_close : a ≡ 41 → true ≡ ends_atom (drop at s)
     unfolding ends_atom
     ends_close h = simp (get_or-drop, add-zero, ← ea) (pick_ne _ n₁ (pick_eq _ h refl))
 
     module _ (n₂ : a ≡ 41 → ⊥) where
-      ends-quote : a ≡ 34 → true ≡ ends_atom (drop at s)
+      pub ends-quote : a ≡ 34 → true ≡ ends_atom (drop at s)
       unfolding ends_atom
       ends-quote h = simp (get_or-drop, add-zero, ← ea) (pick_ne _ n₁ (pick_ne _ n₂ (pick_eq _ h refl)))
 
-      ends-other : (a ≡ 34 → ⊥) → (n : ℕ) → n ≡ space_bytes (drop at s) → not (eqb n 0) ≡ ends_atom (drop at s)
+      pub ends-other : (a ≡ 34 → ⊥) → (n : ℕ) → n ≡ space_bytes (drop at s) → not (eqb n 0) ≡ ends_atom (drop at s)
       unfolding ends_atom pick
       ends-other n₃ n en = simp (get_or-drop, add-zero, ← ea, ← en) (pick_ne _ n₁ (pick_ne _ n₂ (pick_ne _ n₃ (go (eqb n 0)))))
         where
@@ -219,11 +219,11 @@ module _ (s : List ℕ) (at a : ℕ) (ea : a ≡ get_or s at 0) where
 
 -- The same of a blank, and of an ASCII character behind `)`.
 module _ (s : List ℕ) (at a : ℕ) (ea : a ≡ get_or s at 0) (h : at < length s) where
-  ends-blank : a ≡ 32 → true ≡ ends_atom (drop at s)
+  pub ends-blank : a ≡ 32 → true ≡ ends_atom (drop at s)
   unfolding is_white pick
   ends-blank e = ends-other s at a ea (λ q. omega arith) (λ q. omega arith) (λ q. omega arith) 1 (space-ascii s at a ea h (omega arith) (rw e))
 
-  ends_graphic : 41 < a → a < 0x80 → false ≡ ends_atom (drop at s)
+  pub ends_graphic : 41 < a → a < 0x80 → false ≡ ends_atom (drop at s)
   ends_graphic l k = ends-other s at a ea (λ q. omega arith) (λ q. omega arith) (λ q. omega arith) 0 (space_graphic s at a ea h k (white-ascii a (omega arith) k))
 
 -- Whether an atom ends before the byte b, where white space of n bytes begins.

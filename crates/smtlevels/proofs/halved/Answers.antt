@@ -1,12 +1,18 @@
 use Prim.Native.Nat.{◌+◌}
 use mathlib.Core.Path.{◌≡◌}
 use native.Mathlib.Omega.{arith}
-use native.Mathlib.Nat.{sub-zero}
 use Rattle.smtlevels.specs.Levels.{half}
-use Rattle.smtlevels.proofs.Levels.{moved-known}
+use Rattle.smtlevels.proofs.Levels.{moved_none, moved-one, moved-known}
 use Rattle.smtlevels.proofs.halved.Goals as goal
+
+pub loop-i-init : goal.loop-i-init
+loop-i-init c = moved_none _
+
+pub loop-i-preserved : goal.loop-i-preserved
+loop-i-preserved c = moved-one _ c.loop-i.bases c.loop-i.i (omega (arith, c.requires.0, c.loop-i.invariant.long)) c.loop-i.invariant
 
 pub returns-clause-lists : goal.returns-clause-lists
 returns-clause-lists c cs o =
     let n : c.args.known ≡ half + half = omega (arith, c.requires.1, c.if-known-lt-MAX_LISTS.false) in
-    moved-known _ _ half _ cs (λ j h. simp sub-zero at (c.copy_within.ensures.by_index.0 j 0 (omega arith) (omega (arith, h)))) n (omega arith) o
+    let e : c.loop-i.i ≡ half = omega (arith, c.loop-i-test.false) in
+    moved-known _ _ half _ cs (rw e at c.loop-i.invariant) n (omega arith) o

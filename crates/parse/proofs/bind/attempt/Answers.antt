@@ -2,7 +2,7 @@ use Rattle.std.proofs.lemmas.Result.{err_from_is_err_and}
 use native.Mathlib.Omega.{arith}
 use lib.ListN.{length-take}
 use Rattle.parse.proofs.ReadTree.{there-is, there-none}
-use Rattle.parse.proofs.Ended.{ended, whole_in, bind-final, bind-none}
+use Rattle.parse.proofs.Ended.{finished-named, ended, whole_in, bind-final, bind-none}
 use Rattle.parse.proofs.bind.attempt.Goals as goal
 
 pub slice_bounds-bind_at-end : goal.slice_bounds-bind_at-end
@@ -22,5 +22,5 @@ returns-in_err-words c =
 pub returns : goal.returns
 returns c =
     let x = there-is c.tree_of.ensures c.in_ok-words.was in
-    rw (c.finished.ensures, bind-final c.args.text.now c.args.tree.now c.args.out.now c.args.count x.it x.is)
+    rw (finished-named (λ x e g. g) _ _ _ _ c.finished.ensures, bind-final c.args.text.now c.args.tree.now c.args.out.now c.args.count x.it x.is)
     (ended _ _ _ _ (omega arith) _ (c.bind_at-parsed.ensures (whole_in x)) c.bind_at-parsed.auto.out)

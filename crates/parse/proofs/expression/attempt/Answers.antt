@@ -2,7 +2,7 @@ use Rattle.std.proofs.lemmas.Result.{err_from_is_err_and}
 use native.Mathlib.Omega.{arith}
 use lib.ListN.{length-take}
 use Rattle.parse.proofs.ReadTree.{there-is, there-none}
-use Rattle.parse.proofs.Ended.{ended, here_in, expr-final, expr-none}
+use Rattle.parse.proofs.Ended.{finished-named, ended, here_in, expr-final, expr-none}
 use Rattle.parse.proofs.expression.attempt.Goals as goal
 
 pub slice_bounds-expr-end : goal.slice_bounds-expr-end
@@ -22,5 +22,5 @@ returns-in_err-words c =
 pub returns : goal.returns
 returns c =
     let x = there-is c.tree_of.ensures c.in_ok-words.was in
-    rw (c.finished.ensures, expr-final c.args.text.now c.args.tree.now c.args.out.now c.args.count x.it x.is)
+    rw (finished-named (λ x e g. g) _ _ _ _ c.finished.ensures, expr-final c.args.text.now c.args.tree.now c.args.out.now c.args.count x.it x.is)
     (ended _ _ _ _ (omega arith) _ (c.expr-parsed.ensures.1 (here_in x (omega arith))) c.expr-parsed.auto.out)
