@@ -59,14 +59,14 @@ moved-one l₀ l i h m =
     go j g true e = rw (eqb-true j i e) (get_or-set_same l i _ 0 h ∙ m.still (i + half) (omega arith))
     go j g false e = get_or-set_other l i j _ 0 (eqb-false j i e) ∙ m.front j (omega (arith, g, eqb-false j i e))
 
--- The lists that stand there are known as before.
-pub moved-known : (l₀ l : List ℕ) (k n : ℕ) (cs : List ℕ) → Moved l₀ l half → n ≡ k + half → k ≤ half → Known l₀ n cs → Known l k cs
+-- The lists that stand in the inner half, moved to the front of the array, are known as before.
+pub moved-known : (l₀ l : List ℕ) (k n : ℕ) (cs : List ℕ) → ((j : ℕ) → j < half → get_or l j 0 ≡ get_or l₀ (half + j) 0) → n ≡ k + half → k ≤ half → Known l₀ n cs → Known l k cs
 moved-known l₀ l zero n cs m e h o = tt
 moved-known l₀ l (suc k) zero cs m e h o = absurd (omega (arith, e))
 moved-known l₀ l (suc k) (suc n) [] m e h o = absurd o
 moved-known l₀ l (suc k) (suc n) (c ∷ cs) m e h o =
-    let f : k + half ≡ n = omega (arith, e) in
-    (m.front k (omega (arith, h)) ∙ ap (λ j. get_or l₀ j 0) f ∙ o.0, moved-known l₀ l k n cs m (sym f) (omega (arith, h)) o.1)
+    let f : half + k ≡ n = omega (arith, e) in
+    (m k (omega (arith, h)) ∙ ap (λ j. get_or l₀ j 0) f ∙ o.0, moved-known l₀ l k n cs m (omega (arith, f)) (omega (arith, h)) o.1)
 
 -- One list more.
 pub known_more : (bases : List ℕ) (k c : ℕ) (cs : List ℕ) {base : ℕ} → k < length bases → base ≡ total cs → Known bases k cs → Known (set bases k base) (k + 1) (c ∷ cs)

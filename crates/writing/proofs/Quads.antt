@@ -73,8 +73,7 @@ module _ (w : Wide) where
   unfolding value_of
   tenth_words t x y z last hd hc hb ha h = record { sum = omega (arith, hd, hc, hb, ha); digit = h }
 
--- A word alone.
--- A number of one word is that word.
+-- A word alone, as four words and as a number of the code.
 pub word_alone : (n : ℕ) → value_of (record { a = n; b = 0; c = 0; d = 0 }) ≡ n
 unfolding value_of
 word_alone n = omega arith
